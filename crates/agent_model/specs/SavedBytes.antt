@@ -7,12 +7,12 @@ use Rattle.ivy_base.specs.Naming.{head_key_of, name}
 use Rattle.log_model.specs.View.{View, IsView, is_named, view_block}
 use Rattle.log_model.specs.Vector.{seq_of}
 use Rattle.log_model.specs.Spelling.{IsKey, most_records, vector_entry}
-use Rattle.view_blocks.specs.Faults.{HasKeys}
 use Rattle.snapshot_model.specs.Blocks.{IsVectorSpelled}
 use Rattle.dht_ids.specs.declared.post.Post.{Post}
 use Rattle.dht_ids.specs.declared.post.PostKind.{PostKind}
 use Rattle.dht_ids.specs.declared.post.PostKind.TheVariants as kind
 use Rattle.log_model.specs.Signing.{Signing}
+use Rattle.log_model.specs.ViewKeys.{HasKeys}
 use Rattle.agent_model.specs.Agent.{Kept, is_head, own_key}
 
 abbrev pub kind_number : PostKind → ℕ
@@ -28,10 +28,14 @@ abbrev pub view_bytes : Option View → List ℕ
 view_bytes None = []
 view_bytes (Some view) = view_block view
 
--- "IVK1", the signer by its own saved bytes, the view, how far the own log goes, the floor, the pending posts, and the newest snapshot's name
+-- "IVK1", which saved bytes begin with
+abbrev pub saved_tag : List ℕ
+saved_tag = 73 ∷ 86 ∷ 75 ∷ 49 ∷ []
+
+-- the tag, the signer by its own saved bytes, the view, how far the own log goes, the floor, the pending posts, and the newest snapshot's name
 abbrev pub kept_bytes : {S : Type 0} → Signing S → Kept S → List ℕ
 kept_bytes signs k =
-    73 ∷ 86 ∷ 75 ∷ 49 ∷ opaque (signs.saved k.signer) ++ opaque (view_bytes k.view) ++ word (seq_of k.floor (head_key_of (own_key signs k.signer)))
+    saved_tag ++ opaque (signs.saved k.signer) ++ opaque (view_bytes k.view) ++ word (seq_of k.floor (head_key_of (own_key signs k.signer)))
     ++ array vector_entry k.floor ++ array post_bytes k.pending ++ optional (λ name. name.0) k.snapshot
 
 -- what isn't a head has its bytes' name

@@ -10,11 +10,10 @@ use Rattle.tree_model.specs.Tree.{same_key}
 use Rattle.log_model.specs.View.{View}
 use Rattle.log_model.specs.Vector.{Stamp, Vector, stamp_at, seq_of}
 use Rattle.log_model.specs.Record.{Record}
-use Rattle.log_records.specs.declared.edge.Edge.{Edge}
-use Rattle.log_records.specs.Batches.{as_edge, owner_of}
 use Rattle.turn_model.specs.Basis.{Basis, Holding}
 use Rattle.dht_ids.specs.declared.post.Post.{Post}
 use Rattle.log_model.specs.Signing.{Signing}
+use Rattle.log_model.specs.Fetched.{Edge, as_edge, owner_of}
 use Rattle.agent_model.specs.Agent.{Agent, own, joined}
 
 -- The agent as a session began with it. Fetching stops at what is held; an edge is what is known of a log's newest held record.

@@ -23,8 +23,8 @@ use Rattle.snapshot_model.specs.Blocks.{IsVectorSpelled}
 use Rattle.log_model.specs.Signing.{Signing}
 use Rattle.agent_model.specs.Agent.{Agent, Kept, failed, head_post, joined, kept_of, own, own_reach, with_posts}
 use Rattle.agent_model.specs.SavedBytes.{ArePostsSpelled}
-use Rattle.agent_model.specs.Standing.{Standing, Refresh, dominates, going_on, new_records}
-use Rattle.agent_model.specs.Candidates.{AreCandidatesOf, MayTurn}
+use Rattle.agent_model.specs.Standing.{Refresh, dominates, going_on, new_records}
+use Rattle.agent_model.specs.Candidates.{AreCandidatesOf, Grounds, MayTurn}
 
 -- with these records more it holds
 abbrev pub with_held : Holding → List Record → Holding
@@ -73,13 +73,9 @@ pub record Turning (S : Type 0) : Type 0 where
   pub now : Moment
   pub fails : Bool
 
--- What a refresh found: the heads of each log among the blocks that were met, from which standing and which vector it started, and what
--- the agent knew when it began.
+-- What a refresh found: what candidates are told by, and from which vector it started.
 pub record Findings : Type 0 where
-  pub heads : Key → List Stamp
-  pub met : List (List ℕ)
-  pub standing : Standing
-  pub knew : List Record
+  pub grounds : Grounds
   pub started : Vector
 
 module _ {S : Type 0} (signs : Signing S) where
@@ -138,7 +134,7 @@ module _ {S : Type 0} (signs : Signing S) where
   pub record IsTurnBy (found : Findings) (turning : Turning S) (known : List Record) (asked : Asked) (taken : List Record) (turned : Turned)
       : Type 0 where
     pub candidates : List Candidate
-    pub of_heads : AreCandidatesOf found.heads found.met turning.view found.standing found.knew found.started candidates
+    pub of_heads : AreCandidatesOf found.grounds turning.view found.started candidates
     pub largest : IsClosedPart turning.view (IsAtHand known candidates) taken
     pub by_set : turned ≡ turn_on (inputs turning.agent turning.view turning.fails) taken asked turning.now
 
@@ -155,10 +151,9 @@ module _ {S : Type 0} (signs : Signing S) where
   -- Whatever the agent may know, the turn is that of the definition.
   abbrev pub IsByDefinition : Refresh → Turning S → Asked → Holding → List Record → Reply → Type 0
   IsByDefinition brought turning asked h written reply =
-      (heads : Key → List Stamp) (met : List (List ℕ)) (s : Standing) (knew known : List Record)
-      → NamesTellApart met → Knows turning.view turning.agent.floor turning.agent.holding known
-      → MayTurn heads met turning.view (own signs turning.agent) s knew known brought
-      → IsTurnOf (record { heads = heads; met = met; standing = s; knew = knew; started = brought.started }) turning known asked h written reply
+      (grounds : Grounds) (known : List Record) → NamesTellApart grounds.met → Knows turning.view turning.agent.floor turning.agent.holding known
+      → MayTurn grounds turning.view (own signs turning.agent) known brought
+      → IsTurnOf (record { grounds = grounds; started = brought.started }) turning known asked h written reply
 
   -- what the agent holds when it has taken the refresh's basis, if there is one
   abbrev pub begun_on : Refresh → Turning S → Holding

@@ -1,8 +1,8 @@
 //! What an agent is: what is saved of it, the views that it may enter, its standing, and its turns.
 //!
 //! Layer: definitions and no code, over those of turns (`turn_model`) and of chains that were fetched
-//! (`log_records`); below sessions. An agent signs with anything that has the functions of `Signing`; the
-//! world's agents sign with `hss_keys`. An agent is what its code keeps, and no more. It keeps no records
+//! (`log_model`); below sessions. An agent signs with anything that has the functions of `Signing`; the
+//! world's agents sign with keys of `hash_signature_model`. An agent is what its code keeps, and no more. It keeps no records
 //! that it knows below its basis, so what a turn is by the definition is said for every set that the agent
 //! may know.
 //!

@@ -8,12 +8,12 @@ use Rattle.wire_model.proofs.OneReading.{whole}
 use Rattle.log_model.specs.Vector.{Vector, seq_of}
 use Rattle.log_model.specs.View.{View, IsView, is_named}
 use Rattle.block_parts.specs.Parts.{IsOptional}
-use Rattle.view_blocks.specs.Faults.{HasKeys}
 use Rattle.version_vectors.specs.Vectors.{VectorFits}
 use Rattle.snapshot_model.specs.Blocks.{IsVectorSpelled}
 use Rattle.dht_ids.specs.declared.signature.LoadFault.{LoadFault}
 use Rattle.dht_ids.specs.declared.signature.LoadFault.TheVariants as load
 use Rattle.log_model.specs.Signing.{Signing}
+use Rattle.log_model.specs.ViewKeys.{HasKeys}
 use Rattle.agent_model.specs.Agent.{Kept, own_key}
 use Rattle.agent_model.specs.SavedBytes.{IsKept, kept_bytes}
 use Rattle.block_parts.specs.declared.fault.BlockFault.{BlockFault}

@@ -4,8 +4,8 @@ use Rattle.std.specs.Prelude.{IfOk, MatchOption}
 use Rattle.std.specs.List.{flat_map}
 use Rattle.wire_model.specs.Xdr.{word, double_word, array}
 use Rattle.hash_signature_model.specs.declared.set.Set.{Set}
-use Rattle.hss_keys.specs.Saved.{IsSigner, hss, saved_bytes, set_bytes}
-use Rattle.hss_keys.specs.Signer.{Signer}
+use Rattle.hash_signature_model.specs.Saved.{IsSigner, hss, saved_bytes, set_bytes}
+use Rattle.hash_signature_model.specs.Signer.{Signer}
 use Rattle.agent_model.specs.Agent.{Kept}
 use Rattle.agent_model.specs.SavedBytes.{IsKept}
 use Rattle.agent_saves.specs.Saves.{AreSavedOf, AreSavedOfNone, IsCounted}

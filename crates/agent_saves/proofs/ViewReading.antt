@@ -6,8 +6,9 @@ use Rattle.wire_model.specs.Xdr.{word, opaque, array, IsUpTo}
 use Rattle.wire_model.specs.OneReading.{ReadsOne, IsFront, HasNoFront}
 use Rattle.wire_model.proofs.OneReading.{whole}
 use Rattle.log_model.specs.View.{View, IsView, view_block}
+use Rattle.log_model.specs.ViewKeys.{HasKeys, IsPubKey}
 use Rattle.block_parts.specs.Parts.{IsOptional}
-use Rattle.view_blocks.specs.Faults.{HasKeys, IsPubKey, BlockFailsAs}
+use Rattle.view_blocks.specs.Faults.{BlockFailsAs}
 use Rattle.view_blocks.specs.declared.fault.ViewFault.{ViewFault}
 use Rattle.view_blocks.specs.declared.fault.ViewFault.TheVariants as fault
 use Rattle.view_blocks.proofs.OneView.{one_legal_view}

@@ -8,12 +8,12 @@ use Rattle.wire_model.specs.Xdr.{word, opaque, array, optional, IsAny, IsWord, I
 use Rattle.log_model.specs.Spelling.{IsKey, most_records, vector_entry}
 use Rattle.log_model.specs.Vector.{Vector, seq_of}
 use Rattle.log_model.specs.View.{View, IsView, is_named}
+use Rattle.log_model.specs.ViewKeys.{HasKeys}
 use Rattle.block_parts.specs.Parts.{constant_bytes, key_bytes, IsOptional}
-use Rattle.view_blocks.specs.Faults.{HasKeys}
 use Rattle.version_vectors.specs.Vectors.{VectorFits}
 use Rattle.dht_ids.specs.declared.post.Post.{Post}
 use Rattle.dht_ids.specs.declared.post.PostKind.{PostKind}
-use Rattle.agent_model.specs.SavedBytes.{AreOpaque, HasItsName, kind_number, post_bytes, view_bytes}
+use Rattle.agent_model.specs.SavedBytes.{AreOpaque, HasItsName, kind_number, post_bytes, view_bytes, saved_tag}
 use Rattle.agent_saves.specs.declared.parts.Parts as read
 
 -- what a word can count
@@ -42,17 +42,13 @@ view_part view = opaque (view_bytes view)
 
 -- ---- the whole
 
--- "IVK1"
-abbrev pub mark : List ℕ
-mark = 73 ∷ 86 ∷ 75 ∷ 49 ∷ []
-
--- the mark, the signer's bytes, the view, how far the own log goes, the floor, the posts, and the newest snapshot's name
+-- the tag, the signer's bytes, the view, how far the own log goes, the floor, the posts, and the newest snapshot's name
 abbrev pub Told : Type 0
 Told = (((((Unit {0} × List ℕ) × Option View) × ℕ) × Vector) × List Post) × Option Key
 
 abbrev pub told_bytes : Told → List ℕ
 told_bytes p =
-    constant_bytes mark p.0.0.0.0.0.0 ++ opaque p.0.0.0.0.0.1 ++ view_part p.0.0.0.0.1 ++ word p.0.0.0.1 ++ array vector_entry p.0.0.1 ++ array post_bytes p.0.1 ++ optional key_bytes p.1
+    constant_bytes saved_tag p.0.0.0.0.0.0 ++ opaque p.0.0.0.0.0.1 ++ view_part p.0.0.0.0.1 ++ word p.0.0.0.1 ++ array vector_entry p.0.0.1 ++ array post_bytes p.0.1 ++ optional key_bytes p.1
 
 abbrev pub IsTold : Told → Type 0
 IsTold p =

@@ -25,4 +25,5 @@ mod saved;
 mod testing;
 mod view;
 
+pub use parts::SAVED_TAG;
 pub use saved::{Saved, read_saved};

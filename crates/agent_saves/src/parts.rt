@@ -19,7 +19,7 @@ use view_blocks::View;
 use xdr_codec::XdrRead;
 
 /// What saved bytes begin with.
-const MAGIC: [u8; 4] = *b"IVK1";
+pub const SAVED_TAG: [u8; 4] = *b"IVK1";
 
 /// The parts of saved bytes.
 #[derive(Drop)]
@@ -55,7 +55,7 @@ fn read_parts<'a>(alloc: Global, reader: &mut XdrRead<'a>) -> Result<Parts<'a>, 
     ensures ok { IfOk result (λ parts. IsFront IsTold told_bytes reader.old (told parts) reader.new) }
     ensures err { IfErr result (RefusesFront IsTold told_bytes reader.old) }
 {
-    read_constant(reader, &MAGIC)?;
+    read_constant(reader, &SAVED_TAG)?;
     let signer = reader.opaque(u32::MAX)?;
     let view = read_view(alloc, reader)?;
     let reach = reader.u32()?;

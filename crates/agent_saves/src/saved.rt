@@ -2,7 +2,7 @@
 
 ghost use Rattle.std.specs.Prelude.{◌≡◌, IfOk, IfErr, MatchOption};
 ghost use Rattle.agent_model.specs.SavedBytes.{kept_bytes, IsKept};
-ghost use Rattle.hss_keys.specs.Saved.{IsSigner, hss};
+ghost use Rattle.hash_signature_model.specs.Saved.{IsSigner, hss};
 ghost use Rattle.agent_saves.specs.Saves.{AreSavedOf, AreSavedOfNone, IsCounted, said};
 ghost use Rattle.agent_saves.specs.Refusals.{Refuses};
 

@@ -10,11 +10,9 @@ ghost use Rattle.agent_saves.specs.Parts.{AreOf};
 
 use crate::parts::Parts;
 use ivy_base::{Key, PubKey, head_key};
+use log_records::MOST_RECORDS;
 use version_vectors::{Entry, Vector};
 use view_blocks::View;
-
-/// The greatest number of a record.
-const MOST_RECORDS: u32 = 1_048_576;
 
 /// Whether the parts may be those of the agent of that public key: its log is counted as far as the floor says, and where
 /// it is in a view, it is a member, and the view names each log of the floor.

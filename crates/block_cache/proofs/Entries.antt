@@ -14,7 +14,8 @@ use Rattle.ivy_base.specs.declared.key.Key.{Key}
 use Rattle.lru.specs.LruCache.{LruCache, lru_cache, promoted, put_entries}
 use Rattle.lru.proofs.CallerLemmas.{Contains-lookup_entry}
 use Rattle.lru.proofs.Pairs.{lookup-lookup_entry}
-use Rattle.block_cache.specs.Blocks.{IsCache, same_key, block_of, others, moved_to_front, kept, pair_of}
+use Rattle.dhash_model.specs.Cache.{same_key, block_of, others, moved_to_front, kept}
+use Rattle.block_cache.specs.Blocks.{IsCache, pair_of}
 use Rattle.block_cache.proofs.Pairs.{same_key_laws, one_key, fewer, kept_valid, moved_valid}
 
 module _ (key : Key) where

@@ -1,7 +1,7 @@
 -- The definitions, tried on a cache of three short blocks. Keys are short here, and aren't names.
 use Rattle.std.proofs.Common.{◌≡◌, ℕ, List, [], ◌∷◌, Some, None, refl}
 use Rattle.ivy_base.specs.declared.key.Key.{Key}
-use Rattle.block_cache.specs.Blocks.{block_of, moved_to_front, kept}
+use Rattle.dhash_model.specs.Cache.{block_of, moved_to_front, kept}
 
 abbrev short : ℕ → Key
 short byte = record { 0 = byte ∷ [] }

@@ -15,7 +15,8 @@ use Rattle.std.proofs.lemmas.Slice.Eq.{bytes_eq-Decides}
 use Rattle.ivy_base.specs.Naming.{name}
 use Rattle.ivy_base.specs.declared.key.Key.{Key}
 use Rattle.lru.proofs.CallerLemmas.{Contains-lookup}
-use Rattle.block_cache.specs.Blocks.{IsCache, same_key, block_of, others, moved_to_front, kept}
+use Rattle.dhash_model.specs.Cache.{same_key, block_of, others, moved_to_front, kept}
+use Rattle.block_cache.specs.Blocks.{IsCache}
 
 pub same_key_laws : IsEquivalence same_key
 same_key_laws = record {

@@ -1,31 +1,10 @@
--- A cache of blocks: pairs of a key and a block's bytes, the most recently used first.
-use Rattle.std.specs.Prelude.{◌≡◌, ℕ, ◌≤◌, Bool, not, List, ◌∷◌, filter, length, take, Option}
+-- What holds of every cache of blocks.
+use Rattle.std.specs.Prelude.{◌≡◌, ℕ, ◌≤◌, List, length}
 use Rattle.std.specs.List.{All, IsDistinct}
-use Rattle.std.specs.Map.{keys_of, lookup}
-use Rattle.std.specs.Option.{option_map_or}
-use Rattle.std.specs.Str.{bytes_eq}
+use Rattle.std.specs.Map.{keys_of}
 use Rattle.ivy_base.specs.Naming.{name}
 use Rattle.ivy_base.specs.declared.key.Key.{Key}
-
--- whether two keys are equal
-abbrev pub same_key : Key → Key → Bool
-same_key a b = bytes_eq a.0 b.0
-
--- the bytes that are held under the key
-abbrev pub block_of : Key → List (Key × List ℕ) → Option (List ℕ)
-block_of key = lookup (same_key key)
-
--- the pairs of other keys
-abbrev pub others : Key → List (Key × List ℕ) → List (Key × List ℕ)
-others key = filter (λ pair. not (same_key key pair.0))
-
--- after a look-up: the pair that it found is the first
-abbrev pub moved_to_front : Key → List (Key × List ℕ) → List (Key × List ℕ)
-moved_to_front key pairs = option_map_or (λ block. (key, block) ∷ others key pairs) (block_of key pairs) pairs
-
--- after a block was kept: its pair is the first, an older one of its key is gone, and of 257 the last is dropped
-abbrev pub kept : Key → List ℕ → List (Key × List ℕ) → List (Key × List ℕ)
-kept key block pairs = take 256 ((key, block) ∷ others key pairs)
+use Rattle.dhash_model.specs.Cache.{same_key}
 
 -- what holds of every cache
 pub record IsCache (pairs : List (Key × List ℕ)) : Type 0 where

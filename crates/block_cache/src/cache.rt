@@ -1,7 +1,8 @@
 ghost use Rattle.std.specs.Prelude.{◌≡◌, [], MatchBool, IfOk, IfSome, option_copied};
 ghost use Rattle.std.specs.Borrow.{sem};
 ghost use Rattle.ivy_base.specs.Naming.{name};
-ghost use Rattle.block_cache.specs.Blocks.{IsCache, block_of, moved_to_front, kept};
+ghost use Rattle.dhash_model.specs.Cache.{block_of, moved_to_front, kept};
+ghost use Rattle.block_cache.specs.Blocks.{IsCache};
 ghost use Rattle.block_cache.specs.Ends.{EndsAs};
 
 use ivy_base::{Bytes, Key, Memory};

@@ -6,7 +6,8 @@ use Rattle.wire_model.specs.Xdr.{double_word, opaque, IsDoubleWord, IsUpTo}
 use Rattle.wire_model.specs.OneReading.{IsFront, HasNoFront}
 use Rattle.wire_model.proofs.OneReading.{one_double_word, one_short_opaque}
 use Rattle.wire_model.proofs.Fronts.{only_misfit}
-use Rattle.block_parts.specs.Parts.{longest_file, IsAtMost}
+use Rattle.block_parts.specs.Parts.{IsAtMost}
+use Rattle.tree_model.specs.Tree.{longest_file}
 
 pub no_such_size : {bytes middle : List ℕ} {n : ℕ} → IsFront IsDoubleWord double_word bytes n middle → longest_file < n → HasNoFront (IsAtMost longest_file) double_word bytes
 no_such_size f h = only_misfit one_double_word f (λ n g. omega arith) (λ g. omega (arith, g, h))

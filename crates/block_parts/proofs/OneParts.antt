@@ -8,7 +8,8 @@ use Rattle.wire_model.specs.Xdr.{word, double_word, opaque, moment, IsAny}
 use Rattle.wire_model.specs.OneReading.{ReadsOne}
 use Rattle.wire_model.proofs.OneReading.{of_fewer, of_parts, one_word, one_double_word, one_moment, one_raw, one_short_opaque}
 use Rattle.log_model.specs.Spelling.{IsBlock, IsKey, IsMoment}
-use Rattle.block_parts.specs.Parts.{as_it_stands, key_bytes, kind_word, longest_file, IsAtMost}
+use Rattle.block_parts.specs.Parts.{as_it_stands, key_bytes, kind_word, IsAtMost}
+use Rattle.tree_model.specs.Tree.{longest_file}
 
 pub one_block : (count : ℕ) → ReadsOne (IsBlock count) as_it_stands
 one_block count = of_fewer (λ bytes f. f.size) (one_raw count)

@@ -28,10 +28,6 @@ IsAtMost most n = n ≤ most
 abbrev pub IsOptional : {A : Type 0} → (A → Type 0) → Option A → Type 0
 IsOptional Fits o = IfSome o Fits
 
--- the most bytes of a file
-abbrev pub longest_file : ℕ
-longest_file = 16777216
-
 -- ---- sizes
 
 -- how many bytes a text takes, of which a word has to hold the count

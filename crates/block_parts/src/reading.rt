@@ -6,7 +6,8 @@ ghost use Rattle.ivy_base.specs.Naming.{IsFileName};
 ghost use Rattle.wire_model.specs.Xdr.{word, double_word, opaque, moment, AreSoMany, IsAny};
 ghost use Rattle.wire_model.specs.OneReading.{IsFront, HasNoFront};
 ghost use Rattle.log_model.specs.Spelling.{IsBlock, IsKey, IsMoment};
-ghost use Rattle.block_parts.specs.Parts.{constant_bytes, as_it_stands, key_bytes, kind_word, longest_file, IsAtMost};
+ghost use Rattle.block_parts.specs.Parts.{constant_bytes, as_it_stands, key_bytes, kind_word, IsAtMost};
+ghost use Rattle.tree_model.specs.Tree.{longest_file};
 
 use crate::bounds::{LONGEST_FILE, LONGEST_NAME};
 use crate::fault::Malformed;

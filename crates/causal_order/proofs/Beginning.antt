@@ -10,7 +10,8 @@ use Rattle.log_model.proofs.Lists.{here, there}
 use Rattle.log_records.specs.declared.batch.Chain.{Chain}
 use Rattle.log_records.specs.Records.{records_of}
 use Rattle.log_records.specs.Kept.{chain_of, chains_of}
-use Rattle.log_records.specs.Batches.{Batch, IsBatch, Extends, EndsAt, AreApart, owner_of, owners_in}
+use Rattle.log_model.specs.Fetched.{EndsAt, owner_of}
+use Rattle.log_records.specs.Batches.{Batch, IsBatch, Extends, AreApart, owners_in}
 use Rattle.causal_order.specs.AtHand.{IsFetched}
 use Rattle.causal_order.specs.Kept.{newest_name}
 use Rattle.causal_order.specs.Started.{HaveOwnOwners}

@@ -11,8 +11,8 @@ use Rattle.log_model.specs.Vector.{Vector, Stamp}
 use Rattle.log_model.specs.Record.{Record}
 use Rattle.log_model.specs.Spelling.{HasSpelling, IsEndOp}
 use Rattle.log_model.specs.Chain.{IsFirst}
-use Rattle.log_records.specs.declared.edge.Edge.{Edge}
-use Rattle.log_records.specs.Batches.{Batch, owner_of, stamp_in, EndsAt, Extends, GoesOnFrom}
+use Rattle.log_model.specs.Fetched.{Edge, owner_of, stamp_in, EndsAt, GoesOnFrom}
+use Rattle.log_records.specs.Batches.{Batch, Extends}
 use Rattle.causal_order.specs.AtHand.{held_to, BeginsBy, IsLinked, IsFetched}
 use Rattle.causal_order.specs.Laws.{BatchesAreFetched}
 

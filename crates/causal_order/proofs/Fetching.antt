@@ -3,8 +3,7 @@ use Rattle.std.proofs.Common.{◌≡◌, ℕ, ◌+◌, ◌≤◌, List, [], ◌�
 use Rattle.log_model.specs.View.{View}
 use Rattle.log_model.specs.Vector.{Vector, Stamp, reach}
 use Rattle.log_model.specs.Record.{Record}
-use Rattle.log_records.specs.declared.edge.Edge.{Edge}
-use Rattle.log_records.specs.Batches.{owner_of, stamp_in, EndsAt, IsSound, GoesOnFrom}
+use Rattle.log_model.specs.Fetched.{Edge, owner_of, stamp_in, EndsAt, IsSound, GoesOnFrom}
 use Rattle.causal_order.specs.AtHand.{IsLinked, BeginsBy, IsFetched, held_to}
 
 module _ (view : View) (n : ℕ) (edge : Option Edge) where

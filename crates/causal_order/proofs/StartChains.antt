@@ -19,7 +19,7 @@ use Rattle.log_records.specs.Records.{record_of}
 use Rattle.version_vectors.specs.declared.rank.Rank as kept_rank
 use Rattle.version_vectors.specs.Ranks.{rank_of}
 use Rattle.log_records.specs.Records.{records_of}
-use Rattle.log_records.specs.Batches.{owner_of}
+use Rattle.log_model.specs.Fetched.{owner_of}
 use Rattle.causal_order.specs.Over.{GoesOnFrom, IsChainOver}
 use Rattle.causal_order.specs.AtHand.{IsLinked, BeginsBy, IsFetched, Extends, above, news, held_to}
 use Rattle.causal_order.specs.declared.log.Log.{Log}

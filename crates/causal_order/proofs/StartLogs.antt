@@ -18,7 +18,7 @@ use Rattle.log_model.proofs.Owners.{owners_total}
 use Rattle.log_records.specs.declared.record.Record as kept
 use Rattle.log_records.specs.Records.{record_of}
 use Rattle.log_records.specs.Records.{records_of}
-use Rattle.log_records.specs.Batches.{owner_of}
+use Rattle.log_model.specs.Fetched.{owner_of}
 use Rattle.causal_order.specs.Over.{GoesOnFrom, IsChainOver, IsClosed}
 use Rattle.causal_order.specs.AtHand.{IsLinked, IsFetched, Extends, IsAtHand, news, held_to}
 use Rattle.causal_order.specs.Passing.{Queue, AreApart, IsLeft, IsPassed, IsTaken}

@@ -9,7 +9,7 @@ use Rattle.log_model.specs.Record.{Record}
 use Rattle.log_model.specs.Chain.{IsGood, IsFirst, GoesOn}
 use Rattle.log_model.specs.Closed.{log_of, IsAscending}
 use Rattle.log_model.specs.Replay.{in_order}
-use Rattle.log_records.specs.Batches.{owner_of}
+use Rattle.log_model.specs.Fetched.{owner_of}
 use Rattle.causal_order.specs.Over.{IsChainOver, IsClosedPart}
 
 -- the number of the newest record that is held of the owner's log; 0 where there is none

@@ -11,8 +11,8 @@ use Rattle.log_model.specs.Rank.{record_cmp, front}
 use Rattle.log_model.specs.Closed as log
 use Rattle.log_model.specs.Closed.{IsCause}
 use Rattle.log_model.specs.Replay.{in_order}
-use Rattle.log_records.specs.declared.edge.Edge.{Edge}
-use Rattle.log_records.specs.Batches.{Batch, owner_of, IsBatch, AreUnder}
+use Rattle.log_model.specs.Fetched.{Edge, owner_of}
+use Rattle.log_records.specs.Batches.{Batch, IsBatch, AreUnder}
 use Rattle.causal_order.specs.Over.{IsClosed, IsClosedPart}
 use Rattle.causal_order.specs.AtHand.{held_to, BeginsBy, IsFetched}
 

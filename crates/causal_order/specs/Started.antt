@@ -7,8 +7,8 @@ use Rattle.log_model.specs.Vector.{Stamp, Vector, Dominates}
 use Rattle.log_model.specs.Record.{Record}
 use Rattle.log_model.specs.Rank.{full_vector}
 use Rattle.log_model.specs.Closed.{log_of}
+use Rattle.log_model.specs.Fetched.{owner_of}
 use Rattle.log_records.specs.Records.{records_of}
-use Rattle.log_records.specs.Batches.{owner_of}
 use Rattle.causal_order.specs.Over.{IsChainOver}
 use Rattle.causal_order.specs.AtHand.{news, Extends}
 use Rattle.causal_order.specs.declared.log.Log.{Log}

@@ -15,7 +15,8 @@ use Rattle.ring_model.specs.Route.{nearer_part, owners_part, HasOneAtEach, IsRou
 use Rattle.ring_model.specs.Lookup.{IsFate}
 use Rattle.ring_model.proofs.Lists.{some_same}
 use Rattle.ring_model.proofs.Routes.{route_is}
-use Rattle.chord_core.specs.State.{State, ring_answer}
+use Rattle.dhash_model.specs.State.{State}
+use Rattle.chord_core.specs.State.{ring_answer}
 use Rattle.chord_core.specs.Laws.{links_of, AreNodes, IsAnswered}
 
 -- the route of a node that is the peer, and by which r nodes own a key

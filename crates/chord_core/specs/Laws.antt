@@ -13,7 +13,8 @@ use Rattle.ring_model.specs.Members.{IsAmong, owners}
 use Rattle.ring_model.specs.Ring.{Links, IsCoveredRing, IsSettledRing}
 use Rattle.ring_model.specs.Route.{HasOneAtEach}
 use Rattle.ring_model.specs.Lookup.{IsLookup, IsFate, AreNames, answers_in}
-use Rattle.chord_core.specs.State.{State, ring_answer}
+use Rattle.dhash_model.specs.State.{State}
+use Rattle.chord_core.specs.State.{ring_answer}
 
 -- what each node knows of others
 abbrev pub links_of : (Peer → State) → Peer → Links Peer

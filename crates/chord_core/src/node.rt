@@ -6,8 +6,9 @@ ghost use Rattle.dht_ids.specs.declared.peer.Peer.{Peer};
 ghost use Rattle.ring_model.specs.Circle.{identifier_bits};
 ghost use Rattle.ring_model.specs.Members.{IsAscending};
 ghost use Rattle.ring_model.specs.Pass.{notified};
-ghost use Rattle.chord_core.specs.Settled.{IsSettledNode};
-ghost use Rattle.chord_core.specs.State.{alone_node, with_links, with_list, ring_answer, IsOfRing, adopted, IsOfNear, stabilised};
+ghost use Rattle.dhash_model.specs.Settled.{IsSettledNode};
+ghost use Rattle.dhash_model.specs.State.{alone_node, with_links, with_list, adopted, stabilised};
+ghost use Rattle.chord_core.specs.State.{ring_answer, IsOfRing, IsOfNear};
 
 use crate::near::{notice, others, renew};
 use crate::route::{nearer, owners};
@@ -33,7 +34,7 @@ pub struct Node {
 impl Model for Node {
     ghost use Rattle.std.specs.Prelude.{◌≡◌, ◌≢◌, ◌≤◌, ◌*◌, [], length, vec_capacity, None, IfSome};
     ghost use Rattle.ring_model.specs.Circle.{identifier_bits};
-    ghost use Rattle.chord_core.specs.State.{State};
+    ghost use Rattle.dhash_model.specs.State.{State};
 
     ghost Value = { State };
 

@@ -6,7 +6,7 @@ ghost use Rattle.std.specs.List.Sorted.{IsPermutation, IsNonDecreasingBy};
 ghost use Rattle.dht_ids.specs.Peers.{place};
 ghost use Rattle.ring_model.specs.Circle.{number, identifier_bits};
 ghost use Rattle.ring_model.specs.Members.{first, from_place};
-ghost use Rattle.chord_core.specs.Settled.{AreFingers};
+ghost use Rattle.dhash_model.specs.Settled.{AreFingers};
 
 use dht_ids::{Peer, finger_start, order};
 use ivy_base::{Key, Memory};

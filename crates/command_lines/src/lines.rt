@@ -9,11 +9,9 @@ use crate::nodes::{NodeAsked, ask_node, damage, join, lose, round};
 use crate::setup::{enter, log, moment, ring, view};
 use crate::words::{is, parts};
 use ivy_base::Memory;
+use script_driver::LINE_LIMIT;
 use script_model::Command;
 use std::alloc::Global;
-
-/// The most bytes of a line, without its newline.
-const LINE_LIMIT: usize = 32_768;
 
 /// A command of a call or a session, or one that makes nodes, logs and views, or sets the moment. The error is want of
 /// memory.

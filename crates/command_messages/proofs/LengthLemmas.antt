@@ -5,11 +5,12 @@ use Rattle.std.proofs.lemmas.Bool.{leb-true, leb-false}
 use Rattle.std.proofs.lemmas.List.{at_drop_more}
 use Rattle.log_model.specs.View.{View}
 use Rattle.script_model.specs.declared.command.Piece.{Piece}
-use Rattle.script_model.specs.Messages.{Given, piece_bytes, bytes_of_pieces, longest_message}
+use Rattle.script_model.specs.Messages.{Given, piece_bytes, bytes_of_pieces}
 use Rattle.script_model.specs.Words.{◌>>=◌}
 use Rattle.script_model.specs.declared.command.Piece.TheVariants as piece
 use Rattle.command_messages.specs.Lengths.{within, length_of, length_behind, length_of_piece}
 use Rattle.command_messages.proofs.Groups.{head_has, root_has}
+use Rattle.rpc_wire.specs.Frames.{longest_message}
 
 -- ---- lengths within the bound
 

@@ -3,8 +3,9 @@ use Rattle.std.specs.Prelude.{ℕ, ◌+◌, ◌-◌, ◌%◌, nat_le, List, ◌+
 use Rattle.log_model.specs.View.{View}
 use Rattle.wire_model.specs.Xdr.{word}
 use Rattle.script_model.specs.declared.command.Piece.{Piece}
-use Rattle.script_model.specs.Messages.{Given, given_by, piece_bytes, bytes_of_pieces, longest_message}
+use Rattle.script_model.specs.Messages.{Given, given_by, piece_bytes, bytes_of_pieces}
 use Rattle.script_model.specs.Words.{◌>>=◌}
+use Rattle.rpc_wire.specs.Frames.{longest_message}
 
 -- the handle that the reply of that number, from 1, gave, and its verifier
 abbrev pub handle_numbered : List Given → ℕ → Option (List ℕ)

@@ -2,14 +2,14 @@
 
 ghost use Rattle.std.specs.Prelude.{◌≡◌, ◌+◌, ◌*◌, ◌≤◌, IfSome};
 ghost use Rattle.log_model.specs.View.{View};
-ghost use Rattle.script_model.specs.Messages.{longest_message};
 ghost use Rattle.command_messages.specs.Lengths.{padded, within, length_of_piece, length_of_pieces};
+ghost use Rattle.rpc_wire.specs.Frames.{longest_message};
 
 use crate::replies::{ReplyParts, handle_numbered, verifier_numbered};
 use script_model::Piece;
 
 /// The most bytes of a message.
-const LONGEST_MESSAGE: u64 = 65_536;
+const LONGEST_MESSAGE: u64 = rpc_wire::LONGEST_MESSAGE as u64;
 
 /// The bytes of a call's head without further groups, and those of a group.
 const HEAD: u64 = 60;

@@ -13,7 +13,7 @@ use Rattle.tree_model.proofs.Keys.{same_key_itself}
 use Rattle.ring_model.specs.Circle.{number}
 use Rattle.ring_model.specs.Members.{IsAmong, owners}
 use Rattle.ring_model.proofs.Lists.{all-both}
-use Rattle.log_heads.specs.Signed.{hss_judged}
+use Rattle.dhash_model.specs.Signed.{hss_judged}
 use Rattle.log_model.specs.Record.{Record}
 use Rattle.log_model.specs.Spelling.{HasSpelling, record_block}
 use Rattle.log_model.specs.Vector.{Stamp, Vector}
@@ -28,15 +28,15 @@ use Rattle.dht_ids.specs.declared.ask.Heard.{Heard}
 use Rattle.dht_ids.specs.declared.judge.Judged.{Judged}
 use Rattle.dht_ids.specs.declared.peer.Peer.{Peer}
 use Rattle.dht_ids.specs.declared.post.Post.{Post}
-use Rattle.dhash_client.specs.GetBlock.{IsGetOfBlock}
-use Rattle.dhash_client.specs.GetHead.{IsGetOfHead}
-use Rattle.dhash_client.specs.declared.miss.Miss.{Miss}
-use Rattle.node_store.specs.Stores.{Block}
-use Rattle.node_store.specs.declared.kind.Kind.{Kind}
-use Rattle.node_store.specs.declared.kind.Kind.TheVariants.{Content, Head}
+use Rattle.dhash_model.specs.GetBlock.{IsGetOfBlock}
+use Rattle.dhash_model.specs.GetHead.{IsGetOfHead}
+use Rattle.dhash_model.specs.declared.miss.Miss.{Miss}
+use Rattle.dhash_model.specs.Stores.{Block}
+use Rattle.dhash_model.specs.declared.kind.Kind.{Kind}
+use Rattle.dhash_model.specs.declared.kind.Kind.TheVariants.{Content, Head}
 use Rattle.agent_model.specs.Agent.{is_head, record_post}
-use Rattle.log_records.specs.declared.chain_fault.ChainFault.{ChainFault}
-use Rattle.log_records.specs.declared.edge.Edge.{Edge}
+use Rattle.log_model.specs.declared.chain_fault.ChainFault.{ChainFault}
+use Rattle.log_model.specs.Fetched.{Edge}
 use Rattle.agent_model.specs.Standing.{Chain, Refresh, Standing}
 use Rattle.session_model.specs.Brought.{BlockOf, Brought, HeadsOf, Want, brought_in, stamp_of}
 use Rattle.session_model.specs.Brought.Want.{Content as wants_content, Heads as wants_heads}
@@ -57,8 +57,8 @@ use Rattle.world_model.specs.World.{Participant, World, node_at, peer_of}
 use Rattle.world_model.specs.Fates.{FateOf, asking}
 use Rattle.world_model.specs.Fates.Fates.{more as fates_more, none as fates_none}
 use Rattle.world_model.specs.Logs.{Played}
-use Rattle.round_laws.specs.Holding.{held_in}
-use Rattle.round_laws.specs.RingOf.{own_node}
+use Rattle.world_model.specs.Holding.{held_in}
+use Rattle.world_model.specs.RingOf.{own_node}
 use Rattle.round_laws.proofs.Nodes.{order_by}
 use Rattle.round_laws.proofs.Storing.{under}
 use Rattle.world_laws.proofs.CalmNodes.{HeldStays, IsHeld}

@@ -7,7 +7,7 @@ use Rattle.std.specs.FinMap.Entries.{find as value_at}
 use Rattle.std.proofs.lemmas.List.{append-nil}
 use Rattle.ivy_base.specs.declared.key.Key.{Key}
 use Rattle.ivy_base.specs.Naming.{head_key_of, key_cmp}
-use Rattle.log_heads.specs.Signed.{hss_judged}
+use Rattle.dhash_model.specs.Signed.{hss_judged}
 use Rattle.log_model.specs.Vector.{Entry}
 use Rattle.log_model.proofs.Lists.{each_append, each_right}
 use Rattle.ring_model.specs.Gets.{Damaged, Got, IsHeadGet, Missing, Right, given}
@@ -20,12 +20,12 @@ use Rattle.dht_ids.specs.declared.ask.Heard.{Heard}
 use Rattle.dht_ids.specs.declared.ask.StoreFault.{StoreFault}
 use Rattle.dht_ids.specs.declared.judge.Judged.{Judged}
 use Rattle.dht_ids.specs.declared.peer.Peer.{Peer}
-use Rattle.dhash_client.specs.Course.{Told, result_of, told_all}
-use Rattle.dhash_client.specs.Course.IsCourse.{no_route, of_owners}
-use Rattle.dhash_client.specs.GetBlock.{block_in, is_of_get}
-use Rattle.dhash_client.specs.GetHead.{IsGetOfHead}
-use Rattle.dhash_client.specs.declared.miss.Miss.{Miss}
-use Rattle.node_store.specs.Stores.{Block, Blocks, bytes_at, content, content_fault, head, head_fault}
+use Rattle.dhash_model.specs.Course.{Told, result_of, told_all}
+use Rattle.dhash_model.specs.Course.IsCourse.{no_route, of_owners}
+use Rattle.dhash_model.specs.GetBlock.{block_in, is_of_get}
+use Rattle.dhash_model.specs.GetHead.{IsGetOfHead}
+use Rattle.dhash_model.specs.declared.miss.Miss.{Miss}
+use Rattle.dhash_model.specs.Stores.{Block, Blocks, bytes_at, content, content_fault, head, head_fault}
 use Rattle.session_model.specs.Brought.{Brought, HeadsOf, Part, Want, all_heads, brought_in, heads_of, stamp_of}
 use Rattle.session_model.specs.Courses.{Fails, LacksMemory}
 use Rattle.session_model.specs.Courses.Fails.{fails, goes_on}

@@ -7,8 +7,8 @@ use Rattle.ivy_base.specs.declared.key.Key.{Key}
 use Rattle.ivy_base.specs.declared.key.PubKey.{PubKey}
 use Rattle.ivy_base.specs.Naming.{NamesTellApart}
 use Rattle.hash_signature_model.specs.declared.set.Set.{Set}
-use Rattle.hss_keys.specs.Signer.{hss_key_of}
-use Rattle.log_heads.specs.Signed.{hss_judged}
+use Rattle.hash_signature_model.specs.Signer.{hss_key_of}
+use Rattle.dhash_model.specs.Signed.{hss_judged}
 use Rattle.log_model.specs.View.{View}
 use Rattle.log_model.proofs.Lists.{each}
 use Rattle.agent_model.specs.Agent.{entered, failed, kept_of, restored}

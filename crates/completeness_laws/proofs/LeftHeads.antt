@@ -4,14 +4,15 @@ use Rattle.std.specs.Prelude.{ℕ}
 use Rattle.ivy_base.specs.declared.key.Key.{Key}
 use Rattle.ivy_base.specs.declared.key.PubKey.{PubKey}
 use Rattle.ivy_base.specs.Naming.{head_key_of}
-use Rattle.log_heads.specs.Signed.{IsSignedHead, hss_judged}
+use Rattle.dhash_model.specs.Signed.{hss_judged}
+use Rattle.log_heads.specs.Signed.{IsSignedHead}
 use Rattle.log_heads.proofs.SignedHeads.{signed_heads}
 use Rattle.log_model.proofs.Lists.{each}
-use Rattle.log_model.specs.Spelling.{head_block}
+use Rattle.log_model.specs.Spelling.{head_block, head_tag}
 use Rattle.log_model.specs.Vector.{Stamp}
 use Rattle.wire_model.specs.Xdr.{opaque, word}
 use Rattle.wire_model.proofs.OneReading.{same_fronts}
-use Rattle.hss_keys.specs.Signer.{Signer, hss_key_of, owner_of}
+use Rattle.hash_signature_model.specs.Signer.{Signer, hss_key_of, owner_of}
 use Rattle.dht_ids.specs.declared.judge.Judged.{Judged}
 use Rattle.world_model.specs.Agents.{own}
 use Rattle.world_model.specs.World.{Participant}
@@ -23,7 +24,7 @@ use Rattle.world_laws.proofs.SignedHeads.{from_map}
 same_key : (s t : Signer) → (s.id ≡ t.id) × (s.seed ≡ t.seed) × (s.sets ≡ t.sets) → owner_of s ≡ owner_of t
 same_key s t e = λ i. hss_key_of (e.0 i) (e.1 i) (e.2 i)
 
-tail_of : (a b : List ℕ) → 73 ∷ 86 ∷ 72 ∷ 49 ∷ a ≡ 73 ∷ 86 ∷ 72 ∷ 49 ∷ b → a ≡ b
+tail_of : (a b : List ℕ) → head_tag ++ a ≡ head_tag ++ b → a ≡ b
 tail_of a b e = cc e
 
 -- a head tells its owner
@@ -31,7 +32,7 @@ owner_told : (o u : PubKey) (s t : Stamp) (a b : List ℕ) → length o.0 ≡ 60
 owner_told o u s t a b size other same = tail_of o.0 u.0 (same_fronts (tagged o) (tagged u) (word s.seq ++ (s.name.0 ++ opaque a)) (word t.seq ++ (t.name.0 ++ opaque b)) lengths (sym (whole o s a) ∙ same ∙ whole u t b)).0
   where
     tagged : PubKey → List ℕ
-    tagged p = 73 ∷ 86 ∷ 72 ∷ 49 ∷ p.0
+    tagged p = head_tag ++ p.0
 
     lengths : length (tagged o) ≡ length (tagged u)
     lengths = ap (λ n. suc (suc (suc (suc n)))) (size ∙ sym other)

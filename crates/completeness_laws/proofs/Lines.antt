@@ -1,7 +1,7 @@
 -- Each line of a calm script leaves it so.
 use Rattle.std.proofs.Common.{◌≡◌, ⊎_elim, ℕ, List, Some, refl, sym, ◌∙◌, subst}
 use Rattle.ivy_base.specs.Naming.{NamesTellApart}
-use Rattle.log_heads.specs.Signed.{hss_judged}
+use Rattle.dhash_model.specs.Signed.{hss_judged}
 use Rattle.script_driver.specs.Run.{Ends, Goes, Outcome}
 use Rattle.script_model.specs.Lines.{command_of}
 use Rattle.script_model.specs.declared.command.Command.{Command}

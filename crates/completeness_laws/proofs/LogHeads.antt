@@ -6,10 +6,10 @@ use Rattle.ivy_base.specs.declared.key.PubKey.{PubKey}
 use Rattle.ivy_base.specs.declared.operation.Moment.{Moment}
 use Rattle.ivy_base.specs.Naming.{head_key_of}
 use Rattle.hash_signature_model.specs.declared.set.Set.{Set}
-use Rattle.hss_keys.specs.Saved.{IsSigner}
-use Rattle.hss_keys.specs.Signer.{Signer, next_signature}
+use Rattle.hash_signature_model.specs.Saved.{IsSigner}
+use Rattle.hash_signature_model.specs.Signer.{Signer, next_signature}
 use Rattle.hss_keys.proofs.Signing.{hss_accepted}
-use Rattle.log_heads.specs.Signed.{hss_judged}
+use Rattle.dhash_model.specs.Signed.{hss_judged}
 use Rattle.log_heads.proofs.SealedHeads.{sealed_heads}
 use Rattle.log_model.specs.Chain.{opening}
 use Rattle.log_model.specs.Rank.{own_entry}

@@ -7,7 +7,7 @@ use Rattle.std.proofs.lemmas.List.Elements.{Contains-append_right}
 use Rattle.std.proofs.lemmas.List.Sums.{fold-append}
 use Rattle.ivy_base.specs.declared.operation.Moment.{Moment}
 use Rattle.ivy_base.specs.Naming.{head_key_of}
-use Rattle.log_heads.specs.Signed.{hss_judged}
+use Rattle.dhash_model.specs.Signed.{hss_judged}
 use Rattle.log_model.specs.Rank.{full_vector, own_entry}
 use Rattle.log_model.specs.Record.{Record}
 use Rattle.log_model.specs.Spelling.{HasSpelling}
@@ -16,7 +16,7 @@ use Rattle.log_model.specs.View.{View, IsView, is_named}
 use Rattle.log_model.proofs.Later.{name_is_key}
 use Rattle.log_model.proofs.Lists.{here, in_filter, in_nothing}
 use Rattle.ring_model.proofs.Lists.{all_weaker}
-use Rattle.view_blocks.specs.Faults.{HasKeys}
+use Rattle.log_model.specs.ViewKeys.{HasKeys}
 use Rattle.dht_ids.specs.declared.judge.Judged.{Judged}
 use Rattle.dht_ids.specs.declared.post.Post.{Post}
 use Rattle.turn_model.specs.Basis.{Holding, nothing_held}
@@ -34,7 +34,7 @@ use Rattle.session_model.specs.Sessions.{Session, in_publishing_order, is_log}
 use Rattle.world_model.specs.Agents.{Agent, IsKept, Kept, TakesTurn, hss, own, own_reach}
 use Rattle.world_model.specs.World.{NamedSession}
 use Rattle.world_laws.proofs.CalmStates.{posts_at}
-use Rattle.world_laws.proofs.TurnsFloors.{IsSpelledIn, joined_no_more, records_no_more, records_spelled}
+use Rattle.agent_laws.proofs.Floors.{IsSpelledIn, joined_no_more, records_no_more, records_spelled}
 use Rattle.completeness_laws.proofs.FitPosts.{last_good, seal_judged}
 
 -- ---- what is put, or to be put

@@ -9,10 +9,10 @@ use Rattle.ivy_base.specs.declared.key.PubKey.{PubKey}
 use Rattle.ivy_base.specs.Naming.{head_key_of}
 use Rattle.ivy_base.proofs.NameLemmas.{bytes-name, length-name}
 use Rattle.hash_signature_model.specs.declared.set.Set.{Set}
-use Rattle.hss_keys.specs.Saved.{IsSigner}
-use Rattle.hss_keys.specs.Signer.{hss_key_of}
+use Rattle.hash_signature_model.specs.Saved.{IsSigner}
+use Rattle.hash_signature_model.specs.Signer.{hss_key_of}
 use Rattle.ring_model.proofs.Lists.{all_weaker}
-use Rattle.log_heads.specs.Signed.{hss_judged}
+use Rattle.dhash_model.specs.Signed.{hss_judged}
 use Rattle.log_model.specs.Chain.{opening}
 use Rattle.log_model.specs.Rank.{own_entry}
 use Rattle.log_model.specs.View.{View}

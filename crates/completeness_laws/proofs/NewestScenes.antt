@@ -7,7 +7,7 @@ use Rattle.std.proofs.lemmas.List.Elements.{Contains-append_left, Contains-appen
 use Rattle.ivy_base.specs.declared.key.Key.{Key}
 use Rattle.ivy_base.specs.declared.operation.Moment.{Moment}
 use Rattle.ring_model.proofs.Lists.{all_weaker}
-use Rattle.log_heads.specs.Signed.{hss_judged}
+use Rattle.dhash_model.specs.Signed.{hss_judged}
 use Rattle.log_model.specs.View.{View}
 use Rattle.log_model.proofs.Lists.{each, each_append, here, in_cons, in_nothing}
 use Rattle.dht_ids.specs.Asked.{told}
@@ -20,7 +20,7 @@ use Rattle.dht_ids.specs.declared.ask.Heard.{Heard}
 use Rattle.dht_ids.specs.declared.peer.Peer.{Peer}
 use Rattle.dht_ids.specs.declared.post.Ack.{Ack}
 use Rattle.dht_ids.specs.declared.post.Post.{Post}
-use Rattle.dhash_client.specs.Puts.{holds, is_of_put}
+use Rattle.dhash_model.specs.Puts.{holds, is_of_put}
 use Rattle.agent_model.specs.Agent.{kept_of}
 use Rattle.agent_model.specs.Turning.{TurnEnd}
 use Rattle.session_model.specs.Courses.{Fails, LacksMemory, Settles}

@@ -17,8 +17,8 @@ use Rattle.log_model.specs.View.{View, IsView, is_named}
 use Rattle.log_model.proofs.Later.{name_is_key}
 use Rattle.log_model.proofs.Lists.{each, each_from, each_left, here}
 use Rattle.log_model.proofs.Part.{chain_good}
-use Rattle.hss_keys.specs.Signer.{hss_key_of}
-use Rattle.view_blocks.specs.Faults.{HasKeys}
+use Rattle.hash_signature_model.specs.Signer.{hss_key_of}
+use Rattle.log_model.specs.ViewKeys.{HasKeys}
 use Rattle.turn_model.specs.Known.{EndsAt, IsBacked, IsUnderHead}
 use Rattle.turn_model.specs.Turn.{IsPrefixOf}
 use Rattle.turn_laws.proofs.LinkedLogs.{chain_linked, divided, each_linked, ends_some, prefix_linked}

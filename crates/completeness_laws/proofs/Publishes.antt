@@ -1,7 +1,7 @@
 -- A participant publishes all that its agent has to: it is so then.
 use Rattle.std.proofs.Common.{◌≡◌, ℕ, Some, refl, sym, subst}
 use Rattle.ivy_base.specs.Naming.{NamesTellApart}
-use Rattle.log_heads.specs.Signed.{hss_judged}
+use Rattle.dhash_model.specs.Signed.{hss_judged}
 use Rattle.world_model.specs.Logs.{Played, Publishes}
 use Rattle.world_model.specs.World.{Participant, participant}
 use Rattle.completeness_laws.proofs.Stages.{begins_staged}

@@ -15,7 +15,7 @@ use Rattle.ring_model.proofs.Members.{all_from_place}
 use Rattle.ring_model.proofs.Lists.{all-among, all-left, all-right, all_from, all_weaker, among_filter, cons_head, cons_tail, nil_cons, some_same}
 use Rattle.round_laws.proofs.Nodes.{at, at_id, at_other, at_same, order_by, replaced, same_id, same_or_not}
 use Rattle.round_laws.proofs.Repairing.{put_keeps}
-use Rattle.log_heads.specs.Signed.{hss_judged}
+use Rattle.dhash_model.specs.Signed.{hss_judged}
 use Rattle.log_model.proofs.Lists.{each, each_append}
 use Rattle.dht_ids.specs.Asked.{IsForData, told}
 use Rattle.dht_ids.specs.Peers.{place}
@@ -29,15 +29,15 @@ use Rattle.dht_ids.specs.declared.ask.Heard.{Heard}
 use Rattle.dht_ids.specs.declared.ask.StoreFault.{StoreFault}
 use Rattle.dht_ids.specs.declared.peer.Peer.{Peer}
 use Rattle.dht_ids.specs.declared.post.Post.{Post}
-use Rattle.dhash_client.specs.Course.{Told, told_all}
-use Rattle.dhash_client.specs.Course.IsCourse.{no_route, of_owners}
-use Rattle.dhash_client.specs.Machine.{outcome}
-use Rattle.dhash_client.specs.Puts.{holds, is_of_put}
-use Rattle.dhash_client.specs.declared.miss.Miss.{Miss}
-use Rattle.dhash_client.specs.declared.miss.Miss.TheVariants as miss
+use Rattle.dhash_model.specs.declared.miss.Miss.TheVariants as miss
+use Rattle.dhash_model.specs.Course.{Told, told_all, outcome}
+use Rattle.dhash_model.specs.Course.IsCourse.{no_route, of_owners}
+use Rattle.dhash_model.specs.Puts.{holds, is_of_put}
+use Rattle.dhash_model.specs.declared.miss.Miss.{Miss}
+use Rattle.dhash_model.specs.Stores.{Block, bytes_held, capacity, content, content_fault, head, head_fault}
+use Rattle.dhash_model.specs.declared.kind.Kind.TheVariants.{Content, Head}
 use Rattle.agent_model.specs.Agent.{is_head}
-use Rattle.node_store.specs.Stores.{Block, IsStore, bytes_held, capacity, content, content_fault, head, head_fault}
-use Rattle.node_store.specs.declared.kind.Kind.TheVariants.{Content, Head}
+use Rattle.node_store.specs.Stores.{IsStore}
 use Rattle.node_store.proofs.Maps.{keys_total}
 use Rattle.session_model.specs.Sessions.{IsPutOfPost, acknowledged, put_question}
 use Rattle.world_model.specs.Fates.{FateOf, Fates, asking}

@@ -8,7 +8,7 @@ use Rattle.round_laws.specs.RingOf.{links_in}
 use Rattle.round_laws.proofs.Nodes.{ties}
 use Rattle.round_laws.proofs.Rounding.{shapes_of}
 use Rattle.ring_model.proofs.Lists.{some_same}
-use Rattle.log_heads.specs.Signed.{hss_judged}
+use Rattle.dhash_model.specs.Signed.{hss_judged}
 use Rattle.log_model.proofs.Lists.{in_nothing}
 use Rattle.dht_ids.specs.declared.ask.Answer.{Answer}
 use Rattle.dht_ids.specs.declared.ask.Ask.{Ask}
@@ -18,9 +18,9 @@ use Rattle.dht_ids.specs.declared.ask.StoreFault.TheVariants.{Older, WrongName}
 use Rattle.dht_ids.specs.declared.judge.Judged.{Judged}
 use Rattle.dht_ids.specs.declared.peer.Peer.{Peer}
 use Rattle.dht_ids.specs.declared.post.Post.{Post}
-use Rattle.dhash_client.specs.Puts.{holds}
+use Rattle.dhash_model.specs.Puts.{holds}
+use Rattle.dhash_model.specs.Stores.{content, content_fault, full, head, not_judged, number_at, older}
 use Rattle.agent_model.specs.Agent.{is_head}
-use Rattle.node_store.specs.Stores.{content, content_fault, full, head, not_judged, number_at, older}
 use Rattle.session_model.specs.Sessions.{put_question}
 use Rattle.world_model.specs.Nodes.{Node, answered, stored}
 use Rattle.world_model.specs.Fates.{FateOf}

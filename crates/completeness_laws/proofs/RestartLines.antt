@@ -7,7 +7,7 @@ use Rattle.std.proofs.lemmas.List.Elements.{Contains-append_left, Contains-appen
 use Rattle.ivy_base.specs.declared.key.Key.{Key}
 use Rattle.ivy_base.specs.declared.key.PubKey.{PubKey}
 use Rattle.ivy_base.specs.Naming.{NamesTellApart, head_key_of}
-use Rattle.hss_keys.specs.Signer.{hss_key_of}
+use Rattle.hash_signature_model.specs.Signer.{hss_key_of}
 use Rattle.log_model.specs.Chain.{IsChain, LinkedFrom}
 use Rattle.log_model.specs.Closed.{log_of}
 use Rattle.log_model.specs.Record.{Record}
@@ -19,7 +19,7 @@ use Rattle.dht_ids.specs.declared.post.Post.{Post}
 use Rattle.turn_model.specs.Known.{EndsAt}
 use Rattle.agent_model.specs.Agent.{restored}
 use Rattle.script_driver.specs.Run.{Outcome}
-use Rattle.view_blocks.specs.Faults.{HasKeys}
+use Rattle.log_model.specs.ViewKeys.{HasKeys}
 use Rattle.world_model.specs.Agents.{IsKept, Kept, kept_bytes, own}
 use Rattle.world_model.specs.Logs.{IsKnownAgain, Played, RestartLine, afresh_told, restarted}
 use Rattle.world_model.specs.Logs.RestartLine.{nobody, outside, starts}

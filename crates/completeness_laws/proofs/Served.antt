@@ -1,6 +1,6 @@
 -- Each whole call in a calm script, where of each log a head was put, misses nothing.
 use Rattle.std.proofs.Common.{◌≡◌, ⊎_elim, ℕ, List, Option, Some, None, refl, sym, ap, ◌∙◌, subst}
-use Rattle.log_heads.specs.Signed.{hss_judged}
+use Rattle.dhash_model.specs.Signed.{hss_judged}
 use Rattle.log_model.specs.View.{View}
 use Rattle.script_driver.specs.Run.{Goes}
 use Rattle.script_model.specs.Lines.{command_of}

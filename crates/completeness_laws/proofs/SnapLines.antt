@@ -5,7 +5,7 @@ use Rattle.ivy_base.specs.Naming.{NamesTellApart}
 use Rattle.ivy_base.specs.declared.key.Key.{Key}
 use Rattle.ivy_base.specs.declared.key.PubKey.{PubKey}
 use Rattle.ivy_base.proofs.NameLemmas.{bytes-name, length-name}
-use Rattle.log_heads.specs.Signed.{hss_judged}
+use Rattle.dhash_model.specs.Signed.{hss_judged}
 use Rattle.log_model.specs.Record.{Record}
 use Rattle.log_model.specs.View.{View}
 use Rattle.log_model.proofs.Lists.{each}

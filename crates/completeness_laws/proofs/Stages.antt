@@ -8,17 +8,17 @@ use Rattle.ivy_base.specs.Naming.{head_key_of}
 use Rattle.std.proofs.lemmas.Bool.{le-ltb, lt-ltb}
 use Rattle.std.proofs.lemmas.List.{append-nil}
 use Rattle.std.proofs.lemmas.List.Elements.{Contains-append_left, Contains-append_right}
-use Rattle.log_heads.specs.Signed.{hss_judged}
+use Rattle.dhash_model.specs.Signed.{hss_judged}
+use Rattle.dhash_model.specs.Course.{Told, result_of, told_all}
+use Rattle.dhash_model.specs.Course.IsCourse.{no_route, of_owners}
+use Rattle.dhash_model.specs.GetBlock.{block_in, is_of_get}
+use Rattle.dhash_model.specs.GetHead.{IsGetOfHead}
+use Rattle.dhash_model.specs.declared.miss.Miss.{Miss}
 use Rattle.log_model.specs.Record.{Record}
 use Rattle.log_model.specs.Vector.{Entry}
 use Rattle.ring_model.specs.Gets.{Damaged, Got, IsHeadGet, Missing, Right, given}
 use Rattle.dht_ids.specs.Asked.{told}
 use Rattle.dht_ids.specs.declared.ask.Heard.{Heard}
-use Rattle.dhash_client.specs.Course.{Told, result_of, told_all}
-use Rattle.dhash_client.specs.Course.IsCourse.{no_route, of_owners}
-use Rattle.dhash_client.specs.GetBlock.{block_in, is_of_get}
-use Rattle.dhash_client.specs.GetHead.{IsGetOfHead}
-use Rattle.dhash_client.specs.declared.miss.Miss.{Miss}
 use Rattle.session_model.specs.Brought.{Brought, HeadsOf, Part, Want, all_heads, brought_in, heads_of, stamp_of}
 use Rattle.session_model.specs.Sessions.{Gets}
 use Rattle.session_model.specs.Sessions.Gets.{content as got_content, heads as got_heads}

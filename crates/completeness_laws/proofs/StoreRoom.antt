@@ -9,7 +9,8 @@ use Rattle.ivy_base.specs.declared.key.Key.{Key}
 use Rattle.ivy_base.specs.Naming.{key_cmp}
 use Rattle.dht_ids.specs.declared.ask.StoreFault.TheVariants.{Full}
 use Rattle.log_model.proofs.Lists.{each}
-use Rattle.node_store.specs.Stores.{Block, Blocks, IsStore, bytes_held, capacity, full}
+use Rattle.dhash_model.specs.Stores.{Block, Blocks, bytes_held, capacity, full}
+use Rattle.node_store.specs.Stores.{IsStore}
 use Rattle.node_store.proofs.Sums.{held_after_put}
 use Rattle.world_model.specs.Nodes.{Node}
 use Rattle.world_model.specs.World.{World, node_at, peer_of}

@@ -10,7 +10,7 @@ use Rattle.ivy_base.specs.declared.operation.Moment.{Moment}
 use Rattle.ivy_base.specs.Naming.{NamesTellApart, head_key_of}
 use Rattle.tree_model.specs.Tree.{same_key}
 use Rattle.tree_model.proofs.Keys.{same_key_is, same_key_itself}
-use Rattle.log_heads.specs.Signed.{hss_judged}
+use Rattle.dhash_model.specs.Signed.{hss_judged}
 use Rattle.log_model.specs.Record.{Record}
 use Rattle.log_model.specs.Vector.{Entry, Stamp}
 use Rattle.log_model.specs.View.{View}
@@ -31,16 +31,16 @@ use Rattle.dht_ids.specs.declared.ask.Heard.{Heard}
 use Rattle.dht_ids.specs.declared.judge.Judged.{Judged}
 use Rattle.dht_ids.specs.declared.peer.Peer.{Peer}
 use Rattle.dht_ids.specs.declared.post.Post.{Post}
-use Rattle.dhash_client.specs.GetHead.{IsGetOfHead}
-use Rattle.dhash_client.specs.declared.miss.Miss.{Miss}
-use Rattle.node_store.specs.declared.kind.Kind.{Kind}
-use Rattle.node_store.specs.declared.kind.Kind.TheVariants.{Content, Head}
+use Rattle.dhash_model.specs.GetHead.{IsGetOfHead}
+use Rattle.dhash_model.specs.declared.miss.Miss.{Miss}
+use Rattle.dhash_model.specs.declared.kind.Kind.{Kind}
+use Rattle.dhash_model.specs.declared.kind.Kind.TheVariants.{Content, Head}
 use Rattle.agent_model.specs.Agent.{is_head}
 use Rattle.agent_model.specs.Standing.{Chain, Refresh, Standing}
 use Rattle.agent_model.specs.Turning.{TurnEnd}
 use Rattle.session_model.specs.Brought.{BlockOf, Brought, HeadsOf, Want, all_heads, brought_in, heads_at, heads_of, stamp_of}
 use Rattle.session_model.specs.Brought.Want.{Content as wants_content}
-use Rattle.session_model.specs.Courses.{Fails, IsRefusal, LacksMemory, Settles}
+use Rattle.session_model.specs.Courses.{grounds_of, Fails, IsRefusal, LacksMemory, Settles}
 use Rattle.session_model.specs.Courses.Fails.{fails, goes_on}
 use Rattle.session_model.specs.Courses.LacksMemory.{lacks}
 use Rattle.session_model.specs.Courses.Settles.{settles as settles_all}
@@ -55,7 +55,6 @@ use Rattle.session_model.specs.Sessions.Hears.{gets_on, got, puts, puts_on}
 use Rattle.session_model.specs.Sessions.Takes.{cached, posted}
 use Rattle.session_model.specs.Sessions.TakesAll.{more as takes_more, none as takes_none}
 use Rattle.session_model.specs.Walks.{Gives, GivesNone, Lacks, LogEnd, Stops}
-use Rattle.round_laws.specs.Holding.{rank}
 use Rattle.world_model.specs.Agents.{Agent, Kept, TakesTurn, own, own_reach}
 use Rattle.world_model.specs.Fates.{FateOf}
 use Rattle.world_model.specs.Logs.{Played}
@@ -65,6 +64,7 @@ use Rattle.world_model.specs.Steps.RunsOut.{is_over as runs_over, more as runs_m
 use Rattle.world_model.specs.Steps.Steps.{acts, lacks_memory}
 use Rattle.world_model.specs.Story.{HadTurn, Knowing, Story, knowing_of, known_of}
 use Rattle.world_model.specs.World.{Participant, World, named_bytes, participant}
+use Rattle.world_model.specs.Holding.{rank}
 use Rattle.world_laws.specs.Headline.{IsOnReplay}
 use Rattle.world_laws.specs.Keeps.{IsSoundSession, Keeps}
 use Rattle.world_laws.proofs.Bringing.{found_named, its_key, its_view}
@@ -432,10 +432,10 @@ module _ (r : ℕ) (w : Played) (world : IsCalmWorld r w) (backed : IsBackedWorl
       of_scene : (c : Scene) (h : InRun c) (by : Participant) → participant c.world c.session.by ≡ Some by → (seen : View) (after : Agent) (turned : Turned)
           → (turn : IsOnReplay (record { session = c.session; began = c.began; by = by; knowing = knowing_of c.story by.name; view = seen; met = named_bytes c.world; now = c.world.now; after = after; turned = turned }))
           → (one : Record) → Contains turn.taken one ↔ IsWritten w seen one
-      of_scene c h by is_by seen after turned turn one = subst (λ v. Contains turn.taken one ↔ IsWritten w v one) (sym seen_is) (takes_written w keeps apart honest p p_in view in_view entered c.session.standing c.began.knew turn.given.started (heads_at (brought_in c.session.parts)) (named_bytes c.world)
+      of_scene c h by is_by seen after turned turn one = subst (λ v. Contains turn.taken one ↔ IsWritten w v one) (sym seen_is) (takes_written w keeps apart honest p p_in view in_view entered (grounds_of (named_bytes c.world) c.session c.began.knew) turn.given.started
           (λ b m. Contains-append_left c.world.met _ b (h.meets b m)) now_apart own_is
           (subst (λ v. IsKnown v c.session.standing.floor c.began.knew) h.of.1 sound.knows.by_floor) before heard newest_heads
-          turn.candidates (subst (λ v. AreCandidatesOf (heads_at (brought_in c.session.parts)) (named_bytes c.world) v c.session.standing c.began.knew turn.given.started turn.candidates) seen_is turn.of_heads)
+          turn.candidates (subst (λ v. AreCandidatesOf (grounds_of (named_bytes c.world) c.session c.began.knew) v turn.given.started turn.candidates) seen_is turn.of_heads)
           turn.taken (subst (λ v. IsClosedPart v (IsAtHand (known_of w.1 p.name) turn.candidates) turn.taken) seen_is (subst (λ k. IsClosedPart seen (IsAtHand k turn.candidates) turn.taken) known_is turn.taken_is_largest)) one)
         where
           p_at : Contains w.0.participants p × (p.name ≡ by_name)

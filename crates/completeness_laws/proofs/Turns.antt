@@ -48,9 +48,9 @@ use Rattle.turn_laws.proofs.LinkedLogs.{chain_linked}
 use Rattle.world_laws.proofs.PublicKeys.{owner_is_key}
 use Rattle.world_laws.proofs.SignedAmong.{met_stays, met_then}
 use Rattle.world_laws.proofs.SignedHeads.{from_map}
-use Rattle.world_laws.proofs.TurnsFloors.{joined_first, joined_no_more}
+use Rattle.agent_laws.proofs.Floors.{joined_first, joined_no_more}
 use Rattle.world_laws.proofs.TurnsKnown.{same_own_log, taken, turned_is, writes}
-use Rattle.world_laws.proofs.TurnsSets.{read_set, saved_set}
+use Rattle.agent_laws.proofs.Sets.{read_set, saved_set}
 use Rattle.completeness_laws.specs.Put.{IsPutOr}
 use Rattle.completeness_laws.proofs.UpTo.{head_tells}
 use Rattle.completeness_laws.proofs.Stages.{IsHeadPutOr, IsMet}
@@ -264,7 +264,7 @@ module _ (c : Scene) (r : ℕ) (p : Participant) (keeps : Keeps (c.world, c.stor
       set_is : turned.set ≡ taken c r p keeps hand is_p notes given xid asked reply done asks h [] by_definition turned apart (is_turn apart)
       set_is =
           ap (λ (x : Turned). x.set) (turned_is c r p keeps hand is_p notes given xid asked reply done asks h [] by_definition turned apart (is_turn apart))
-          ∙ read_set p.agent c.session.standing.view (is_turn apart).taken asked c.world.now (fails_next p.keeper) (writes c r p keeps hand is_p notes given xid asked reply done asks h [] by_definition turned apart (is_turn apart))
+          ∙ read_set hss p.agent c.session.standing.view (is_turn apart).taken asked c.world.now (fails_next p.keeper) (writes c r p keeps hand is_p notes given xid asked reply done asks h [] by_definition turned apart (is_turn apart))
 
       less : (one : Record) → Contains turned.set one → one.owner ≡ own p.agent → Contains (known_of c.story p.name) one
       less one among mine = from_log (own p.agent) (known_of c.story p.name) one
@@ -277,7 +277,7 @@ module _ (c : Scene) (r : ℕ) (p : Participant) (keeps : Keeps (c.world, c.stor
       set_is : turned.set ≡ (is_turn apart).taken ++ (before ++ last ∷ [])
       set_is =
           ap (λ (x : Turned). x.set) (turned_is c r p keeps hand is_p notes given xid asked reply done asks h (before ++ last ∷ []) by_definition turned apart (is_turn apart))
-          ∙ saved_set p.agent c.session.standing.view (is_turn apart).taken asked c.world.now (fails_next p.keeper) well
+          ∙ saved_set hss p.agent c.session.standing.view (is_turn apart).taken asked c.world.now (fails_next p.keeper) well
           ∙ sym (writes c r p keeps hand is_p notes given xid asked reply done asks h (before ++ last ∷ []) by_definition turned apart (is_turn apart))
 
       less : (one : Record) → Contains (is_turn apart).taken one → one.owner ≡ own p.agent → Contains (known_of c.story p.name) one

@@ -5,13 +5,14 @@ use Rattle.ivy_base.specs.declared.key.PubKey.{PubKey}
 use Rattle.wire_model.specs.Xdr.{opaque}
 use Rattle.wire_model.proofs.OneReading.{◌▷◌, always, one_raw, one_word}
 use Rattle.log_model.specs.Record.{Record}
-use Rattle.log_model.specs.Spelling.{head_block}
+use Rattle.log_model.specs.Spelling.{head_block, head_tag}
 use Rattle.log_model.specs.Vector.{Stamp}
 use Rattle.log_model.proofs.Lists.{in_nothing}
 use Rattle.ring_model.proofs.Lists.{all_weaker}
 use Rattle.dht_ids.specs.declared.judge.Judged.{Judged}
 use Rattle.dht_ids.specs.declared.post.Post.{Post}
-use Rattle.log_heads.specs.Signed.{IsSignedHead, hss_judged}
+use Rattle.dhash_model.specs.Signed.{hss_judged}
+use Rattle.log_heads.specs.Signed.{IsSignedHead}
 use Rattle.log_heads.proofs.SignedHeads.{signed_heads}
 use Rattle.session_model.specs.Brought.{stamp_of}
 use Rattle.completeness_laws.specs.Put.{AllUpTo, IsHeadOver, IsPutOr, WasPut}
@@ -47,5 +48,5 @@ head_tells log bytes j owner t signature judged spelled owned numbered named = �
     f = (signed_heads log bytes j).0 judged
 
     read : ◌≡◌ {A = ((Unit {0} × List ℕ) × ℕ) × List ℕ} (((tt, f.owner.0), j.seq), j.name.0) (((tt, owner.0), t.seq), t.name.0) × (opaque f.signature ≡ opaque signature)
-    read = (always (73 ∷ 86 ∷ 72 ∷ 49 ∷ []) ▷ one_raw 60 ▷ one_word ▷ one_raw 20).one (((tt, f.owner.0), j.seq), j.name.0) (((tt, owner.0), t.seq), t.name.0) (opaque f.signature) (opaque signature)
+    read = (always head_tag ▷ one_raw 60 ▷ one_word ▷ one_raw 20).one (((tt, f.owner.0), j.seq), j.name.0) (((tt, owner.0), t.seq), t.name.0) (opaque f.signature) (opaque signature)
         (((tt, f.head.owner_is_key.size), omega (arith, f.head.few)), f.head.name.size) (((tt, owned), numbered), named) (sym f.head.spelled ∙ spelled)

@@ -12,12 +12,12 @@ use Rattle.log_model.specs.Vector.{Stamp, Vector, seq_of, stamp_at}
 use Rattle.log_model.specs.View.{View}
 use Rattle.log_model.proofs.Lists.{each, each_append, each_from, each_right}
 use Rattle.log_records.proofs.OneRecord.{one_record}
-use Rattle.log_records.specs.declared.chain_fault.ChainFault.{ChainFault}
-use Rattle.log_records.specs.declared.edge.Edge.{Edge}
+use Rattle.log_model.specs.declared.chain_fault.ChainFault.{ChainFault}
+use Rattle.log_model.specs.Fetched.{Edge}
 use Rattle.ring_model.proofs.Lists.{all_weaker}
 use Rattle.dht_ids.specs.declared.judge.Judged.{Judged}
 use Rattle.dht_ids.specs.declared.post.Post.{Post}
-use Rattle.dhash_client.specs.declared.miss.Miss.{Miss}
+use Rattle.dhash_model.specs.declared.miss.Miss.{Miss}
 use Rattle.agent_model.specs.Agent.{record_post}
 use Rattle.agent_model.specs.Standing.{Chain, Refresh, Standing, edge_at}
 use Rattle.session_model.specs.Brought.{BlockOf, Brought, HeadsOf, stamp_of}

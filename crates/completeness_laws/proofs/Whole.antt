@@ -8,7 +8,7 @@ use Rattle.ivy_base.specs.Naming.{key_cmp}
 use Rattle.log_model.proofs.Lists.{each, in_nothing}
 use Rattle.log_model.specs.View.{View}
 use Rattle.agent_model.specs.Agent.{record_post}
-use Rattle.node_store.specs.Stores.{Block, Blocks}
+use Rattle.dhash_model.specs.Stores.{Block, Blocks}
 use Rattle.world_model.specs.Agents.{own}
 use Rattle.script_driver.specs.Run.{Goes}
 use Rattle.world_model.specs.Nodes.{Node}

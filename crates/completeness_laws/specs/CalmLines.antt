@@ -10,11 +10,11 @@ use Rattle.dht_ids.specs.declared.ask.Ask.TheVariants as ask
 use Rattle.dht_ids.specs.declared.judge.Judged.{Judged}
 use Rattle.dht_ids.specs.declared.peer.Peer.{Peer}
 use Rattle.dht_ids.specs.declared.post.Post.{Post}
-use Rattle.dhash_client.specs.GetBlock.{IsGetOfBlock}
-use Rattle.dhash_client.specs.GetHead.{IsGetOfHead}
-use Rattle.dhash_client.specs.Course.{Told, told_all}
-use Rattle.dhash_client.specs.declared.miss.Miss.{Miss}
-use Rattle.log_heads.specs.Signed.{hss_judged}
+use Rattle.dhash_model.specs.GetBlock.{IsGetOfBlock}
+use Rattle.dhash_model.specs.GetHead.{IsGetOfHead}
+use Rattle.dhash_model.specs.Course.{Told, told_all}
+use Rattle.dhash_model.specs.declared.miss.Miss.{Miss}
+use Rattle.dhash_model.specs.Signed.{hss_judged}
 use Rattle.log_model.specs.Record.{Record}
 use Rattle.agent_model.specs.Agent.{is_head}
 use Rattle.script_driver.specs.Run.{Goes, Outcome}
@@ -27,7 +27,7 @@ use Rattle.world_model.specs.Ring.{live_in_order}
 use Rattle.world_model.specs.Step.{IvyStep}
 use Rattle.world_model.specs.Story.{HadTurn}
 use Rattle.world_model.specs.World.{World, entries}
-use Rattle.round_laws.specs.RingOf.{lives_in}
+use Rattle.world_model.specs.RingOf.{lives_in}
 use Rattle.world_laws.specs.Calm.{IsCalmAt, Since, Stopped, post_rank, rank_in}
 use Rattle.world_laws.specs.Headline.{IsOnReplay}
 use Rattle.completeness_laws.specs.Completeness.{HaveEntered, HaveOwnKeys, IsServed, IsWritten}

@@ -9,10 +9,11 @@ use Rattle.dht_ids.specs.declared.ask.Answer.{Answer}
 use Rattle.dht_ids.specs.declared.ask.Ask.TheVariants as ask
 use Rattle.dht_ids.specs.declared.peer.Peer.{Peer}
 use Rattle.dht_ids.specs.declared.post.Post.{Post}
-use Rattle.dhash_client.specs.Course.{Told, told_all}
-use Rattle.dhash_client.specs.Puts.{holds}
-use Rattle.dhash_client.specs.declared.miss.Miss.{Miss}
-use Rattle.log_heads.specs.Signed.{hss_judged}
+use Rattle.dhash_model.specs.Course.{Told, told_all}
+use Rattle.dhash_model.specs.Puts.{holds}
+use Rattle.dhash_model.specs.declared.miss.Miss.{Miss}
+use Rattle.dhash_model.specs.Signed.{hss_judged}
+use Rattle.dhash_model.specs.Stores.{Block, full}
 use Rattle.agent_model.specs.Agent.{is_head}
 use Rattle.log_model.specs.Closed.{log_of}
 use Rattle.log_model.specs.Record.{Record}
@@ -22,7 +23,6 @@ use Rattle.script_model.specs.declared.command.Command.{Command}
 use Rattle.script_model.specs.declared.command.Command.TheVariants as command
 use Rattle.script_model.specs.declared.command.Piece.{Piece}
 use Rattle.script_model.specs.Lines.{command_of}
-use Rattle.node_store.specs.Stores.{Block, full}
 use Rattle.session_model.specs.Sessions.{IsPutOfPost, acknowledged, put_question}
 use Rattle.world_model.specs.Agents.{own}
 use Rattle.world_model.specs.Fates.{FateOf, Fates, asking}

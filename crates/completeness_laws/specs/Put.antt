@@ -13,9 +13,9 @@ use Rattle.log_model.specs.Vector.{Stamp}
 use Rattle.turn_model.specs.Known.{EndsAt}
 use Rattle.dht_ids.specs.declared.judge.Judged.{Judged}
 use Rattle.dht_ids.specs.declared.post.Post.{Post}
-use Rattle.log_heads.specs.Signed.{hss_judged}
-use Rattle.node_store.specs.Stores.{Block}
-use Rattle.node_store.specs.declared.kind.Kind.TheVariants.{Head}
+use Rattle.dhash_model.specs.Signed.{hss_judged}
+use Rattle.dhash_model.specs.Stores.{Block}
+use Rattle.dhash_model.specs.declared.kind.Kind.TheVariants.{Head}
 use Rattle.agent_model.specs.Agent.{record_post}
 use Rattle.session_model.specs.Brought.{stamp_of}
 use Rattle.world_model.specs.Agents.{own}

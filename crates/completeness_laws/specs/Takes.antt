@@ -6,7 +6,7 @@ use Rattle.log_model.specs.Record.{Record}
 use Rattle.log_model.specs.Vector.{Entry}
 use Rattle.dht_ids.specs.declared.judge.Judged.{Judged}
 use Rattle.dht_ids.specs.declared.post.Post.{Post}
-use Rattle.log_heads.specs.Signed.{hss_judged}
+use Rattle.dhash_model.specs.Signed.{hss_judged}
 use Rattle.agent_model.specs.Agent.{is_head}
 use Rattle.script_driver.specs.Run.{Goes}
 use Rattle.script_model.specs.declared.command.Command.{Command}

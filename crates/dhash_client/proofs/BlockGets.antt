@@ -14,12 +14,14 @@ use Rattle.ring_model.specs.Members.{IsAmong, first}
 use Rattle.ring_model.specs.Gets.{Got, Right, Damaged, Missing, nodes, answered_in, given, first_giver, HasBlock, IsGiven, AreAsks, IsBlockGet}
 use Rattle.ring_model.proofs.Gets.{given_none, given_some, first_none, first_some}
 use Rattle.ring_model.proofs.Lists.{among-right, among-cases, none_some}
-use Rattle.dhash_client.specs.Course.{Told, Asking, CourseState, awaited, asked_of, miss_of, IsBehind, Hears, Goes, result_of}
-use Rattle.dhash_client.specs.Course.IsCourse.{of_owners}
-use Rattle.dhash_client.specs.GetBlock.{BlockState, is_of_get, block_in, EndsGet, IsGetOfBlock, IsEnoughBlock, SumsBlock, block_awaited_at, BlockIsAfter, BlockIsWanted, BlockHasHeard, BlockTakes, or_node}
+use Rattle.dhash_client.specs.Course.{Asking, CourseState, awaited, asked_of, miss_of, IsBehind, Hears, Goes}
+use Rattle.dhash_client.specs.GetBlock.{BlockState, IsEnoughBlock, SumsBlock, block_awaited_at, BlockIsAfter, BlockIsWanted, BlockHasHeard, BlockTakes, or_node}
 use Rattle.dhash_client.specs.declared.course.Step.TheVariants as step
-use Rattle.dhash_client.specs.declared.miss.Miss.{Miss}
-use Rattle.dhash_client.specs.declared.miss.Miss.TheVariants as miss
+use Rattle.dhash_model.specs.declared.miss.Miss.TheVariants as miss
+use Rattle.dhash_model.specs.Course.{Told, result_of}
+use Rattle.dhash_model.specs.Course.IsCourse.{of_owners}
+use Rattle.dhash_model.specs.GetBlock.{is_of_get, block_in, EndsGet, IsGetOfBlock}
+use Rattle.dhash_model.specs.declared.miss.Miss.{Miss}
 use Rattle.dhash_client.proofs.Courses.{looks_on, hears_route, hears_owner, asks_made, no_route_at, route_awaited, owner_awaited, owner_on, over_ends}
 
 -- nothing was found where a node is to be heard

@@ -15,12 +15,13 @@ use Rattle.ring_model.specs.Members.{IsAmong, first}
 use Rattle.ring_model.specs.Gets.{AreFirsts, AreAsks, nodes, answered_in}
 use Rattle.ring_model.proofs.Gets.{answered_more}
 use Rattle.ring_model.proofs.Lists.{some_same, none_some}
-use Rattle.dhash_client.specs.Machine.{State, Follow, FollowsAfter, HasHeard, fresh, outcome}
-use Rattle.dhash_client.specs.Course.{Told, told_all, IsAskedOnce, Asking, CourseState, next_owner, awaited, awaited_at, HasAsked, IsBehind, IsOnCourse, IsAskingOf, Reaches, Looks, HearsOwner, Hears, Goes, begun, IsCourse}
-use Rattle.dhash_client.specs.Course.IsCourse.{no_route, of_owners}
+use Rattle.dhash_client.specs.Machine.{State, Follow, FollowsAfter, HasHeard, fresh}
+use Rattle.dhash_client.specs.Course.{IsAskedOnce, Asking, CourseState, next_owner, awaited, awaited_at, HasAsked, IsBehind, IsOnCourse, IsAskingOf, Reaches, Looks, HearsOwner, Hears, Goes, begun}
 use Rattle.dhash_client.specs.declared.course.Step.TheVariants as step
-use Rattle.dhash_client.specs.declared.miss.Miss.{Miss}
-use Rattle.dhash_client.specs.declared.miss.Miss.TheVariants as miss
+use Rattle.dhash_model.specs.declared.miss.Miss.TheVariants as miss
+use Rattle.dhash_model.specs.Course.{outcome, Told, told_all, IsCourse}
+use Rattle.dhash_model.specs.Course.IsCourse.{no_route, of_owners}
+use Rattle.dhash_model.specs.declared.miss.Miss.{Miss}
 use Rattle.dhash_client.proofs.Driven.{follows_both, is_look_up}
 
 none_below : (k : ℕ) → k < 0 → ⊥

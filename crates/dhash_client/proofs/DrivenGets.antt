@@ -10,9 +10,11 @@ use Rattle.dht_ids.specs.declared.peer.Peer.{Peer}
 use Rattle.dht_ids.specs.declared.post.PostKind.{PostKind}
 use Rattle.ring_model.proofs.Lists.{some_same, none_some}
 use Rattle.dhash_client.specs.Course.{Asking, CourseState, next_owner, awaited, awaited_at}
-use Rattle.dhash_client.specs.GetBlock.{is_of_get, IsEnoughBlock, SumsBlock, BlockIsAfter, block_begun, block_awaited_at}
+use Rattle.dhash_model.specs.GetBlock.{is_of_get}
+use Rattle.dhash_model.specs.Puts.{is_of_put}
+use Rattle.dhash_client.specs.GetBlock.{IsEnoughBlock, SumsBlock, BlockIsAfter, block_begun, block_awaited_at}
 use Rattle.dhash_client.specs.GetHead.{Judges, IsEnoughHead, SumsHead, HeadIsAfter, head_begun}
-use Rattle.dhash_client.specs.Puts.{is_of_put, put_kind, question_of, IsEnoughPut, SumsPut, PutState, PutIsAfter, put_begun, put_awaited}
+use Rattle.dhash_client.specs.Puts.{put_kind, question_of, IsEnoughPut, SumsPut, PutState, PutIsAfter, put_begun, put_awaited}
 use Rattle.dhash_client.specs.declared.put.PutKind.{PutKind}
 use Rattle.dhash_client.specs.declared.put.PutKind.TheVariants as kind
 use Rattle.dhash_client.proofs.Courses.{begins}

@@ -14,12 +14,14 @@ use Rattle.ring_model.specs.Members.{first}
 use Rattle.ring_model.specs.Gets.{Right, Damaged, Missing, AreAsks, nodes, given, judged}
 use Rattle.ring_model.proofs.Gets.{given_none, given_some}
 use Rattle.ring_model.proofs.Lists.{nil_cons}
-use Rattle.dhash_client.specs.Course.{Told, CourseState, asked_of, IsBehind, Hears, Goes}
-use Rattle.dhash_client.specs.GetBlock.{is_of_get, block_in}
-use Rattle.dhash_client.specs.GetHead.{Judges, HeadState, EndsHeadGet, IsGetOfHead, IsEnoughHead, SumsHead, HeadIsWanted, HeadHasHeard, TakesJudged, HeadTakes, heads_result}
+use Rattle.dhash_client.specs.Course.{CourseState, asked_of, IsBehind, Hears, Goes}
+use Rattle.dhash_client.specs.GetHead.{Judges, HeadState, IsEnoughHead, SumsHead, HeadIsWanted, HeadHasHeard, TakesJudged, HeadTakes, heads_result}
 use Rattle.dhash_client.specs.declared.course.Step.TheVariants as step
-use Rattle.dhash_client.specs.declared.miss.Miss.{Miss}
-use Rattle.dhash_client.specs.declared.miss.Miss.TheVariants as miss
+use Rattle.dhash_model.specs.declared.miss.Miss.TheVariants as miss
+use Rattle.dhash_model.specs.Course.{Told}
+use Rattle.dhash_model.specs.GetBlock.{is_of_get, block_in}
+use Rattle.dhash_model.specs.GetHead.{EndsHeadGet, IsGetOfHead}
+use Rattle.dhash_model.specs.declared.miss.Miss.{Miss}
 use Rattle.dhash_client.proofs.BlockGets.{giver_more}
 use Rattle.dhash_client.proofs.Courses.{looks_on, hears_route, hears_owner, no_route_at, route_awaited, owner_awaited, owner_on, over_ends}
 

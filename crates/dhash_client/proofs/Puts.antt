@@ -10,11 +10,13 @@ use Rattle.dht_ids.specs.declared.ask.Want.TheVariants as want
 use Rattle.dht_ids.specs.declared.peer.Peer.{Peer}
 use Rattle.ring_model.specs.Gets.{AreAsks, IsAcknowledged, nodes, answered_in}
 use Rattle.ring_model.proofs.Gets.{answered_more}
-use Rattle.dhash_client.specs.Course.{Told, Asking, CourseState, IsBehind, Hears, Goes, IsThrough, AreHolders}
-use Rattle.dhash_client.specs.Puts.{is_of_put, holds, question_of, EndsPut, IsPutOf, PutState, IsEnoughPut, SumsPut, PutIsWanted, PutHasHeard, one_more}
+use Rattle.dhash_client.specs.Course.{Asking, CourseState, IsBehind, Hears, Goes, IsThrough, AreHolders}
+use Rattle.dhash_client.specs.Puts.{question_of, IsPutOf, PutState, IsEnoughPut, SumsPut, PutIsWanted, PutHasHeard, one_more}
 use Rattle.dhash_client.specs.declared.put.PutKind.{PutKind}
 use Rattle.dhash_client.specs.declared.course.Step.TheVariants as step
-use Rattle.dhash_client.specs.declared.miss.Miss.TheVariants as miss
+use Rattle.dhash_model.specs.declared.miss.Miss.TheVariants as miss
+use Rattle.dhash_model.specs.Course.{Told}
+use Rattle.dhash_model.specs.Puts.{is_of_put, holds, EndsPut}
 use Rattle.dhash_client.proofs.Courses.{looks_on, hears_route, hears_owner, no_route_at, route_awaited, owner_awaited, owner_on, over_ends}
 
 takes_sums : (holders holders2 : ℕ) (owner : Peer) (heard : Answer) → holders2 ≡ one_more (holds heard) holders → (asks : Told) → SumsPut holders asks → SumsPut holders2 (asks ++ (owner, heard) ∷ [])

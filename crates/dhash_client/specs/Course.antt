@@ -1,5 +1,5 @@
 -- What the machines of gets and puts share: a look-up, and then asks of the owners that it found, in one trail.
-use Rattle.std.specs.Prelude.{◌≡◌, ℕ, ◌+◌, ◌-◌, ◌^◌, ◌<◌, ◌≤◌, nat_lt, Bool, if◌then◌else◌, List, [], ◌∷◌, ◌++◌, length, take, flat_map, Option, Some, None, IfSome, Result, Ok, Err, ◌⊎◌}
+use Rattle.std.specs.Prelude.{◌≡◌, ℕ, ◌+◌, ◌-◌, ◌^◌, ◌<◌, ◌≤◌, nat_lt, Bool, if◌then◌else◌, List, [], ◌∷◌, ◌++◌, length, take, Option, Some, None, IfSome, Ok, Err, ◌⊎◌}
 use Rattle.std.specs.Option.{option_map}
 use Rattle.ivy_base.specs.declared.key.Key.{Key}
 use Rattle.dht_ids.specs.Asked.{told, routes}
@@ -10,34 +10,13 @@ use Rattle.dht_ids.specs.declared.ask.Heard.{Heard}
 use Rattle.dht_ids.specs.declared.peer.Peer.{Peer}
 use Rattle.ring_model.specs.Members.{IsAmong, first}
 use Rattle.ring_model.specs.Lookup.{IsLookup}
-use Rattle.ring_model.specs.Gets.{AreFirsts, nodes, answered_in, Got, Right, Damaged, Missing}
-use Rattle.dhash_client.specs.Machine.{State, Follow, FollowsAfter, HasHeard, fresh, outcome}
+use Rattle.ring_model.specs.Gets.{AreFirsts, nodes, answered_in, Damaged, Missing}
+use Rattle.dhash_client.specs.Machine.{State, Follow, FollowsAfter, HasHeard, fresh}
 use Rattle.dhash_client.specs.declared.course.Step.{Step}
 use Rattle.dhash_client.specs.declared.course.Step.TheVariants as step
-use Rattle.dhash_client.specs.declared.miss.Miss.{Miss}
-use Rattle.dhash_client.specs.declared.miss.Miss.TheVariants as miss
-
--- nodes that were asked the same, and what each answered
-abbrev pub Told : Type 0
-Told = List (Peer × Answer)
-
--- the entries that tell of them in a trail
-abbrev pub told_all : Ask → Told → List Heard
-told_all question asks = flat_map (λ s. told s.0 question s.1) asks
-
--- A trail of a get or a put: the asks of a look-up and then, where it found owners, those asks of them that the last
--- relation describes.
-pub data IsCourse {T : Type 0} (key : Key) (question : Ask) (entries : List Peer) (Ends : List Peer → Told → Result T Miss → Type 0) (trail : List Heard) (result : Result T Miss) : Type 0 where
-  no_route : (looks : Told) (found : Option (List Peer)) → trail ≡ told_all (ask.Route key) looks → IsLookup [] None entries (routes looks) found
-      → outcome key found ≡ Err (miss.NoRoute key) → result ≡ Err (miss.NoRoute key) → IsCourse key question entries Ends trail result
-  of_owners : (looks asks : Told) (found : Option (List Peer)) (owners : List Peer) → trail ≡ told_all (ask.Route key) looks ++ told_all question asks → IsLookup [] None entries (routes looks) found
-      → outcome key found ≡ Ok owners → Ends owners asks result → IsCourse key question entries Ends trail result
-
--- the result of a get that ended so
-abbrev pub result_of : {B : Type 0} → Key → Got Peer B → Result B Miss
-result_of key (Right found) = Ok found
-result_of key (Damaged node) = Err (miss.Damaged key node)
-result_of key (Missing asked) = Err (miss.Missing key asked)
+use Rattle.dhash_model.specs.declared.miss.Miss.TheVariants as miss
+use Rattle.dhash_model.specs.Course.{outcome, Told, told_all}
+use Rattle.dhash_model.specs.declared.miss.Miss.{Miss}
 
 -- the owners, each once: those asked and heard, in order, those still to ask, and how many answered
 pub record Asking : Type 0 where

@@ -10,18 +10,13 @@ use Rattle.dht_ids.specs.declared.ask.Want.{Want}
 use Rattle.dht_ids.specs.declared.ask.Want.TheVariants as want
 use Rattle.dht_ids.specs.declared.judge.Judged.{Judged}
 use Rattle.dht_ids.specs.declared.peer.Peer.{Peer}
-use Rattle.ring_model.specs.Gets.{Got, answered_in, first_giver, judged, IsHeadGet}
-use Rattle.dhash_client.specs.Course.{Told, CourseState, IsCourse, IsOnCourse, IsSameCourse, begun, awaited, result_of, miss_of}
-use Rattle.dhash_client.specs.GetBlock.{is_of_get, block_in, or_node}
-use Rattle.dhash_client.specs.declared.miss.Miss.{Miss}
-
--- the asks of the owners are a get of the head under that key, which ends with this result
-abbrev pub EndsHeadGet : (List ℕ → Option Judged) → Key → ℕ → List Peer → Told → Result (List Judged) Miss → Type 0
-EndsHeadGet judge key r owners asks result = (got : Got Peer (List Judged)) × IsHeadGet is_of_get block_in judge r owners asks got × (result ≡ result_of key got)
-
--- A get of the head under that key, over a whole trail.
-abbrev pub IsGetOfHead : (List ℕ → Option Judged) → Key → ℕ → List Peer → List Heard → Result (List Judged) Miss → Type 0
-IsGetOfHead judge key r entries = IsCourse key (ask.Get key) entries (EndsHeadGet judge key r)
+use Rattle.ring_model.specs.Gets.{answered_in, first_giver, judged}
+use Rattle.dhash_model.specs.Course.{Told}
+use Rattle.dhash_model.specs.GetBlock.{is_of_get, block_in}
+use Rattle.dhash_model.specs.declared.miss.Miss.{Miss}
+use Rattle.dhash_model.specs.GetHead.{IsGetOfHead}
+use Rattle.dhash_client.specs.Course.{CourseState, IsOnCourse, IsSameCourse, begun, awaited, miss_of}
+use Rattle.dhash_client.specs.GetBlock.{or_node}
 
 -- what judges of a kind say of bytes under a key
 abbrev pub Judges : Type 0 → Type 0

@@ -1,5 +1,5 @@
 -- The machine of a look-up: what it keeps, what it wants, and which asks may still follow.
-use Rattle.std.specs.Prelude.{◌≡◌, ℕ, ◌-◌, ◌<◌, List, [], ◌∷◌, ◌++◌, length, Option, Some, None, Result, Ok, Err}
+use Rattle.std.specs.Prelude.{◌≡◌, ℕ, ◌-◌, ◌<◌, List, [], ◌∷◌, ◌++◌, length, Option, Some, None, Result}
 use Rattle.ivy_base.specs.declared.key.Key.{Key}
 use Rattle.dht_ids.specs.Asked.{route_in}
 use Rattle.dht_ids.specs.declared.ask.Answer.{Answer}
@@ -10,8 +10,8 @@ use Rattle.dht_ids.specs.declared.peer.Peer.{Peer}
 use Rattle.ring_model.specs.Members.{IsAmong}
 use Rattle.ring_model.specs.Route.{Route}
 use Rattle.ring_model.specs.Lookup.{IsLookup}
-use Rattle.dhash_client.specs.declared.miss.Miss.{Miss}
-use Rattle.dhash_client.specs.declared.miss.Miss.TheVariants as miss
+use Rattle.dhash_model.specs.declared.miss.Miss.{Miss}
+use Rattle.dhash_model.specs.Course.{outcome}
 
 -- a look-up of a key: the nodes asked and heard, the newest first, the owners that the last answer named, the nodes
 -- still to ask, and the node that was asked and not yet heard
@@ -50,12 +50,6 @@ FollowsAfter first old new = (trail : Trail) (found : Option (List Peer)) → Fo
 -- with qs to ask no other look-ups follow than with ps
 abbrev pub IsRest : List Peer → List Peer → List Peer → Type 0
 IsRest asked ps qs = (last : Option (List Peer)) (trail : Trail) (found : Option (List Peer)) → IsLookup asked last qs trail found → IsLookup asked last ps trail found
-
--- the result of a look-up that found these owners
-abbrev pub outcome : Key → Option (List Peer) → Result (List Peer) Miss
-outcome key None = Err (miss.NoRoute key)
-outcome key (Some []) = Err (miss.NoRoute key)
-outcome key (Some (p ∷ ps)) = Ok (p ∷ ps)
 
 -- what the machine wants: to ask a node for the route, that it didn't ask before, as one of 512, or nothing more,
 -- since no ask may follow

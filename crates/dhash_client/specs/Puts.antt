@@ -1,53 +1,23 @@
 -- The machine of puts: of posts, which are content blocks or heads.
-use Rattle.std.specs.Prelude.{◌≡◌, ℕ, ◌+◌, ◌-◌, ◌^◌, ◌≤◌, min, Bool, true, false, if◌then◌else◌, List, ◌++◌, Option, Some, Result, Ok}
+use Rattle.std.specs.Prelude.{◌≡◌, ℕ, ◌+◌, ◌-◌, ◌^◌, ◌≤◌, min, Bool, if◌then◌else◌, List, ◌++◌, Option, Some, Result}
 use Rattle.ivy_base.specs.declared.key.Key.{Key}
 use Rattle.dht_ids.specs.Asked.{told}
 use Rattle.dht_ids.specs.declared.ask.Answer.{Answer}
-use Rattle.dht_ids.specs.declared.ask.Answer.TheVariants as answer
 use Rattle.dht_ids.specs.declared.ask.Ask.{Ask}
 use Rattle.dht_ids.specs.declared.ask.Ask.TheVariants as ask
 use Rattle.dht_ids.specs.declared.ask.Heard.{Heard}
-use Rattle.dht_ids.specs.declared.ask.StoreFault.{StoreFault}
-use Rattle.dht_ids.specs.declared.ask.StoreFault.TheVariants as fault
 use Rattle.dht_ids.specs.declared.ask.Want.{Want}
 use Rattle.dht_ids.specs.declared.ask.Want.TheVariants as want
 use Rattle.dht_ids.specs.declared.peer.Peer.{Peer}
 use Rattle.dht_ids.specs.declared.post.PostKind.{PostKind}
 use Rattle.dht_ids.specs.declared.post.PostKind.TheVariants as post
-use Rattle.ring_model.specs.Gets.{answered_in, IsPut}
-use Rattle.dhash_client.specs.Course.{Told, CourseState, IsCourse, IsOnCourse, IsSameCourse, begun, awaited}
-use Rattle.dhash_client.specs.declared.miss.Miss.{Miss}
+use Rattle.ring_model.specs.Gets.{answered_in}
+use Rattle.dhash_model.specs.Course.{Told, IsCourse}
+use Rattle.dhash_model.specs.declared.miss.Miss.{Miss}
+use Rattle.dhash_model.specs.Puts.{is_of_put, holds, EndsPut}
+use Rattle.dhash_client.specs.Course.{CourseState, IsOnCourse, IsSameCourse, begun, awaited}
 use Rattle.dhash_client.specs.declared.put.PutKind.{PutKind}
 use Rattle.dhash_client.specs.declared.put.PutKind.TheVariants as kind
-
--- a put is answered by the word that the block is held, or by a refusal; anything else is silence
-abbrev pub is_of_put : Answer → Bool
-is_of_put (answer.Route nearer owners) = false
-is_of_put (answer.Near before list) = false
-is_of_put (answer.Found bytes) = false
-is_of_put answer.Nothing = false
-is_of_put answer.Stored = true
-is_of_put (answer.Refused why) = true
-is_of_put answer.Noted = false
-is_of_put answer.Silent = false
-
--- a refusal because a head of the same or a greater number is held
-abbrev pub is_older : StoreFault → Bool
-is_older fault.WrongName = false
-is_older fault.NotJudged = false
-is_older (fault.Older seq) = true
-is_older fault.Full = false
-
--- the node holds the block now, or a newer head
-abbrev pub holds : Answer → Bool
-holds (answer.Route nearer owners) = false
-holds (answer.Near before list) = false
-holds (answer.Found bytes) = false
-holds answer.Nothing = false
-holds answer.Stored = true
-holds (answer.Refused why) = is_older why
-holds answer.Noted = false
-holds answer.Silent = false
 
 -- how a post is put: a head as a head, any other block by its name
 abbrev pub put_kind : PostKind → PutKind
@@ -59,10 +29,6 @@ put_kind post.Head = kind.Head
 abbrev pub question_of : PutKind → List ℕ → Key → Ask
 question_of kind.Block bytes key = ask.PutBlock key bytes
 question_of kind.Head bytes key = ask.PutHead key bytes
-
--- the asks of the owners are a put, which ends with this result
-abbrev pub EndsPut : ℕ → List Peer → Told → Result Bool Miss → Type 0
-EndsPut r owners asks result = (acknowledged : Bool) × IsPut is_of_put holds r owners asks acknowledged × (result ≡ Ok acknowledged)
 
 -- A put of these bytes under that key, over a whole trail.
 abbrev pub IsPutOf : PutKind → List ℕ → Key → ℕ → List Peer → List Heard → Result Bool Miss → Type 0

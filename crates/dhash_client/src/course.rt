@@ -5,8 +5,8 @@ ghost use Rattle.dht_ids.specs.declared.ask.Ask.TheVariants as ask;
 ghost use Rattle.dhash_client.specs.Course.{asks_left, begun, awaited, asked_of, miss_of, Goes, Hears, IsThrough, AreHolders};
 
 use crate::lookup::Lookup;
-use crate::miss::Miss;
 use crate::round::Round;
+use dhash_model::Miss;
 use dht_ids::{Answer, Peer, Peers, Want};
 use ivy_base::{Key, Memory};
 use std::alloc::Global;

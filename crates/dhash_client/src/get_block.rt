@@ -2,10 +2,11 @@
 
 ghost use Rattle.std.specs.Prelude.{◌≡◌, ◌≢◌, ◌<◌, ◌≤◌, None, IfOk};
 ghost use Rattle.dhash_client.specs.Course.{asks_left};
-ghost use Rattle.dhash_client.specs.GetBlock.{block_begun, block_awaited, BlockIsWanted, BlockHasHeard, BlockTakes, is_of_get, block_in};
+ghost use Rattle.dhash_model.specs.GetBlock.{is_of_get, block_in};
+ghost use Rattle.dhash_client.specs.GetBlock.{block_begun, block_awaited, BlockIsWanted, BlockHasHeard, BlockTakes};
 
 use crate::course::{Course, Step};
-use crate::miss::Miss;
+use dhash_model::Miss;
 use dht_ids::{Answer, Ask, Peer, Peers, Want};
 use ivy_base::{Bytes, Key, Memory, name_of};
 use std::alloc::Global;

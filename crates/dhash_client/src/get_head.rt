@@ -2,13 +2,13 @@
 
 ghost use Rattle.std.specs.Prelude.{◌≡◌, ◌≢◌, ◌<◌, ◌≤◌, None, IfOk};
 ghost use Rattle.dhash_client.specs.Course.{asked_of, asks_left};
-ghost use Rattle.dhash_client.specs.GetBlock.{block_in};
+ghost use Rattle.dhash_model.specs.GetBlock.{block_in};
 ghost use Rattle.dhash_client.specs.GetHead.{head_begun, head_awaited, heads_result, HeadIsWanted, HeadHasHeard, HeadTakes};
 
 use crate::course::{Course, Step};
 use crate::get_block::answers_get;
-use crate::miss::Miss;
 use crate::remembering::Remembering;
+use dhash_model::Miss;
 use dht_ids::{Answer, Ask, Heads, Judge, Judged, Peer, Peers, Want};
 use ivy_base::{Key, Memory};
 use std::alloc::Global;

@@ -2,9 +2,10 @@
 
 ghost use Rattle.std.specs.Prelude.{◌≡◌, ◌≢◌, ◌<◌, ◌≤◌, [], ◌∷◌, length, reverse, None, IfOk, MatchBool, MatchOption};
 ghost use Rattle.ring_model.specs.Members.{IsAmong};
-ghost use Rattle.dhash_client.specs.Machine.{fresh, looks_left, to_ask, outcome, IsRest, IsWanted, Follow, FollowsAfter, HasHeard};
+ghost use Rattle.dhash_model.specs.Course.{outcome};
+ghost use Rattle.dhash_client.specs.Machine.{fresh, looks_left, to_ask, IsRest, IsWanted, Follow, FollowsAfter, HasHeard};
 
-use crate::miss::Miss;
+use dhash_model::Miss;
 use dht_ids::{Answer, Ask, Peer, Peers, Want};
 use ivy_base::{Key, Memory};
 use std::alloc::Global;

@@ -3,10 +3,11 @@
 ghost use Rattle.std.specs.Prelude.{◌≡◌, ◌≢◌, ◌<◌, ◌≤◌, IfOk};
 ghost use Rattle.std.specs.declared.option.Option.{Option};
 ghost use Rattle.dhash_client.specs.Course.{asks_left};
-ghost use Rattle.dhash_client.specs.Puts.{is_of_put, holds, put_kind, question_of, put_begun, put_awaited, one_more, PutIsWanted, PutHasHeard};
+ghost use Rattle.dhash_model.specs.Puts.{is_of_put, holds};
+ghost use Rattle.dhash_client.specs.Puts.{put_kind, question_of, put_begun, put_awaited, one_more, PutIsWanted, PutHasHeard};
 
 use crate::course::{Course, Step};
-use crate::miss::Miss;
+use dhash_model::Miss;
 use dht_ids::{Answer, Ask, Peers, Post, PostKind, StoreFault, Want};
 use ivy_base::{Bytes, Key, Memory};
 use std::alloc::Global;

@@ -16,10 +16,11 @@ use Rattle.dht_ids.specs.declared.ask.Want.{Want}
 use Rattle.dht_ids.specs.declared.ask.Want.TheVariants as want
 use Rattle.dht_ids.specs.declared.peer.Peer.{Peer}
 use Rattle.dht_ids.specs.declared.post.Post.{Post}
-use Rattle.dhash_client.specs.Course.{IsCourse, told_all}
-use Rattle.dhash_client.specs.Course.IsCourse.{no_route as nobody_found, of_owners as owners_found}
-use Rattle.dhash_client.specs.Puts.{EndsPut, IsPutOf, PutHasHeard, PutIsAfter, PutIsWanted, put_awaited, put_kind}
-use Rattle.dhash_client.specs.declared.miss.Miss.{Miss}
+use Rattle.dhash_model.specs.Course.{IsCourse, told_all}
+use Rattle.dhash_model.specs.Course.IsCourse.{no_route as nobody_found, of_owners as owners_found}
+use Rattle.dhash_model.specs.Puts.{EndsPut}
+use Rattle.dhash_model.specs.declared.miss.Miss.{Miss}
+use Rattle.dhash_client.specs.Puts.{IsPutOf, PutHasHeard, PutIsAfter, PutIsWanted, put_awaited, put_kind}
 use Rattle.dhash_client.specs.declared.put.PutKind.{PutKind}
 use Rattle.dhash_client.proofs.DrivenGets.{post_asks, put_begins}
 use Rattle.dhash_repair.specs.Putting.{Putting, IsSamePutting, PuttingAsks, PuttingCounts, PuttingGoesOn, PuttingHasHeard, PuttingIsAfter, PuttingIsWanted, PuttingSteps, acknowledged, is_own, is_own_of, left_of, made_of, post_of, putting, told_of}

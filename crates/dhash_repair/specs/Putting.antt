@@ -13,7 +13,7 @@ use Rattle.dht_ids.specs.declared.peer.Peer.{Peer}
 use Rattle.dht_ids.specs.declared.post.Ack.{Ack}
 use Rattle.dht_ids.specs.declared.post.Post.{Post}
 use Rattle.dht_ids.specs.declared.post.PostKind.{PostKind}
-use Rattle.dhash_client.specs.declared.miss.Miss.{Miss}
+use Rattle.dhash_model.specs.declared.miss.Miss.{Miss}
 use Rattle.dhash_client.specs.Course.{asks_left}
 use Rattle.dhash_client.specs.Puts.{PutState, PutHasHeard, PutIsAfter, IsSamePut, put_begun, put_awaited, put_kind}
 use Rattle.dhash_repair.specs.Repairs.{Asked, IsPutFrom, ack_of, is_node, put_question}

@@ -6,9 +6,10 @@ use Rattle.ivy_base.specs.declared.key.Key.{Key}
 use Rattle.ivy_base.specs.Naming.{head_key_of, name}
 use Rattle.dht_ids.specs.declared.judge.Judged.{Judged}
 use Rattle.dht_ids.specs.declared.post.Post.{Post}
-use Rattle.log_heads.specs.Signed.{hss_judged, is_signed_head, signature_in}
-use Rattle.log_heads.specs.Signed.{is_head as is_head_block}
-use Rattle.log_records.specs.Heads.{name_in, owner_in, seq_in}
+use Rattle.dhash_model.specs.Signed.{hss_judged, is_signed_head, signature_in, is_head as is_head_block}
+use Rattle.dhash_model.specs.declared.kind.Kind.{Kind}
+use Rattle.dhash_model.specs.declared.kind.Kind.TheVariants.{Content, Head}
+use Rattle.log_model.specs.Heads.{name_in, owner_in, seq_in}
 use Rattle.agent_model.specs.Agent.{is_head}
 use Rattle.dht_ids.specs.declared.ask.Ask.{Ask}
 use Rattle.dht_ids.specs.declared.ask.Ask.TheVariants as ask
@@ -16,8 +17,6 @@ use Rattle.session_model.specs.Sessions.{put_question}
 use Rattle.world_model.specs.Nodes.{Node}
 use Rattle.world_model.specs.World.{World}
 use Rattle.world_model.specs.Rounds.{question_as}
-use Rattle.node_store.specs.declared.kind.Kind.{Kind}
-use Rattle.node_store.specs.declared.kind.Kind.TheVariants.{Content, Head}
 use Rattle.world_laws.proofs.CalmNodes.{Fits, HoldKinds, HoldsKinds, IsOfKind}
 use Rattle.world_laws.proofs.CalmStates.{IsLeft, IsMore, IsOwnPost}
 

@@ -16,10 +16,10 @@ use Rattle.dht_ids.specs.Peers.{place}
 use Rattle.dht_ids.specs.declared.ask.Ask.TheVariants as ask
 use Rattle.dht_ids.specs.declared.peer.Peer.{Peer}
 use Rattle.dht_ids.specs.declared.post.Post.{Post}
-use Rattle.log_heads.specs.Signed.{hss_judged}
-use Rattle.node_store.specs.Stores.{Block}
-use Rattle.node_store.specs.declared.kind.Kind.{Kind}
-use Rattle.chord_core.specs.State.{alone_node}
+use Rattle.dhash_model.specs.Signed.{hss_judged}
+use Rattle.dhash_model.specs.Stores.{Block}
+use Rattle.dhash_model.specs.declared.kind.Kind.{Kind}
+use Rattle.dhash_model.specs.State.{alone_node}
 use Rattle.script_driver.specs.Run.{Outcome, Goes, Refuses}
 use Rattle.world_model.specs.Nodes.{Node}
 use Rattle.world_model.specs.World.{NamedSession, World, node_at, peer_of, with_node}
@@ -28,8 +28,9 @@ use Rattle.world_model.specs.Fates.{asking}
 use Rattle.world_model.specs.Ring.{JoinLine, empty_node, joined_node, live_in_order, peer_numbered, stop_line, with_new_node}
 use Rattle.world_model.specs.Ring.JoinLine.{before_ring as join_before_ring, known as join_known, exceeds as join_exceeds, alone as join_alone, joins as join_joins, fails as join_fails}
 use Rattle.world_model.specs.Rounds.{IsRoundOf}
-use Rattle.round_laws.specs.RingOf.{AreNodes, links_in, lives_in, own_node}
-use Rattle.round_laws.specs.Holding.{held_in, rank}
+use Rattle.world_model.specs.RingOf.{lives_in, own_node}
+use Rattle.world_model.specs.Holding.{held_in, rank}
+use Rattle.round_laws.specs.RingOf.{AreNodes, links_in}
 use Rattle.round_laws.proofs.Nodes.{lives_by, lives_shape, order_by, order_shape}
 use Rattle.round_laws.proofs.Order.{lives_order, same_lists}
 use Rattle.round_laws.proofs.Owning.{distinct_ascending, passes}

@@ -7,10 +7,10 @@ use Rattle.ring_model.proofs.Lists.{among_filter}
 use Rattle.dht_ids.specs.Peers.{place}
 use Rattle.dht_ids.specs.declared.peer.Peer.{Peer}
 use Rattle.dht_ids.specs.declared.post.Post.{Post}
-use Rattle.log_heads.specs.Signed.{hss_judged}
+use Rattle.dhash_model.specs.Signed.{hss_judged}
 use Rattle.world_model.specs.Logs.{Played}
 use Rattle.world_model.specs.Ring.{live_in_order}
-use Rattle.round_laws.specs.Holding.{rank}
+use Rattle.world_model.specs.Holding.{rank}
 use Rattle.round_laws.proofs.Nodes.{lives_by, order_by, order_shape}
 use Rattle.round_laws.proofs.Order.{lives_order, same_lists}
 use Rattle.round_laws.proofs.Rounding.{leaves_who_lives}

@@ -3,7 +3,7 @@ use Rattle.std.proofs.Common.{◌≡◌, inl, inr, ⊎_elim, ℕ, ◌+◌, ◌<�
 use Rattle.std.proofs.lemmas.List.{length-map}
 use Rattle.ring_model.specs.Members.{IsAmong, IsAscending}
 use Rattle.ring_model.specs.Ring.{IsCoveredRing}
-use Rattle.log_heads.specs.Signed.{hss_judged}
+use Rattle.dhash_model.specs.Signed.{hss_judged}
 use Rattle.dht_ids.specs.Peers.{place}
 use Rattle.dht_ids.specs.declared.peer.Peer.{Peer}
 use Rattle.script_driver.specs.Run.{Goes}
@@ -11,7 +11,8 @@ use Rattle.world_model.specs.Nodes.{Node}
 use Rattle.world_model.specs.World.{World, peer_of}
 use Rattle.world_model.specs.Ring.{JoinLine, live_in_order, peer_numbered, stop_line}
 use Rattle.world_model.specs.Rounds.{IsRoundOf}
-use Rattle.round_laws.specs.RingOf.{AreNamed, AreNodes, IsSettledIn, links_in, lives_in}
+use Rattle.world_model.specs.RingOf.{lives_in}
+use Rattle.round_laws.specs.RingOf.{AreNamed, AreNodes, IsSettledIn, links_in}
 use Rattle.round_laws.proofs.Nodes.{lives_by, lives_shape, made_by, made_shape, order_by, order_shape}
 use Rattle.round_laws.proofs.Joining.{join_line_joins}
 use Rattle.round_laws.proofs.Owning.{AreDistinct, distinct_ascending}

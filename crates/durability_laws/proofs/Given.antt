@@ -2,18 +2,18 @@
 use Rattle.std.proofs.Common.{◌≡◌, inl, inr, ℕ, cond, ◌++◌, refl, sym, ap, ◌∙◌, subst, Contains}
 use Rattle.std.proofs.lemmas.List.Elements.{Contains-append_left}
 use Rattle.ring_model.proofs.Lists.{all-both}
-use Rattle.log_heads.specs.Signed.{hss_judged}
+use Rattle.dhash_model.specs.Signed.{hss_judged}
+use Rattle.dhash_model.specs.Course.{Told, told_all}
+use Rattle.dhash_model.specs.GetBlock.{IsGetOfBlock}
+use Rattle.dhash_model.specs.GetHead.{IsGetOfHead}
+use Rattle.dhash_model.specs.declared.kind.Kind.{Kind}
+use Rattle.dhash_model.specs.declared.kind.Kind.TheVariants.{Content, Head}
 use Rattle.dht_ids.specs.declared.ask.Ask.TheVariants as ask
 use Rattle.dht_ids.specs.declared.post.Post.{Post}
-use Rattle.dhash_client.specs.Course.{Told, told_all}
-use Rattle.dhash_client.specs.GetBlock.{IsGetOfBlock}
-use Rattle.dhash_client.specs.GetHead.{IsGetOfHead}
-use Rattle.node_store.specs.declared.kind.Kind.{Kind}
-use Rattle.node_store.specs.declared.kind.Kind.TheVariants.{Content, Head}
 use Rattle.world_model.specs.World.{World}
 use Rattle.world_model.specs.Fates.{Fates, asking}
 use Rattle.world_model.specs.Logs.{Played}
-use Rattle.round_laws.specs.Holding.{rank}
+use Rattle.world_model.specs.Holding.{rank}
 use Rattle.world_laws.specs.Calm.{AreAny, BlocksAreGiven, HeadsAreGiven, Stopped, post_rank}
 use Rattle.world_laws.proofs.CalmHeld.{post_rank_is}
 use Rattle.world_laws.proofs.CalmNodes.{IsHeld}

@@ -17,19 +17,19 @@ use Rattle.dht_ids.specs.declared.ask.StoreFault.{StoreFault}
 use Rattle.dht_ids.specs.declared.ask.StoreFault.TheVariants.{WrongName, Older, Full}
 use Rattle.dht_ids.specs.declared.judge.Judged.{Judged}
 use Rattle.dht_ids.specs.declared.peer.Peer.{Peer}
-use Rattle.dhash_client.specs.Puts.{holds}
-use Rattle.log_heads.specs.Signed.{hss_judged}
-use Rattle.node_store.specs.Stores.{Block, Blocks, bytes_held, capacity, content, content_fault, full, head, head_fault, not_judged, number_at, older}
-use Rattle.node_store.specs.declared.kind.Kind.{Kind}
-use Rattle.node_store.specs.declared.kind.Kind.TheVariants.{Content, Head}
+use Rattle.dhash_model.specs.Puts.{holds}
+use Rattle.dhash_model.specs.Signed.{hss_judged}
+use Rattle.dhash_model.specs.Stores.{Block, Blocks, bytes_held, capacity, content, content_fault, full, head, head_fault, not_judged, number_at, older}
+use Rattle.dhash_model.specs.declared.kind.Kind.{Kind}
+use Rattle.dhash_model.specs.declared.kind.Kind.TheVariants.{Content, Head}
 use Rattle.node_store.proofs.Maps.{keys_total}
 use Rattle.world_model.specs.Nodes.{Node, answered, stored}
 use Rattle.world_model.specs.World.{World, node_at, peer_of, with_node}
 use Rattle.world_model.specs.Fates.{FateOf, counted}
 use Rattle.world_model.specs.Fates.FateOf.{lost, stopped, answers}
 use Rattle.world_model.specs.Rounds.{question_as}
-use Rattle.round_laws.specs.RingOf.{own_node}
-use Rattle.round_laws.specs.Holding.{held_in, rank}
+use Rattle.world_model.specs.RingOf.{own_node}
+use Rattle.world_model.specs.Holding.{held_in, rank}
 use Rattle.round_laws.proofs.Nodes.{at, at_id, at_other, at_same, replaced, same_id, same_or_not, ties}
 use Rattle.round_laws.proofs.Standing.{peer_or_not}
 use Rattle.round_laws.proofs.Holding.{held_at, node_here, node_is, node_other}

@@ -19,14 +19,16 @@ use Rattle.ring_model.proofs.Lists.{all_from, none_some}
 use Rattle.log_model.proofs.Lists.{or_cases, or_left, or_right}
 use Rattle.dht_ids.specs.Peers.{place}
 use Rattle.dht_ids.specs.declared.peer.Peer.{Peer}
-use Rattle.log_heads.specs.Signed.{hss_judged}
-use Rattle.node_store.specs.Stores.{Block}
+use Rattle.dhash_model.specs.Signed.{hss_judged}
+use Rattle.dhash_model.specs.Stores.{Block}
 use Rattle.world_model.specs.Nodes.{Node}
 use Rattle.world_model.specs.World.{World, node_at, peer_of}
 use Rattle.world_model.specs.Ring.{live_in_order}
 use Rattle.world_model.specs.Rounds.{IsRoundOf}
-use Rattle.round_laws.specs.RingOf.{AreNodes, IsSettledIn, LosesNone, links_in, lives_in, own_node}
-use Rattle.round_laws.specs.Holding.{AreStores, Tells, held_in}
+use Rattle.world_model.specs.RingOf.{lives_in, own_node}
+use Rattle.world_model.specs.Holding.{held_in}
+use Rattle.round_laws.specs.RingOf.{AreNodes, IsSettledIn, LosesNone, links_in}
+use Rattle.round_laws.specs.Holding.{AreStores, Tells}
 use Rattle.round_laws.proofs.Nodes.{lives_by, order_by, order_shape, same_id, same_peer, ties}
 use Rattle.round_laws.proofs.Order.{order_lives}
 use Rattle.round_laws.proofs.Standing.{lives_are, peer_or_not}

@@ -13,9 +13,9 @@ use Rattle.ring_model.specs.Members.{IsAmong}
 use Rattle.ring_model.proofs.Lists.{among-cases, among-left, among-right}
 use Rattle.ring_model.proofs.Lookups.{IsApart}
 use Rattle.log_model.proofs.Lists.{in_cons, in_nothing}
-use Rattle.node_store.specs.Stores.{Block, Blocks, bytes_held, capacity}
-use Rattle.node_store.specs.declared.kind.Kind.{Kind}
-use Rattle.node_store.specs.declared.kind.Kind.TheVariants.{Content, Head}
+use Rattle.dhash_model.specs.Stores.{Block, Blocks, bytes_held, capacity}
+use Rattle.dhash_model.specs.declared.kind.Kind.{Kind}
+use Rattle.dhash_model.specs.declared.kind.Kind.TheVariants.{Content, Head}
 use Rattle.world_model.specs.World.{World}
 use Rattle.round_laws.proofs.Nodes.{id_itself, not_tied}
 use Rattle.durability_laws.specs.Laws.{IsWithinLimit}

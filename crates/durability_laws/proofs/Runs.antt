@@ -8,9 +8,9 @@ use Rattle.std.proofs.lemmas.Bool.{ltb-false}
 use Rattle.ivy_base.specs.Naming.{key_cmp}
 use Rattle.ring_model.proofs.Lists.{all-among, none_some}
 use Rattle.dht_ids.specs.declared.peer.Peer.{Peer}
-use Rattle.log_heads.specs.Signed.{hss_judged}
+use Rattle.dhash_model.specs.Signed.{hss_judged}
 use Rattle.log_model.proofs.Lists.{in_nothing}
-use Rattle.node_store.specs.Stores.{Blocks}
+use Rattle.dhash_model.specs.Stores.{Blocks}
 use Rattle.script_driver.specs.Run.{Outcome, Goes, Ends, Refuses, Exceeds}
 use Rattle.script_model.specs.declared.command.Command.{Command}
 use Rattle.script_model.specs.declared.command.Command.TheVariants as command
@@ -23,7 +23,8 @@ use Rattle.world_model.specs.Logs.{Played, beside}
 use Rattle.world_model.specs.Ring.{JoinLine, RingLine, stop_line}
 use Rattle.world_model.specs.Rounds.{IsRoundOf}
 use Rattle.world_model.specs.Step.{Does, MayDo, MayDoFirst, WithinLimit, most_bytes}
-use Rattle.round_laws.specs.RingOf.{lives_in, no_links}
+use Rattle.world_model.specs.RingOf.{lives_in}
+use Rattle.round_laws.specs.RingOf.{no_links}
 use Rattle.round_laws.proofs.Nodes.{at, at_among, at_here, shape}
 use Rattle.round_laws.proofs.Holding.{node_is}
 use Rattle.round_laws.proofs.Ringing.{ring_line_settles}

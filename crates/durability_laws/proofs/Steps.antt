@@ -3,7 +3,7 @@ use Rattle.std.proofs.Common.{◌≡◌, ◌⊎◌, ⊎_elim, ap, ℕ, Bool, tru
 use Rattle.std.specs.List.{AllByRecursion}
 use Rattle.ivy_base.specs.declared.key.Key.{Key}
 use Rattle.ring_model.specs.Members.{first}
-use Rattle.log_heads.specs.Signed.{hss_judged}
+use Rattle.dhash_model.specs.Signed.{hss_judged}
 use Rattle.log_model.proofs.Lists.{each_append}
 use Rattle.dht_ids.specs.Asked.{IsForData, told}
 use Rattle.dht_ids.specs.declared.ask.Answer.{Answer}
@@ -13,7 +13,8 @@ use Rattle.dht_ids.specs.declared.ask.Heard.{Heard}
 use Rattle.dht_ids.specs.declared.peer.Peer.{Peer}
 use Rattle.dht_ids.specs.declared.post.Ack.{Ack}
 use Rattle.dht_ids.specs.declared.post.Post.{Post}
-use Rattle.dhash_client.specs.Puts.{holds, is_of_put}
+use Rattle.dhash_model.specs.Puts.{holds, is_of_put}
+use Rattle.dhash_model.specs.declared.kind.Kind.TheVariants.{Content, Head}
 use Rattle.agent_model.specs.Agent.{is_head}
 use Rattle.session_model.specs.Courses.{Fails, LacksMemory}
 use Rattle.session_model.specs.Courses.Fails.{fails, goes_on}
@@ -26,11 +27,10 @@ use Rattle.session_model.specs.Sessions.TakesSome.{none as some_none, more as so
 use Rattle.world_model.specs.Nodes.{Node, answered}
 use Rattle.world_model.specs.World.{World, Participant, node_at, participant, peer_of, with_node, with_participant}
 use Rattle.world_model.specs.Rounds.{question_as}
-use Rattle.round_laws.specs.Holding.{rank}
 use Rattle.world_model.specs.Story.{Began, Story}
 use Rattle.world_model.specs.Fates.{FateOf, counted}
 use Rattle.world_model.specs.Steps.{Scene, acked_by}
-use Rattle.node_store.specs.declared.kind.Kind.TheVariants.{Content, Head}
+use Rattle.world_model.specs.Holding.{rank}
 use Rattle.world_laws.proofs.CalmNodes.{HeldStays, IsHeld, KeepsRings, put_answers, same_rings}
 use Rattle.world_laws.proofs.CalmPuts.{IsHeldFor, block_of, kind_of, question_is}
 use Rattle.world_laws.proofs.CalmStates.{ArePending, IsMore, IsOwnPost, asked_more, found_placed, more_posts, placed, placed_more, placed_pending, posts_at}

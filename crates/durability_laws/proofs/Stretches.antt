@@ -16,7 +16,11 @@ use Rattle.ring_model.proofs.Lists.{all-among, all-both, all-left, all-right, al
 use Rattle.ring_model.proofs.Lookups.{HasFound, lookup_ends}
 use Rattle.ring_model.proofs.Members.{from_place_live}
 use Rattle.ring_model.proofs.Owners.{owners_are}
-use Rattle.log_heads.specs.Signed.{hss_judged}
+use Rattle.dhash_model.specs.Signed.{hss_judged}
+use Rattle.dhash_model.specs.Course.{Told, told_all, outcome}
+use Rattle.dhash_model.specs.Course.IsCourse.{no_route, of_owners}
+use Rattle.dhash_model.specs.Puts.{holds, is_of_put}
+use Rattle.dhash_model.specs.declared.miss.Miss.{Miss}
 use Rattle.dht_ids.specs.Asked.{route_in, routes}
 use Rattle.dht_ids.specs.Peers.{place}
 use Rattle.dht_ids.specs.declared.ask.Answer.{Answer}
@@ -28,11 +32,6 @@ use Rattle.dht_ids.specs.declared.ask.AskKind.TheVariants as kind
 use Rattle.dht_ids.specs.declared.ask.Heard.{Heard}
 use Rattle.dht_ids.specs.declared.peer.Peer.{Peer}
 use Rattle.dht_ids.specs.declared.post.Post.{Post}
-use Rattle.dhash_client.specs.Course.{Told, told_all}
-use Rattle.dhash_client.specs.Course.IsCourse.{no_route, of_owners}
-use Rattle.dhash_client.specs.Machine.{outcome}
-use Rattle.dhash_client.specs.Puts.{holds, is_of_put}
-use Rattle.dhash_client.specs.declared.miss.Miss.{Miss}
 use Rattle.agent_model.specs.Agent.{is_head}
 use Rattle.session_model.specs.Sessions.{IsPutOfPost, acknowledged, put_question}
 use Rattle.world_model.specs.Nodes.{Node, answered}

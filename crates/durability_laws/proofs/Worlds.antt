@@ -10,7 +10,7 @@ use Rattle.dht_ids.specs.declared.ask.AskKind.TheVariants as kind
 use Rattle.dht_ids.specs.declared.ask.Heard.{Heard}
 use Rattle.dht_ids.specs.declared.post.Post.{Post}
 use Rattle.ring_model.specs.Members.{first}
-use Rattle.log_heads.specs.Signed.{hss_judged}
+use Rattle.dhash_model.specs.Signed.{hss_judged}
 use Rattle.log_model.proofs.Lists.{each}
 use Rattle.script_driver.specs.Run.{Goes}
 use Rattle.script_model.specs.declared.command.Command.{Command}
@@ -18,7 +18,7 @@ use Rattle.world_model.specs.World.{NamedSession, Participant, World}
 use Rattle.world_model.specs.Story.{Story}
 use Rattle.world_model.specs.Logs.{Played}
 use Rattle.world_model.specs.Step.{Does}
-use Rattle.round_laws.specs.RingOf.{lives_in}
+use Rattle.world_model.specs.RingOf.{lives_in}
 use Rattle.round_laws.proofs.Nodes.{Shape, lives_by, lives_shape}
 use Rattle.world_laws.specs.Calm.{IsQuiet, Joined, Since, Stopped}
 use Rattle.world_laws.proofs.CalmNodes.{IsRing}

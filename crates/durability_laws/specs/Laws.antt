@@ -8,13 +8,13 @@ use Rattle.ring_model.specs.Members.{IsAmong, owners}
 use Rattle.dht_ids.specs.Peers.{place}
 use Rattle.dht_ids.specs.declared.peer.Peer.{Peer}
 use Rattle.dht_ids.specs.declared.post.Post.{Post}
-use Rattle.log_heads.specs.Signed.{hss_judged}
+use Rattle.dhash_model.specs.Signed.{hss_judged}
 use Rattle.world_model.specs.Logs.{Played}
 use Rattle.world_model.specs.Ring.{live_in_order}
 use Rattle.world_model.specs.Rounds.{IsRoundOf}
 use Rattle.world_model.specs.Step.{most_bytes}
 use Rattle.world_model.specs.World.{World}
-use Rattle.round_laws.specs.RingOf.{lives_in}
+use Rattle.world_model.specs.RingOf.{lives_in}
 use Rattle.world_laws.specs.Calm.{IsCalmAt, Since, Stopped, post_rank, rank_in}
 
 -- What was met is within the limit of a script. So it is before each line that goes on; how much one line meets, as by a snapshot, is bounded by no definition, and stores may be full.

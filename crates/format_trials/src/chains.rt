@@ -3,8 +3,9 @@
 ghost use Rattle.std.specs.Prelude.{◌≡◌, None, IsTrue, IfSome};
 ghost use Rattle.ivy_base.specs.Naming.{head_key_of};
 ghost use Rattle.log_model.specs.Vector.{stamp_at};
+ghost use Rattle.log_model.specs.Fetched.{owner_of};
 ghost use Rattle.log_records.specs.Records.{records_of};
-ghost use Rattle.log_records.specs.Batches.{owner_of, AreOfOneOwner};
+ghost use Rattle.log_records.specs.Batches.{AreOfOneOwner};
 
 use crate::gather::are_of;
 use crate::held::Held;
@@ -24,7 +25,7 @@ fn next_edge(line: &mut Line<'_>) -> Option<Edge> {
         return None;
     }
     let vector = vector_of_word(line, word);
-    Some(Edge { vector })
+    Some(Edge::of_vector(vector))
 }
 
 /// Adds the owner's record that the next word is.
@@ -50,7 +51,7 @@ fn leaves_out(edge: &Option<Edge>, log: &Key) -> bool
     ensures { IsTrue result → IfSome edge.now (λ e. stamp_at e.vector log.now ≡ None) }
 {
     match edge {
-        Some(edge) => edge.vector.get(log).is_none(),
+        Some(edge) => edge.vector().get(log).is_none(),
         None => true,
     }
 }

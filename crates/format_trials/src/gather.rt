@@ -3,7 +3,8 @@
 ghost use Rattle.std.specs.Prelude.{◌≡◌, ◌↔◌, [], Contains, IsTrue, IfSome};
 ghost use Rattle.std.specs.List.{All, AllByRecursion};
 ghost use Rattle.log_records.specs.Records.{records_of};
-ghost use Rattle.log_records.specs.Batches.{AreOfOneOwner, owner_of};
+ghost use Rattle.log_model.specs.Fetched.{owner_of};
+ghost use Rattle.log_records.specs.Batches.{AreOfOneOwner};
 ghost use Rattle.causal_order.specs.AtHand.{IsFetched};
 ghost use Rattle.format_trials.specs.Gathered.{IsGathered};
 

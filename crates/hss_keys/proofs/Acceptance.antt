@@ -13,7 +13,7 @@ use Rattle.hash_signature_model.specs.Signatures.{IsPublicKey, public_key, Signa
 use Rattle.hash_signature_model.specs.Reading.{◌>>=◌, number_at, key_at, whole_key, signature_at, whole_signature}
 use Rattle.hash_signature_model.proofs.Readings.{IsBytes, number_takes, number_again, key_takes, key_again, whole_key_takes, whole_key_again, signature_takes, signature_again, whole_signature_takes, whole_signature_again}
 use Rattle.hss_keys.specs.Hss.{IsSigned, HssAccepts}
-use Rattle.hss_keys.specs.Reading.{Level, is_right, between_of, whole_hss_key, whole_levels, whole_hss_signature, hss_verdict}
+use Rattle.hash_signature_model.specs.Levels.{Level, is_right, between_of, whole_hss_key, whole_levels, whole_hss_signature, hss_verdict}
 
 -- the value of a step that did not fail
 bind_ok : {A B : Type 0} (r : Result A LmsFault) (f : A → Result B LmsFault) (y : B) → (r >>= f) ≡ Ok y → (x : A) × (r ≡ Ok x) × (f x ≡ Ok y)

@@ -16,9 +16,11 @@ use Rattle.hash_signature_model.specs.Reading.{◌>>=◌, number_at, key_at, who
 use Rattle.hash_signature_model.proofs.Chains.{length_chain, length_joined}
 use Rattle.hash_signature_model.proofs.Paths.{length_node}
 use Rattle.hash_signature_model.proofs.Readings.{number_again, key_again, whole_key_again, signature_again, whole_signature_again}
-use Rattle.hss_keys.specs.Reading.{Level, between_of, whole_hss_key, whole_levels, whole_hss_signature, leaves_named}
-use Rattle.hss_keys.specs.Signer.{leaf_used, leaves_used, lower_key, tree_public, signed_by, hss_key_of, hss_signature_of}
-use Rattle.hss_keys.specs.Saved.{AreLevels}
+use Rattle.hash_signature_model.specs.Levels.{Level, between_of, whole_hss_key, whole_levels, whole_hss_signature}
+use Rattle.hash_signature_model.specs.Signer.{leaf_used, lower_key, tree_public, signed_by, hss_key_of, hss_signature_of}
+use Rattle.hash_signature_model.specs.Saved.{AreLevels}
+use Rattle.hss_keys.specs.Reading.{leaves_named}
+use Rattle.hss_keys.specs.Signer.{leaves_used}
 use Rattle.hss_keys.specs.Uses.{SignaturesNameTheirLeaves}
 use Rattle.hss_keys.proofs.Acceptance.{bind_again, level_of, between_again}
 use Rattle.hss_keys.proofs.Signing.{leaf_used_in_tree, lower_id_length}

@@ -7,7 +7,7 @@ use Rattle.hash_signature_model.specs.declared.set.LmsFault.TheVariants.{Malform
 use Rattle.hash_signature_model.specs.declared.keys.PublicKey.{PublicKey}
 use Rattle.hash_signature_model.specs.Signatures.{Signature}
 use Rattle.hash_signature_model.specs.Reading.{◌>>=◌, number_at, key_at, signature_at, whole_signature}
-use Rattle.hss_keys.specs.Reading.{Level, is_right, whole_levels, whole_hss_key, whole_hss_signature, hss_verdict}
+use Rattle.hash_signature_model.specs.Levels.{Level, is_right, whole_levels, whole_hss_key, whole_hss_signature, hss_verdict}
 use Rattle.hss_keys.specs.Checks.{right_levels}
 
 -- a Boolean and the other one in the other order

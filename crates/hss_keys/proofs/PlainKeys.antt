@@ -3,9 +3,9 @@ use Rattle.std.proofs.Common.{◌≡◌, ℕ, ◌+◌, ◌/◌, ◌%◌, ◌<◌
 use Rattle.ivy_base.specs.Naming.{is_named_by_sha256}
 use Rattle.hash_signature_model.specs.OneTime.{word}
 use Rattle.hash_signature_model.specs.declared.set.Set.{Set}
+use Rattle.hash_signature_model.specs.Saved.{IsSigner}
+use Rattle.hash_signature_model.specs.Signer.{Signer, hss_key_of, owner_of, tree_public}
 use Rattle.hss_keys.specs.Hss.{HssAccepts}
-use Rattle.hss_keys.specs.Saved.{IsSigner}
-use Rattle.hss_keys.specs.Signer.{Signer, hss_key_of, owner_of, tree_public}
 
 plain_by : (first : ℕ) (rest : List ℕ) → first ≡ 0 → is_named_by_sha256 (first ∷ rest) ≡ false
 plain_by first rest zero = ap (λ (b : ℕ). is_named_by_sha256 (b ∷ rest)) zero

@@ -10,8 +10,8 @@ use Rattle.wire_model.proofs.Arrays.{AreFew, no_next, no_count, too_many, no_cou
 use Rattle.block_parts.specs.Parts.{as_it_stands}
 use Rattle.block_parts.proofs.OneParts.{one_block}
 use Rattle.hash_signature_model.specs.declared.set.Set.{Set}
-use Rattle.hss_keys.specs.Signer.{Signer, capacity}
-use Rattle.hss_keys.specs.Saved.{set_bytes, saved_bytes, AreOctets, AreLevels, IsSigner}
+use Rattle.hash_signature_model.specs.Signer.{Signer, capacity}
+use Rattle.hash_signature_model.specs.Saved.{set_bytes, saved_bytes, AreOctets, AreLevels, IsSigner}
 use Rattle.hss_keys.specs.ToldApart.{one_set, any_sets, one_secrets, one_levels, one_parts, all_of}
 use Rattle.hss_keys.specs.SavedReading.{secrets_bytes, AreSecrets, parts_bytes, AreParts}
 

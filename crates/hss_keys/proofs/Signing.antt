@@ -11,7 +11,8 @@ use Rattle.hash_signature_model.specs.OneTime.{derived}
 use Rattle.hash_signature_model.proofs.Acceptance.{signature_accepted}
 use Rattle.hash_signature_model.proofs.Paths.{leaves_some}
 use Rattle.hss_keys.specs.Hss.{IsSigned, HssAccepts}
-use Rattle.hss_keys.specs.Signer.{capacity, LowerPlace, leaf_used, lower_key, leaf_signature, tree_public, signed_lower, signed_by, hss_key_of, hss_signature_of, leaves_used, NoLeafTwice, UpperLeafSignsOneKey}
+use Rattle.hash_signature_model.specs.Signer.{capacity, leaf_used, lower_key, leaf_signature, tree_public, signed_lower, signed_by, hss_key_of, hss_signature_of}
+use Rattle.hss_keys.specs.Signer.{LowerPlace, leaves_used, NoLeafTwice, UpperLeafSignsOneKey}
 
 -- ---- how many signatures
 

@@ -1,8 +1,8 @@
 -- What a key signs that is saved and loaded now and then.
 use Rattle.std.proofs.Common.{◌≡◌, ℕ, ◌+◌, List, [], ◌∷◌, refl, sym, ap, subst, ◌∙◌}
 use Rattle.std.specs.Prelude.{map}
-use Rattle.hss_keys.specs.Signer.{Signer, next_signature, one_more_made}
-use Rattle.hss_keys.specs.Saved.{saved_bytes, IsSigner}
+use Rattle.hash_signature_model.specs.Signer.{Signer, next_signature, one_more_made}
+use Rattle.hash_signature_model.specs.Saved.{saved_bytes, IsSigner}
 use Rattle.hss_keys.specs.Uses.{Use, Sign, Save, Load, Makes, signatures_made, LoadsGiveTheSaved, numbered, at_number, signature_numbered, SignaturesAreNumbered}
 use Rattle.hss_keys.specs.ToldApart.{signers_told_apart}
 

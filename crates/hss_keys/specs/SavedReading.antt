@@ -5,9 +5,9 @@ use Rattle.hash_signature_model.specs.declared.set.Width.{Width}
 use Rattle.hash_signature_model.specs.declared.set.Height.{Height}
 use Rattle.hash_signature_model.specs.declared.set.Set.{Set}
 use Rattle.hash_signature_model.specs.Parameters.{levels}
+use Rattle.hash_signature_model.specs.Signer.{Signer}
+use Rattle.hash_signature_model.specs.Saved.{bits, set_bytes, AreOctets, AreLevels}
 use Rattle.hss_keys.specs.declared.save.Saved.{Saved}
-use Rattle.hss_keys.specs.Signer.{Signer}
-use Rattle.hss_keys.specs.Saved.{bits, set_bytes, AreOctets, AreLevels}
 
 abbrev pub width_bytes : Width → List ℕ
 width_bytes w = word (bits w)

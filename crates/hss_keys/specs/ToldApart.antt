@@ -13,8 +13,9 @@ use Rattle.hash_signature_model.specs.declared.set.Height.TheVariants.{H5, H10}
 use Rattle.hash_signature_model.specs.declared.set.Set.{Set}
 use Rattle.hash_signature_model.specs.Parameters.{leaves}
 use Rattle.block_parts.proofs.OneParts.{one_block}
-use Rattle.hss_keys.specs.Signer.{Signer, capacity}
-use Rattle.hss_keys.specs.Saved.{set_bytes, saved_bytes, AreLevels, IsSigner, SavedOnce}
+use Rattle.hash_signature_model.specs.Signer.{Signer, capacity}
+use Rattle.hash_signature_model.specs.Saved.{set_bytes, saved_bytes, AreLevels, IsSigner}
+use Rattle.hss_keys.specs.Saved.{SavedOnce}
 use Rattle.hss_keys.specs.SavedReading.{width_bytes, height_bytes, secrets_bytes, AreSecrets, parts_bytes, AreParts}
 
 -- ---- how many signatures

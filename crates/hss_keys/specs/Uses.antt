@@ -1,8 +1,9 @@
 -- What a key signs that is saved and loaded now and then: a model of its calls, one after the other.
 use Rattle.std.specs.Prelude.{◌≡◌, ℕ, ◌+◌, List, [], ◌∷◌, map, Ok}
-use Rattle.hss_keys.specs.Signer.{Signer, leaves_used, hss_signature_of, owner_of, next_signature, one_more_made}
+use Rattle.hash_signature_model.specs.Signer.{Signer, hss_signature_of, owner_of, next_signature, one_more_made}
+use Rattle.hash_signature_model.specs.Saved.{saved_bytes, IsSigner}
+use Rattle.hss_keys.specs.Signer.{leaves_used}
 use Rattle.hss_keys.specs.Reading.{leaves_named}
-use Rattle.hss_keys.specs.Saved.{saved_bytes, IsSigner}
 
 -- what is done with a key: it signs a message, it is saved, or what was saved last is loaded in its place
 pub data Use : Type 0 where

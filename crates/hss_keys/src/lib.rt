@@ -25,12 +25,12 @@
 //! Definitions:
 //! - `specs/Hss.antt` says by `HssAccepts` when a signature is accepted, level by level over `Accepts` of
 //!   `hash_signature_model`.
-//! - `specs/Reading.antt` says by `hss_verdict` which fault counts, and by `leaves_named` which leaves stand
-//!   in a signature. `proofs/Acceptance.antt` proves that its yes and `HssAccepts` are one.
-//! - `specs/Signer.antt` has the signer's side: which leaves signature n uses, how the lower trees are
-//!   derived, and the bytes.
-//! - `specs/Saved.antt` has the bytes of a saved key, and `specs/Uses.antt` what a key signs that is saved
-//!   and loaded.
+//! - `hash_signature_model` says by `hss_verdict` (`specs/Levels.antt` there) which fault counts.
+//!   `proofs/Acceptance.antt` proves that its yes and `HssAccepts` are one. It also has the signer's side:
+//!   how the lower trees are derived, each signature, and the bytes of a saved key.
+//! - `specs/Reading.antt` says by `leaves_named` which leaves stand in a signature, `specs/Signer.antt` which
+//!   leaves signature n uses, and `specs/Saved.antt` that saved bytes are of one signer.
+//! - `specs/Uses.antt` has what a key signs that is saved and loaded.
 //! - `specs/Checks.antt` and `specs/SavedReading.antt` serve the functions inside.
 //!
 //! Costs: nothing allocates in [`Hss::verify`], and nothing is copied but a level's key. A signature is

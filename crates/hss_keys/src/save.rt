@@ -4,8 +4,9 @@ ghost use Rattle.std.specs.Prelude.{◌≡◌, ℕ, ◌+◌, ◌*◌, ◌<◌, �
 ghost use Rattle.std.specs.List.{AllByRecursion, flat_map};
 ghost use Rattle.wire_model.specs.Xdr.{array, IsAny, AreSoMany};
 ghost use Rattle.wire_model.specs.OneReading.{IsFront, HasNoFront};
-ghost use Rattle.hss_keys.specs.Signer.{Signer};
-ghost use Rattle.hss_keys.specs.Saved.{bits, set_bytes, saved_bytes, AreLevels, IsSigner, SavedOnce};
+ghost use Rattle.hash_signature_model.specs.Signer.{Signer};
+ghost use Rattle.hash_signature_model.specs.Saved.{bits, set_bytes, saved_bytes, AreLevels, IsSigner};
+ghost use Rattle.hss_keys.specs.Saved.{SavedOnce};
 ghost use Rattle.hss_keys.specs.SavedReading.{width_bytes, height_bytes, secrets_bytes, AreSecrets, parts_bytes, AreParts, said};
 
 use crate::spelling::count_messages;

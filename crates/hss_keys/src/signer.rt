@@ -3,7 +3,7 @@
 ghost use Rattle.std.specs.Prelude.{◌≡◌, ◌↔◌, ◌<◌, ◌≤◌, length, Err, IfOk, OnOk, OnErr};
 ghost use Rattle.dht_ids.specs.declared.signature.SignFault.TheVariants.{Spent};
 ghost use Rattle.hss_keys.specs.Hss.{HssAccepts};
-ghost use Rattle.hss_keys.specs.Signer.{left_of, owner_of, next_signature, one_more_made};
+ghost use Rattle.hash_signature_model.specs.Signer.{left_of, owner_of, next_signature, one_more_made};
 
 mod saving;
 
@@ -28,8 +28,8 @@ pub struct Hss {
 
 impl Model for Hss {
     ghost use Rattle.std.specs.Prelude.{◌≡◌, ◌≤◌, ◌∷◌, length};
-    ghost use Rattle.hss_keys.specs.Signer.{Signer, capacity};
-    ghost use Rattle.hss_keys.specs.Saved.{AreOctets};
+    ghost use Rattle.hash_signature_model.specs.Signer.{Signer, capacity};
+    ghost use Rattle.hash_signature_model.specs.Saved.{AreOctets};
 
     ghost Value = { Signer };
 

@@ -62,7 +62,7 @@ pub trait Signs: Sized {
 
 impl Signs for Hss {
     ghost use Rattle.hss_keys.specs.Hss.{HssAccepts};
-    ghost use Rattle.hss_keys.specs.Saved.{hss, IsSigner};
+    ghost use Rattle.hash_signature_model.specs.Saved.{hss, IsSigner};
     ghost use Rattle.hss_keys.specs.ToldApart.{signers_told_apart};
 
     ghost signing = { hss };

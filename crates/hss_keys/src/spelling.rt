@@ -2,7 +2,7 @@
 
 ghost use Rattle.std.specs.Prelude.{◌≡◌, [], ◌<◌, ◌≤◌, ◌++◌, length, IfOk, OnOk};
 ghost use Rattle.hash_signature_model.specs.Parameters.{leaves};
-ghost use Rattle.hss_keys.specs.Signer.{signed_by, leaf_used, capacity};
+ghost use Rattle.hash_signature_model.specs.Signer.{signed_by, leaf_used, capacity};
 
 use crate::trees::{Level, Lower};
 use ivy_base::Memory;

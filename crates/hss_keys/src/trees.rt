@@ -2,7 +2,7 @@
 
 ghost use Rattle.std.specs.Prelude.{◌≡◌, ◌<◌, ◌++◌, IfOk, OnOk, IsTrue};
 ghost use Rattle.hash_signature_model.specs.Parameters.{leaves};
-ghost use Rattle.hss_keys.specs.Signer.{lower_key, leaf_signature, tree_public, signed_lower};
+ghost use Rattle.hash_signature_model.specs.Signer.{lower_key, leaf_signature, tree_public, signed_lower};
 
 use ivy_base::{Bytes, Memory};
 use lms_core::{PrivateKey, Set, Tree, lower_id, lower_seed};
@@ -100,7 +100,8 @@ pub struct Lower {
 
 impl Model for Lower {
     ghost use Rattle.std.specs.Prelude.{◌≡◌};
-    ghost use Rattle.hss_keys.specs.Signer.{LowerPlace, lower_key, signed_lower};
+    ghost use Rattle.hash_signature_model.specs.Signer.{lower_key, signed_lower};
+    ghost use Rattle.hss_keys.specs.Signer.{LowerPlace};
 
     ghost Value = { LowerPlace };
 

@@ -3,9 +3,9 @@
 ghost use Rattle.std.specs.Prelude.{◌≡◌, ◌↔◌, IsOk, IfOk, take};
 ghost use Rattle.hash_signature_model.specs.Signatures.{IsSignature};
 ghost use Rattle.hash_signature_model.specs.Reading.{number_at, key_at};
+ghost use Rattle.hash_signature_model.specs.Levels.{is_right, between_of, whole_hss_key, hss_verdict};
 ghost use Rattle.lms_core.specs.Readers.{Gives, fields_of};
 ghost use Rattle.hss_keys.specs.Hss.{HssAccepts};
-ghost use Rattle.hss_keys.specs.Reading.{is_right, between_of, whole_hss_key, hss_verdict};
 ghost use Rattle.hss_keys.specs.Checks.{right_levels};
 
 use crate::Hss;
@@ -29,7 +29,7 @@ fn read_number(bytes: &[u8]) -> Result<(u32, &[u8]), LmsFault>
 }
 
 /// L - 1, where L is 1 to 3.
-#[tactic(auto, unfolding(crate::specs::Reading::between_of))]
+#[tactic(auto, unfolding(hash_signature_model::specs::Levels::between_of))]
 fn keys_between(levels: u32) -> Result<u32, LmsFault>
     ensures { Gives (λ x. x) result (between_of levels) }
 {
@@ -42,7 +42,7 @@ fn keys_between(levels: u32) -> Result<u32, LmsFault>
 }
 
 /// A public key that is all of the bytes: L - 1 for its L, and the top level's key (RFC 8554, section 6.1).
-#[tactic(auto, unfolding(crate::specs::Reading::whole_hss_key, hash_signature_model::specs::Reading::whole_key))]
+#[tactic(auto, unfolding(hash_signature_model::specs::Levels::whole_hss_key, hash_signature_model::specs::Reading::whole_key))]
 fn read_hss_key(bytes: &[u8]) -> Result<(u32, PublicKey), LmsFault>
     ensures { Gives (λ x. x) result (whole_hss_key bytes.now) }
 {
@@ -105,7 +105,7 @@ fn check_levels(
 }
 
 /// The answer about a public key, a message and a signature.
-#[tactic(auto, unfolding(crate::specs::Reading::hss_verdict, crate::specs::Reading::whole_hss_signature))]
+#[tactic(auto, unfolding(hash_signature_model::specs::Levels::hss_verdict, hash_signature_model::specs::Levels::whole_hss_signature))]
 fn judge(public: &[u8], message: &[u8], signature: &[u8]) -> Result<(), LmsFault>
     ensures { result ≡ hss_verdict public.now message.now signature.now }
 {

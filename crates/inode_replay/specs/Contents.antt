@@ -5,7 +5,7 @@ use Rattle.ivy_base.specs.declared.operation.Moment.{Moment}
 use Rattle.ivy_base.specs.declared.operation.Change.{Change}
 use Rattle.ivy_base.specs.declared.operation.Op.{Op}
 use Rattle.ivy_base.specs.declared.operation.Op.TheVariants as op
-use Rattle.tree_model.specs.Tree.{Inode, file_kind}
+use Rattle.tree_model.specs.Tree.{Inode, file_kind, longest_file}
 use Rattle.tree_model.specs.Apply.{overwritten, set_attributes}
 
 -- ---- which operations
@@ -15,14 +15,10 @@ abbrev pub MakesInode : Op → Type 0
 MakesInode (op.Inode number kind mode uid gid target) = Unit {0}
 MakesInode _ = ⊥
 
--- where a file's bytes end at most
-abbrev pub most_bytes : ℕ
-most_bytes = 16777216
-
 -- a Write or a SetAttrs, as a record's body may have it: no file ends past the limit
 abbrev pub ChangesContent : Op → Type 0
-ChangesContent (op.Write number offset bytes) = offset + length bytes ≤ most_bytes
-ChangesContent (op.SetAttrs number change) = IfSome change.size (λ size. size ≤ most_bytes)
+ChangesContent (op.Write number offset bytes) = offset + length bytes ≤ longest_file
+ChangesContent (op.SetAttrs number change) = IfSome change.size (λ size. size ≤ longest_file)
 ChangesContent _ = ⊥
 
 -- ---- what they make

@@ -16,7 +16,7 @@ use Rattle.replay_engine.specs.Engines.{Engine, holding, taken_in}
 use Rattle.replay_engine.specs.Places.{AreNew, first_place}
 use Rattle.replay_engine.proofs.Placed.{taken_row}
 use Rattle.log_model.specs.Signing.{Signing}
-use Rattle.agent_model.specs.Taking.{with_new}
+use Rattle.turn_laws.specs.Taking.{with_new}
 use Rattle.ivy_agent.specs.Answering.{Answers}
 use Rattle.ivy_agent.specs.declared.saving.Kept.{Kept}
 use Rattle.ivy_agent.specs.declared.writing.Done.{Done}

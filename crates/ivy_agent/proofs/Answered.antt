@@ -19,7 +19,7 @@ use Rattle.replay_engine.specs.Places.{AreNew}
 use Rattle.nfs_laws.specs.Lengths.{AnswersFit, FinishesFit, PlansFit}
 use Rattle.log_model.specs.Signing.{Signing}
 use Rattle.agent_model.specs.Agent.{joined, own_key}
-use Rattle.agent_model.specs.Taking.{TakesNew, refresh_with, with_new}
+use Rattle.turn_laws.specs.Taking.{TakesNew, refresh_with, with_new}
 use Rattle.ivy_agent.specs.Answering.{Answers, MayGoOn}
 use Rattle.ivy_agent.specs.Taking.{MayTakeFrom, TakesAndAnswers}
 use Rattle.ivy_agent.specs.declared.saving.Kept.{Kept}

@@ -19,7 +19,7 @@ use Rattle.log_model.proofs.Lists.{each, each_from}
 use Rattle.log_records.specs.Batches.{Batch}
 use Rattle.log_records.specs.Records.{records_of}
 use Rattle.version_vectors.specs.Vectors.{IsVector}
-use Rattle.view_blocks.specs.Faults.{HasKeys}
+use Rattle.log_model.specs.ViewKeys.{HasKeys}
 use Rattle.wire_model.specs.Xdr.{IsAny}
 use Rattle.causal_order.specs.Over.{IsClosed}
 use Rattle.nfs_model.specs.declared.replies.Reply.{Reply}
@@ -41,7 +41,7 @@ use Rattle.log_model.specs.Signing.{Signing}
 use Rattle.agent_model.specs.Agent.{Agent, Kept as Saved, failed, joined, kept_of, own_key, own_reach}
 use Rattle.agent_model.specs.SavedBytes.{ArePostsSpelled, IsKept, kept_bytes}
 use Rattle.agent_model.specs.Standing.{going_on}
-use Rattle.agent_model.specs.Taking.{TakesNew, refresh_with, with_new}
+use Rattle.turn_laws.specs.Taking.{TakesNew, refresh_with, with_new}
 use Rattle.agent_model.specs.Turning.{Answered, AreNext, Becomes, IsByDefinition, MayTake, MayWrite, Turns, loses, reads, taking, with_held, written_by}
 use Rattle.agent_model.specs.Turning as turning
 use Rattle.ivy_agent.specs.Answering.{Answers, IsCall, MayGoOn, goes_by, replies, served_on, writes}

@@ -1,5 +1,5 @@
 -- The keeper is blamed only where its count rose, or where it had failed before.
-use Rattle.std.proofs.Common.{◌≡◌, ◌⊎◌, ℕ, ◌+◌, ◌≤◌, Bool, true, false, cond, List, Option, Some, None, Result, Ok, Err, inl, inr, refl, sym, subst, ◌∙◌, arith}
+use Rattle.std.proofs.Common.{◌≡◌, ℕ, ◌+◌, Bool, true, false, cond, List, Option, Some, None, Result, Ok, Err, inl, inr, refl, sym, subst, ◌∙◌, arith}
 use Rattle.std.specs.Prelude.{IfSome, IsSomeAnd}
 use Rattle.ivy_base.specs.declared.operation.Moment.{Moment}
 use Rattle.ivy_base.specs.declared.operation.Op.{Op}
@@ -36,7 +36,7 @@ use Rattle.ivy_agent.specs.declared.fault.RestartFault.{RestartFault}
 use Rattle.ivy_agent.specs.declared.fault.RestartFault.TheVariants as restart
 use Rattle.ivy_agent.specs.declared.saving.Kept.{Kept}
 use Rattle.ivy_agent.specs.declared.writing.Done.{Done}
-use Rattle.ivy_agent.proofs.Faultless.{IsPlainPlan, answer_is_plain, finish_is_plain, is_plain, is_plain_plan, plain_differs, plan_is_plain, told_plain, told_planned}
+use Rattle.nfs_laws.proofs.Faultless.{IsPlainPlan, answer_is_plain, finish_is_plain, is_plain, is_plain_plan, plain_differs, plan_is_plain, told_plain, told_planned}
 
 -- a count that was counted on has risen
 pub rose_by_one : (before now : ℕ) → now ≡ counted before → Rose before now

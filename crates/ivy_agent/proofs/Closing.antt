@@ -1,6 +1,6 @@
 -- What is held over a basis's front is closed with the records that a turn writes behind it.
 use Rattle.std.proofs.Common.{◌≡◌, ◌⊎◌, inl, inr, ⊎_elim, ℕ, ◌+◌, ◌<◌, ◌≤◌, Bool, true, false, cond, not, List, [], ◌∷◌, ◌++◌, map, Option, Some, None, refl, sym, ap, ◌∙◌, subst, append_assoc, arith, Contains}
-use Rattle.std.specs.Prelude.{IsTrue, fold}
+use Rattle.std.specs.Prelude.{IsTrue}
 use Rattle.std.specs.List.{AllByRecursion}
 use Rattle.std.specs.Cmp.{eq_by_cmp_equiv}
 use Rattle.std.specs.Option.{option_map_or}
@@ -24,7 +24,7 @@ use Rattle.log_model.specs.Vector.{Entry, Stamp, Vector, Dominates, reach, seq_o
 use Rattle.log_model.specs.View.{View, IsView, is_member}
 use Rattle.log_model.proofs.Chains.{last_after, GoesOn-push}
 use Rattle.log_model.proofs.Later.{last_in, last_push, seq_with}
-use Rattle.log_model.proofs.Lists.{each, each_append, each_from, from_filter, here, in_filter, in_nothing}
+use Rattle.log_model.proofs.Lists.{each, each_append, each_from, from_filter, in_filter, in_nothing}
 use Rattle.log_model.proofs.Opening.{same_owner}
 use Rattle.log_model.proofs.Owners.{owner_itself}
 use Rattle.log_model.proofs.Part.{numbers_from, log_push}

@@ -1,5 +1,5 @@
 -- A turn on what is held is the definition's turn.
-use Rattle.std.proofs.Common.{◌≡◌, ℕ, Bool, true, false, List, [], ◌++◌, map, fold, Option, refl, sym, ap, ◌∙◌}
+use Rattle.std.proofs.Common.{◌≡◌, Bool, true, false, List, [], ◌++◌, map, fold, Option, refl, sym, ap, ◌∙◌}
 use Rattle.std.proofs.lemmas.List.{append-nil, map-append}
 use Rattle.std.proofs.lemmas.List.Sums.{fold-append}
 use Rattle.nfs_model.specs.Changing.{finish}
@@ -9,12 +9,12 @@ use Rattle.ivy_base.specs.declared.operation.Moment.{Moment}
 use Rattle.ivy_base.specs.declared.operation.Op.{Op}
 use Rattle.ivy_base.specs.Naming.{NamesTellApart, head_key_of}
 use Rattle.log_model.specs.View.{View, IsView}
-use Rattle.log_model.specs.Vector.{Stamp, Vector, join, seq_of}
+use Rattle.log_model.specs.Vector.{Vector, join, seq_of}
 use Rattle.log_model.specs.Record.{Record}
 use Rattle.log_model.specs.Rank.{front, full_vector}
 use Rattle.log_model.specs.Closed.{IsClosed}
 use Rattle.log_model.specs.Replay.{replay}
-use Rattle.log_records.specs.declared.edge.Edge.{Edge}
+use Rattle.log_model.specs.Fetched.{Edge}
 use Rattle.log_records.specs.Batches.{Batch, AreUnder}
 use Rattle.nfs_model.specs.declared.replies.Reply.{Reply}
 use Rattle.turn_model.specs.Basis.{Basis, Holding, HoldsAll, Knows, kept_tree}
@@ -27,9 +27,9 @@ use Rattle.ivy_agent.proofs.Records.{written_is_appended}
 use Rattle.ivy_agent.proofs.ServedTurns.{inputs_with_save, replies_whatever_is_saved, writes_are_saved}
 use Rattle.log_model.specs.Signing.{Signing}
 use Rattle.agent_model.specs.Agent.{Agent, joined, own}
-use Rattle.agent_model.specs.Candidates.{MayTurn}
-use Rattle.agent_model.specs.Standing.{Standing, going_on}
-use Rattle.agent_model.specs.Taking.{TakesNew, refresh_with, with_new}
+use Rattle.agent_model.specs.Candidates.{Grounds, MayTurn}
+use Rattle.agent_model.specs.Standing.{going_on}
+use Rattle.turn_laws.specs.Taking.{TakesNew, refresh_with, with_new}
 use Rattle.agent_model.specs.Turning.{IsByDefinition, IsTurnBy, IsTurnOf, inputs_before, with_held}
 use Rattle.turn_laws.specs.Laws.{IsTakenBy}
 use Rattle.turn_laws.proofs.Taken.{going_is_gone_on, taken_is_by_definition}
@@ -54,9 +54,9 @@ module _ {S : Type 0} (signs : Signing S) (a : Agent S) (view : View) (batch : B
   abbrev served : Served
   served = serve_on by (kept_tree held) (seq_of (joined held) (head_key_of (own signs a))) asked now
 
-  module _ (heads : Key → List Stamp) (met : List (List ℕ)) (s : Standing) (knew known : List Record) (apart : NamesTellApart met) (knows : Knows view a.floor a.holding known) (may : MayTurn heads met view (own signs a) s knew known (refresh_with batch basis)) where
-    its : (taken : List Record) × IsTakenBy heads met view s knew known batch.held held taken
-    its = taken_is_by_definition heads met view (own signs a) a.floor a.holding (going_on a basis) s knew known batch basis edges new apart well knows (going_is_gone_on a basis) may under takes
+  module _ (grounds : Grounds) (known : List Record) (apart : NamesTellApart grounds.met) (knows : Knows view a.floor a.holding known) (may : MayTurn grounds view (own signs a) known (refresh_with batch basis)) where
+    its : (taken : List Record) × IsTakenBy (record { grounds = grounds; started = batch.held }) view known held taken
+    its = taken_is_by_definition grounds view (own signs a) a.floor a.holding (going_on a basis) known batch basis edges new apart well knows (going_is_gone_on a basis) may under takes
 
     abbrev taken : List Record
     taken = its.0
@@ -76,7 +76,7 @@ module _ {S : Type 0} (signs : Signing S) (a : Agent S) (view : View) (batch : B
     served_is : serve_on by (replay taken) (own_seq (own signs a) taken) asked now ≡ served
     served_is = (λ i. serve_on by (sym tree_is i) (seq_is i) asked now)
 
-    turn_by : (fails : Bool) (turned : Turned) → turned ≡ turn_on (with_save by fails) taken asked now → IsTurnBy signs (record { heads = heads; met = met; standing = s; knew = knew; started = batch.held }) (record { agent = a; view = view; now = now; fails = fails }) known asked taken turned
+    turn_by : (fails : Bool) (turned : Turned) → turned ≡ turn_on (with_save by fails) taken asked now → IsTurnBy signs (record { grounds = grounds; started = batch.held }) (record { agent = a; view = view; now = now; fails = fails }) known asked taken turned
     turn_by fails turned is = record {
       candidates = its.1.candidates;
       of_heads = its.1.of_heads;
@@ -85,7 +85,7 @@ module _ {S : Type 0} (signs : Signing S) (a : Agent S) (view : View) (batch : B
     }
 
     module _ (fails : Bool) (reply : Reply) (is : served ≡ Replies reply) where
-      of_replies : IsTurnOf signs (record { heads = heads; met = met; standing = s; knew = knew; started = batch.held }) (record { agent = a; view = view; now = now; fails = fails }) known asked held [] reply
+      of_replies : IsTurnOf signs (record { grounds = grounds; started = batch.held }) (record { agent = a; view = view; now = now; fails = fails }) known asked held [] reply
       of_replies =
           let law = replies_whatever_is_saved by taken asked now reply (served_is ∙ is) in
           let turned : Turned = record { reply = reply; set = taken } in
@@ -108,7 +108,7 @@ module _ {S : Type 0} (signs : Signing S) (a : Agent S) (view : View) (batch : B
       same : (taken ++ written ≡ appended (own signs a) One now taken ops) × (kept_tree (with_held held written) ≡ replay (appended (own signs a) One now taken ops))
       same = written_is_appended view (own signs a) now taken held ops closed its.1.holds front_is
 
-      of_saved : IsTurnOf signs (record { heads = heads; met = met; standing = s; knew = knew; started = batch.held }) (record { agent = a; view = view; now = now; fails = false }) known asked held written (written_reply view asked ops held written)
+      of_saved : IsTurnOf signs (record { grounds = grounds; started = batch.held }) (record { agent = a; view = view; now = now; fails = false }) known asked held written (written_reply view asked ops held written)
       of_saved = record {
         taken = taken;
         turned = turned_by by taken asked now (Writes ops);
@@ -118,7 +118,7 @@ module _ {S : Type 0} (signs : Signing S) (a : Agent S) (view : View) (batch : B
         holds = its.1.holds;
       }
 
-      of_lost : IsTurnOf signs (record { heads = heads; met = met; standing = s; knew = knew; started = batch.held }) (record { agent = a; view = view; now = now; fails = true }) known asked held written (lost_reply asked)
+      of_lost : IsTurnOf signs (record { grounds = grounds; started = batch.held }) (record { agent = a; view = view; now = now; fails = true }) known asked held written (lost_reply asked)
       of_lost = record {
         taken = taken;
         turned = record { reply = lost_reply asked; set = taken };
@@ -130,12 +130,12 @@ module _ {S : Type 0} (signs : Signing S) (a : Agent S) (view : View) (batch : B
 
   -- where it replies, whatever would become of a save
   pub replies_by_definition : (fails : Bool) (reply : Reply) → served ≡ Replies reply → IsByDefinition signs (refresh_with batch basis) (record { agent = a; view = view; now = now; fails = fails }) asked held [] reply
-  replies_by_definition fails reply is heads met s knew known apart knows may = of_replies heads met s knew known apart knows may fails reply is
+  replies_by_definition fails reply is grounds known apart knows may = of_replies grounds known apart knows may fails reply is
 
   -- where it writes and saves
   pub saved_by_definition : (ops : List Op) → served ≡ Writes ops → IsByDefinition signs (refresh_with batch basis) (record { agent = a; view = view; now = now; fails = false }) asked held (written_over (own signs a) now (joined held) ops) (written_reply view asked ops held (written_over (own signs a) now (joined held) ops))
-  saved_by_definition ops is heads met s knew known apart knows may = of_saved heads met s knew known apart knows may ops is
+  saved_by_definition ops is grounds known apart knows may = of_saved grounds known apart knows may ops is
 
   -- where the save fails
   pub lost_by_definition : (ops : List Op) → served ≡ Writes ops → IsByDefinition signs (refresh_with batch basis) (record { agent = a; view = view; now = now; fails = true }) asked held (written_over (own signs a) now (joined held) ops) (lost_reply asked)
-  lost_by_definition ops is heads met s knew known apart knows may = of_lost heads met s knew known apart knows may ops is
+  lost_by_definition ops is grounds known apart knows may = of_lost grounds known apart knows may ops is

@@ -12,7 +12,7 @@ use Rattle.replay_engine.specs.Engines.{Engine, holding}
 use Rattle.log_model.specs.Signing.{Signing}
 use Rattle.agent_model.specs.Agent.{Agent, own, own_key}
 use Rattle.agent_model.specs.Standing.{going_on}
-use Rattle.agent_model.specs.Taking.{refresh_with}
+use Rattle.turn_laws.specs.Taking.{refresh_with}
 use Rattle.agent_model.specs.Turning.{is_behind, is_below_tide}
 use Rattle.ivy_agent.specs.Answering.{IsCall}
 use Rattle.ivy_agent.specs.Holders.{Holder, IsSound, agent_of}
@@ -24,6 +24,7 @@ use Rattle.ivy_agent.specs.declared.taking.Refusal.TheVariants as refusal
 use Rattle.ivy_agent.specs.declared.writing.Done.{Done}
 use Rattle.ivy_agent.proofs.Becoming.{ends_answered}
 use Rattle.ivy_agent.proofs.Going.{of_view}
+use Rattle.nfs_model.specs.Results.{longest_result}
 
 module _ {K S : Type 0} (signs : Signing S) (IsWhole : S → Type 0) (saves : K → List ℕ → Bool → K → Type 0) (asked : Asked) (now : Moment) (k : Kept S) (e : Engine) (to_load : Option Key) (has_failed : Bool) (keeper : K)
     (before : Holder K S) (is : record { agent = agent_of k e to_load has_failed; keeper = keeper } ≡ before) (front : Vector) (sound : IsSound signs (agent_of k e to_load has_failed) k.log front) (batch : Batch) where
@@ -60,7 +61,7 @@ module _ {K S : Type 0} (signs : Signing S) (IsWhole : S → Type 0) (saves : K 
         (ends view in_view basis (subst (λ (g : Holding). MayTakeFrom view (own_key signs k.signer) k.floor g batch) (sym going) from)
         (subst (λ (g : Holding). TakesAndAnswers signs IsWhole saves view batch asked now k has_failed g keeper k_after (holding e_after) keeper_after done) (sym going) t)).1
 
-    pub short_from : (h : Holding) (o : Option View) → MayFrom h o → Takes h o → length done.turned.reply ≤ 32772
+    pub short_from : (h : Holding) (o : Option View) → MayFrom h o → Takes h o → length done.turned.reply ≤ longest_result
     short_from h None from t = absurd from
     short_from h (Some view) from t = t.short
 

@@ -13,8 +13,8 @@ use Rattle.log_model.proofs.Opening.{same_owner}
 use Rattle.wire_model.specs.Xdr.{IsAny}
 use Rattle.turn_model.specs.Basis.{nothing_held}
 use Rattle.replay_engine.specs.Engines.{Engine, holding}
-use Rattle.view_blocks.specs.Faults.{HasKeys}
 use Rattle.log_model.specs.Signing.{Signing}
+use Rattle.log_model.specs.ViewKeys.{HasKeys}
 use Rattle.agent_model.specs.Agent.{Agent, entered, failed, kept_of, own}
 use Rattle.agent_model.specs.SavedBytes.{IsKept, kept_bytes}
 use Rattle.agent_model.specs.Views.{Entering, entering, entering_with, is_own_member, is_refused_in, not_named, was_former}

@@ -10,7 +10,7 @@ use Rattle.log_model.specs.View.{View, IsView, is_named}
 use Rattle.log_model.proofs.Lists.{each, each_from}
 use Rattle.log_records.specs.Batches.{Batch}
 use Rattle.version_vectors.specs.Vectors.{EntryFits, IsVector}
-use Rattle.view_blocks.specs.Faults.{HasKeys}
+use Rattle.log_model.specs.ViewKeys.{HasKeys}
 use Rattle.causal_order.specs.Over.{GoesOnFrom, IsClosed}
 use Rattle.turn_laws.proofs.Entries.{at_stamp}
 use Rattle.turn_laws.proofs.Whole.{at_entry}

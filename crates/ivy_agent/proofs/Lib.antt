@@ -21,7 +21,6 @@ pub mod Trees
 pub mod News
 pub mod Takes
 pub mod Short
-pub mod Faultless
 pub mod Caused
 pub mod Answered
 pub mod Citing
@@ -34,6 +33,7 @@ pub mod Dropped
 pub mod Restarted
 pub mod Snapped
 pub mod Told
+mod Untold
 pub mod Views
 pub mod Bounds
 pub mod ServedTurns

@@ -16,8 +16,7 @@ use Rattle.log_model.specs.Record.{Record}
 use Rattle.log_model.specs.Vector.{stamp_at}
 use Rattle.log_model.proofs.Lists.{each, who_passes}
 use Rattle.log_model.proofs.Opening.{same_owner}
-use Rattle.log_records.specs.declared.edge.Edge.{Edge}
-use Rattle.log_records.specs.Batches.{as_edge}
+use Rattle.log_model.specs.Fetched.{Edge, as_edge}
 use Rattle.log_fetch.specs.Edges.{AreEdges}
 use Rattle.ivy_agent.specs.Edges.{newest_edges, put_under, KnowsOthers}
 

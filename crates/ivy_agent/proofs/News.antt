@@ -24,7 +24,7 @@ use Rattle.turn_taking.specs.Taking.{IsWithin}
 use Rattle.turn_taking.proofs.HeldFront.{good_in}
 use Rattle.replay_engine.specs.Places.{AreNew}
 use Rattle.agent_model.specs.Standing.{Refresh}
-use Rattle.agent_model.specs.Taking.{TakesNew, with_new}
+use Rattle.turn_laws.specs.Taking.{TakesNew, with_new}
 use Rattle.ivy_agent.specs.Answering.{MayGoOn}
 use Rattle.ivy_agent.specs.Bounds.{HasBounds}
 use Rattle.ivy_agent.proofs.Trees.{bounds_replayed}

@@ -6,7 +6,7 @@ use Rattle.std.specs.Ordering.{eq_by_cmp}
 use Rattle.ivy_base.specs.declared.key.PubKey.{PubKey}
 use Rattle.ivy_base.specs.Naming.{head_key_of, owner_cmp}
 use Rattle.log_records.specs.declared.record.Record.{Record}
-use Rattle.log_records.specs.Batches.{as_edge}
+use Rattle.log_model.specs.Fetched.{as_edge}
 use Rattle.log_records.specs.Records.{record_of, records_of}
 use Rattle.log_fetch.specs.declared.edges.Edge as kept
 use Rattle.log_fetch.specs.Edges.{AreEdges, edges_of}

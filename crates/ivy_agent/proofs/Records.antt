@@ -20,7 +20,7 @@ use Rattle.log_model.specs.Record.{Record}
 use Rattle.log_model.specs.Replay.{effect}
 use Rattle.log_model.specs.Spelling.{new_record, record_block, no_name, HasSpelling, IsKey, IsMoment}
 use Rattle.log_model.specs.Vector.{Entry, Stamp, Vector, reach, seq_of, stamp_at, weight_of, without_log, Dominates}
-use Rattle.log_model.specs.View.{View, IsView, is_named}
+use Rattle.log_model.specs.View.{View, IsView, is_named, most_cited}
 use Rattle.log_model.proofs.Lists.{each, each_append, each_from}
 use Rattle.log_model.proofs.Later.{apply_more, good_of, name_is_key, replay_more}
 use Rattle.log_model.proofs.Part.{found_stamp}
@@ -61,7 +61,7 @@ pub record MayCite (view : View) (own : PubKey) (v : Vector) : Type 0 where
   pub in_order : Sorted v
   pub of_others : stamp_at v (head_key_of own) ≡ None
   pub entries : AllByRecursion IsSpelled v
-  pub short : length v ≤ 32
+  pub short : length v ≤ most_cited
   pub named : AllByRecursion (λ e. IsTrue (is_named view e.0)) v
 
 pub new_is_good : (view : View) (own : PubKey) (n : ℕ) (prev : Key) (v : Vector) (now : Moment) (op : Op) → MayCite view own v → IsMoment now → 2 ≤ n → IsKey prev → MayBeWritten own n op → IsGood view own (new_record (heading own v now) n prev op)

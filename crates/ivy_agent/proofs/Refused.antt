@@ -10,7 +10,7 @@ use Rattle.log_fetch.specs.declared.standing.Standing.{Standing}
 use Rattle.log_fetch.specs.Standings.{standing_of}
 use Rattle.log_model.specs.Signing.{Signing}
 use Rattle.agent_model.specs.Standing.{Refresh, anew_in, going_on}
-use Rattle.agent_model.specs.Taking.{refresh_with}
+use Rattle.turn_laws.specs.Taking.{refresh_with}
 use Rattle.agent_model.specs.Turning.{TurnEnd, Turns}
 use Rattle.agent_model.specs.Turning as turning
 use Rattle.ivy_agent.specs.Holders.{Holder}

@@ -19,7 +19,7 @@ use Rattle.nfs_model.specs.declared.replies.Wcc.{Wcc}
 use Rattle.nfs_model.specs.declared.replies.WccBefore.{WccBefore}
 use Rattle.nfs_model.specs.Changing.{Plan, Refuse, Nothing, Operations, is_changing, plan}
 use Rattle.nfs_model.specs.Reading.{answer}
-use Rattle.nfs_model.specs.Results.{before, fattr, result, status_number, tail, wcc}
+use Rattle.nfs_model.specs.Results.{before, fattr, result, status_number, tail, wcc, longest_result}
 use Rattle.nfs_laws.specs.Lengths.{AnswersFit, FinishesFit, IsShortPlan, PlansFit}
 use Rattle.turn_model.specs.Basis.{Holding, kept_tree}
 use Rattle.turn_model.specs.Turn.{Inputs, Asked, bare_tail}
@@ -34,7 +34,7 @@ use Rattle.ivy_agent.specs.declared.saving.Kept.{Kept}
 use Rattle.ivy_agent.specs.declared.writing.Done.{Done}
 
 abbrev pub IsShort : Reply → Type 0
-IsShort r = length (result r) ≤ 32772
+IsShort r = length (result r) ≤ longest_result
 
 -- ---- refusals
 
@@ -93,9 +93,9 @@ module _ (answers : AnswersFit) (plans : PlansFit) (finishes : FinishesFit) wher
   -- what is answered on what is held
   module _ {K S : Type 0} (signs : Signing S) (IsWhole : S → Type 0) (saves : K → List ℕ → Bool → K → Type 0) (view : View) (asked : Asked) (now : Moment) (k : Kept S) (has_failed : Bool) (h : Holding) (front : Vector) (keeper : K) (applied : ℕ)
       (k_after : Kept S) (h_after : Holding) (keeper_after : K) (done : Done) (bounds : HasBounds (kept_tree h)) where
-    pub answered_short : Answers signs IsWhole saves view asked now k has_failed h front keeper applied k_after h_after keeper_after done → length done.turned.reply ≤ 32772
+    pub answered_short : Answers signs IsWhole saves view asked now k has_failed h front keeper applied k_after h_after keeper_after done → length done.turned.reply ≤ longest_result
     answered_short (replies reply served kept held keeper_is front_is failed given) =
-        subst (λ (bytes : List ℕ). length bytes ≤ 32772) (sym given.bytes) (served_short (goes_by signs view k has_failed) (kept_tree h) (seq_of front k.log) asked now reply bounds served)
+        subst (λ (bytes : List ℕ). length bytes ≤ longest_result) (sym given.bytes) (served_short (goes_by signs view k has_failed) (kept_tree h) (seq_of front k.log) asked now reply bounds served)
     answered_short (writes ops served at w) = by done.has_failed w.written.given.bytes
       where
         planned : plan (kept_tree h) view asked.caller asked.args now (goes_by signs view k has_failed).own (seq_of front k.log + 1) ≡ Operations ops
@@ -105,5 +105,5 @@ module _ (answers : AnswersFit) (plans : PlansFit) (finishes : FinishesFit) wher
         written_short true = refused_short ServerFault (bare_tail asked.args)
         written_short false = finishes (kept_tree h) (kept_tree (with_held h (records_of w.draft.records.items))) view asked.caller asked.args now (goes_by signs view k has_failed).own (seq_of front k.log + 1) ops bounds.numbers planned
 
-        by : (b : Bool) → done.turned.reply ≡ result (cond b (lost_reply asked) (written_reply view asked ops h (records_of w.draft.records.items))) → length done.turned.reply ≤ 32772
-        by b is = subst (λ (bytes : List ℕ). length bytes ≤ 32772) (sym is) (written_short b)
+        by : (b : Bool) → done.turned.reply ≡ result (cond b (lost_reply asked) (written_reply view asked ops h (records_of w.draft.records.items))) → length done.turned.reply ≤ longest_result
+        by b is = subst (λ (bytes : List ℕ). length bytes ≤ longest_result) (sym is) (written_short b)

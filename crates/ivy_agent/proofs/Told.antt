@@ -5,15 +5,17 @@ use Rattle.std.specs.List.{AllByRecursion}
 use Rattle.ivy_base.specs.declared.key.Key.{Key}
 use Rattle.ivy_base.specs.declared.key.PubKey.{PubKey}
 use Rattle.log_model.specs.Record.{Record}
-use Rattle.log_model.specs.Spelling.{HasSpelling}
+use Rattle.log_model.specs.Spelling.{HasSpelling, IsKey}
 use Rattle.log_model.specs.Vector.{Vector}
 use Rattle.log_model.specs.View.{View}
 use Rattle.log_model.proofs.Lists.{each, each_from}
+use Rattle.dht_ids.specs.declared.post.Post.{Post}
 use Rattle.replay_engine.specs.Rows.{IsRow}
 use Rattle.log_fetch.specs.Standings.{standing_of}
 use Rattle.log_fetch.specs.declared.standing.Standing.{Standing}
 use Rattle.replay_engine.specs.Engines.{Engine, holding}
 use Rattle.log_model.specs.Signing.{Signing}
+use Rattle.agent_model.specs.SavedBytes.{AreOpaque, ArePostsSpelled, HasItsName}
 use Rattle.agent_model.specs.Standing.{standing_in}
 use Rattle.ivy_agent.specs.Edges.{KnowsOthers, newest_edges}
 use Rattle.ivy_agent.specs.Holders.{Holder, IsSound, agent_of}
@@ -23,6 +25,13 @@ use Rattle.ivy_agent.proofs.Drafting.{owner_is}
 -- a record knows nothing of its own log
 pub know_others : (rs : List Record) → IsRow rs → AllByRecursion KnowsOthers rs
 know_others rs row = each_from KnowsOthers rs (λ r c. (each HasSpelling rs r row.spelled c).of_others)
+
+-- posts that have a spelling have their names
+have_names : (posts : List Post) → ArePostsSpelled posts → AllByRecursion HasItsName posts
+have_names posts h = each_from HasItsName posts (λ p c. (each (λ q. IsKey q.key × HasItsName q × AreOpaque q.bytes) posts p h.each c).1)
+
+pub told_named : {told : List Post} (posts : List Post) → told ≡ posts → ArePostsSpelled posts → AllByRecursion HasItsName told
+told_named posts same h = subst (λ (told : List Post). AllByRecursion HasItsName told) (sym same) (have_names posts h)
 
 module _ {K S : Type 0} (signs : Signing S) (k : Kept S) (e : Engine) (to_load : Option Key) (has_failed : Bool) (keeper : K) (before : Holder K S) (is : record { agent = agent_of k e to_load has_failed; keeper = keeper } ≡ before)
     (front : Vector) (sound : IsSound signs (agent_of k e to_load has_failed) k.log front) where

@@ -1,9 +1,11 @@
 -- Calls of an agent by a pass, which may come to one of several agents.
-use Rattle.std.specs.Prelude.{◌≡◌, ℕ, Bool, List, Option, IfOk, IfSome, Result}
+use Rattle.std.specs.Prelude.{◌≡◌, ℕ, Bool, List, [], ◌∷◌, ◌++◌, Option, option_map, IfOk, IfSome, Result, Ok, Err}
 use Rattle.ivy_base.specs.declared.memory.Memory.{Memory}
 use Rattle.ivy_base.specs.declared.operation.Moment.{Moment}
 use Rattle.dht_ids.specs.declared.post.Ack.{Ack}
 use Rattle.log_model.specs.View.{View}
+use Rattle.log_fetch.specs.declared.asked.Asked.{Asked as Asked_}
+use Rattle.log_fetch.specs.declared.refresh.Refresh.{Refresh as Refresh_}
 use Rattle.log_fetch.specs.declared.standing.Standing.{Standing}
 use Rattle.log_fetch.specs.declared.turned.Turned.{Turned}
 use Rattle.log_fetch.specs.declared.turned.TurnFault.{TurnFault}
@@ -14,6 +16,18 @@ use Rattle.agent_model.specs.Others.{settled}
 use Rattle.agent_model.specs.Standing.{Refresh, standing_in}
 use Rattle.ivy_agent.specs.Holders.{Holder}
 use Rattle.ivy_agent.specs.Turns.{TakesTurn}
+
+-- a turn that was answered: with what the refresh brought, on which call, at which moment, and what it gave
+pub record Made : Type 0 where
+  pub refresh : Refresh_
+  pub asked : Asked_
+  pub now : Moment
+  pub turned : Turned
+
+-- Where the turns are told, one that was answered is the newest of them, and one that wasn't is none.
+abbrev pub MadeThen : Option (List Made) → Option (List Made) → Refresh_ → Asked_ → Moment → Result Turned TurnFault → Type 0
+MadeThen old new refresh asked now (Ok turned) = new ≡ option_map (λ made. made ++ record { refresh = refresh; asked = asked; now = now; turned = turned } ∷ []) old
+MadeThen old new refresh asked now (Err fault) = new ≡ old
 
 -- What a call is: that of an agent in its view to which it may come, and that it may leave so.
 

@@ -1,5 +1,5 @@
 -- When it is told that the keeper failed.
-use Rattle.std.specs.Prelude.{◌≡◌, ◌⊎◌, ℕ, Bool, true, List, Result, Ok, Err}
+use Rattle.std.specs.Prelude.{◌≡◌, ◌⊎◌, ℕ, Bool, true, Result, Err}
 use Rattle.ivy_io.specs.Causes.{Rose}
 use Rattle.nfs_model.specs.declared.replies.NfsStatus.TheVariants.{ServerFault}
 use Rattle.nfs_model.specs.declared.replies.Reply.TheVariants.{Refused}

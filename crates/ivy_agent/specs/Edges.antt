@@ -5,8 +5,7 @@ use Rattle.ivy_base.specs.declared.key.Key.{Key}
 use Rattle.ivy_base.specs.Naming.{head_key_of, key_cmp}
 use Rattle.log_model.specs.Vector.{stamp_at}
 use Rattle.log_model.specs.Record.{Record}
-use Rattle.log_records.specs.declared.edge.Edge.{Edge}
-use Rattle.log_records.specs.Batches.{as_edge}
+use Rattle.log_model.specs.Fetched.{Edge, as_edge}
 
 -- of each log the edge of its newest record
 abbrev pub newest_edges : List Record → List (Key × Edge)

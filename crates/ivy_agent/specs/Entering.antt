@@ -2,8 +2,8 @@
 use Rattle.std.specs.Prelude.{◌≡◌, ℕ, Bool, true, false, IsTrue, IfSome, List, Contains, Some, None, option_map, Result, Ok, Err}
 use Rattle.std.specs.List.{AllByRecursion}
 use Rattle.log_model.specs.View.{View, IsView, is_named}
-use Rattle.view_blocks.specs.Faults.{HasKeys}
 use Rattle.log_model.specs.Signing.{Signing}
+use Rattle.log_model.specs.ViewKeys.{HasKeys}
 use Rattle.agent_model.specs.Agent.{Agent, entered, failed, kept_of, own}
 use Rattle.agent_model.specs.SavedBytes.{IsKept, kept_bytes}
 use Rattle.agent_model.specs.Views.{Entering, entering}

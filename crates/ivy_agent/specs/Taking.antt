@@ -9,15 +9,15 @@ use Rattle.log_model.specs.Record.{Record}
 use Rattle.log_model.specs.Spelling.{most_records}
 use Rattle.log_model.specs.Vector.{Vector, seq_of}
 use Rattle.log_model.specs.View.{View}
-use Rattle.log_records.specs.declared.edge.Edge.{Edge}
-use Rattle.log_records.specs.Batches.{Batch, AreUnder, owner_of}
+use Rattle.log_records.specs.Batches.{Batch, AreUnder}
 use Rattle.causal_order.specs.Over.{IsClosed}
 use Rattle.turn_model.specs.Basis.{Holding}
 use Rattle.turn_model.specs.Turn.{Asked}
 use Rattle.turn_model.specs.Work.{applied_between}
 use Rattle.log_model.specs.Signing.{Signing}
+use Rattle.log_model.specs.Fetched.{Edge, owner_of}
 use Rattle.agent_model.specs.Agent.{joined, own_key}
-use Rattle.agent_model.specs.Taking.{TakesNew, refresh_with, with_new}
+use Rattle.turn_laws.specs.Taking.{TakesNew, refresh_with, with_new}
 use Rattle.agent_model.specs.Turning.{is_behind, is_below_tide}
 use Rattle.turn_taking.specs.Taking.{IsWithin}
 use Rattle.version_vectors.specs.Vectors.{IsVector}
@@ -27,6 +27,7 @@ use Rattle.ivy_agent.specs.declared.saving.Kept.{Kept}
 use Rattle.ivy_agent.specs.declared.writing.Done.{Done}
 use Rattle.ivy_agent.specs.declared.taking.Refusal.{Refusal}
 use Rattle.ivy_agent.specs.declared.taking.Refusal.TheVariants as refusal
+use Rattle.nfs_model.specs.Results.{longest_result}
 
 -- a turn of the view's member may go on from that, with the batch: it was fetched under the view, of its members
 pub record MayTakeFrom (view : View) (own : PubKey) (floor : Vector) (h : Holding) (b : Batch) : Type 0 where
@@ -48,7 +49,7 @@ module _ {K S : Type 0} (signs : Signing S) (IsWhole : S → Type 0) (saves : K 
     pub inside : IsWithin view (own_key signs k.signer) k.floor (joined (with_new h new))
     pub base : IsVector h.basis.front
     pub front : IsVector (joined (with_new h new))
-    pub short : length done.turned.reply ≤ 32772
+    pub short : length done.turned.reply ≤ longest_result
     pub answers : Answers signs IsWhole saves view asked now k has_failed (with_new h new) (joined (with_new h new)) keeper (applied_between h.held (with_new h new).held) k_after h_after keeper_after done
 
   abbrev pub TurnsOn : Result Done Refusal → Kept S → Holding → K → Type 0

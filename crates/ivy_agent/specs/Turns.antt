@@ -4,8 +4,7 @@ use Rattle.std.specs.List.{AllByRecursion}
 use Rattle.ivy_base.specs.declared.key.Key.{Key}
 use Rattle.ivy_base.specs.declared.operation.Moment.{Moment}
 use Rattle.log_model.specs.View.{View}
-use Rattle.log_records.specs.declared.edge.Edge.{Edge}
-use Rattle.log_records.specs.Batches.{Batch, AreUnder, owner_of}
+use Rattle.log_records.specs.Batches.{Batch, AreUnder}
 use Rattle.nfs_model.specs.declared.replies.Reply.{Reply}
 use Rattle.nfs_model.specs.Results.{result as bytes_of}
 use Rattle.turn_model.specs.Basis.{Basis, Holding, nothing_held}
@@ -13,10 +12,11 @@ use Rattle.turn_model.specs.Turn.{Asked}
 use Rattle.log_fetch.specs.declared.standing.Standing.{Standing}
 use Rattle.log_fetch.specs.Standings.{standing_of}
 use Rattle.log_model.specs.Signing.{Signing}
+use Rattle.log_model.specs.Fetched.{Edge, owner_of}
 use Rattle.agent_model.specs.Agent.{Agent, Kept, joined, own}
 use Rattle.agent_model.specs.SavedBytes.{IsKept, kept_bytes}
 use Rattle.agent_model.specs.Standing.{Refresh, anew_in, going_on}
-use Rattle.agent_model.specs.Taking.{refresh_with}
+use Rattle.turn_laws.specs.Taking.{refresh_with}
 use Rattle.agent_model.specs.Turning.{TurnEnd, Behind, BelowTide, Answered, Turns, is_behind, is_below_tide}
 use Rattle.ivy_agent.specs.Holders.{Holder}
 use Rattle.ivy_agent.specs.Saves.{Saves}

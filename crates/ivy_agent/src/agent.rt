@@ -1,11 +1,13 @@
 //! Agents.
 
 ghost use Rattle.std.specs.Prelude.{◌≡◌, ◌≤◌, ◌+◌, length, Option, None, false, IfOk, OnOk, OnErr, IfSome, IsSomeAnd, option_map};
+ghost use Rattle.std.specs.List.{AllByRecursion};
 ghost use Rattle.ivy_io.specs.Keepers.{with_plan};
 ghost use Rattle.log_records.specs.Records.{records_of};
 ghost use Rattle.turn_model.specs.Basis.{Basis, kept_tree};
 ghost use Rattle.agent_model.specs.Others.{settled};
 ghost use Rattle.agent_model.specs.Agent.{joined, own};
+ghost use Rattle.agent_model.specs.SavedBytes.{HasItsName};
 ghost use Rattle.agent_model.specs.Standing.{anew_in, going_on, standing_in};
 ghost use Rattle.log_fetch.specs.Standings.{asked_of, refresh_of, standing_of};
 ghost use Rattle.replay_engine.specs.Engines.{holding};
@@ -17,6 +19,7 @@ ghost use Rattle.ivy_agent.specs.Bounds.{HasBounds};
 ghost use Rattle.ivy_agent.specs.Causes.{EnterHasCause, MakeHasCause, MayEnterHasCause, ReplyHasCause};
 ghost use Rattle.ivy_agent.specs.Taking.{MayTakeFrom};
 ghost use Rattle.ivy_agent.specs.Turns.{ComesFrom, ComesTo, IsFetchedIn, Refuses, TakesTurn, dropping};
+ghost use Rattle.nfs_model.specs.Results.{longest_result};
 
 mod restarting;
 mod snapping;
@@ -185,10 +188,11 @@ impl<K: Keeper, S: Signs> Agent<K, S> {
         }
     }
 
-    /// What a session is given of the agent. The error is want of memory.
+    /// What a session is given of the agent, whose posts have their names. The error is want of memory.
     pub fn standing(&self, alloc: Global) -> Result<Standing, Memory>
         requires { IsSomeAnd self.now.agent.view (λ view. Unit {0}) }
-        ensures { IfOk result (λ s. IfSome self.now.agent.view (λ view. standing_of s ≡ standing_in S.signing self.now.agent view)) }
+        ensures stands { IfOk result (λ s. IfSome self.now.agent.view (λ view. standing_of s ≡ standing_in S.signing self.now.agent view)) }
+        ensures named { IfOk result (λ s. AllByRecursion HasItsName s.pending) }
     {
         let Some(view) = &self.kept.view else {
             unreachable!();
@@ -336,7 +340,7 @@ impl<K: Keeper, S: Signs + Drop> Agent<K, S> {
         ensures turn { IfSome self.old.agent.view (λ view. TakesTurn S.signing S.is_whole K.saves view (refresh_of refresh) (asked_of asked.now) now self.old result self.new) }
         ensures steps { IfOk result (λ turned. steps.new ≡ steps.old + turned.applied) }
         ensures cause { IfOk result (λ turned. ReplyHasCause (K.faults self.old.keeper) (K.faults self.new.keeper) self.old.agent.has_failed turned) }
-        ensures short { IfOk result (λ turned. length turned.reply ≤ 32772) }
+        ensures short { IfOk result (λ turned. length turned.reply ≤ longest_result) }
     {
         match self.take_turn(alloc, refresh, asked, now, steps) {
             Ok(turned) => Ok(turned),
@@ -360,7 +364,7 @@ impl<K: Keeper, S: Signs + Drop> Agent<K, S> {
         ensures turn { IfSome self.old.agent.view (λ view. ComesTo S.signing S.is_whole K.saves view (refresh_of refresh) (asked_of asked.now) now self.old result self.new) }
         ensures steps { IfOk result (λ turned. steps.new ≡ steps.old + turned.applied) }
         ensures cause { IfOk result (λ turned. ReplyHasCause (K.faults self.old.keeper) (K.faults self.new.keeper) self.old.agent.has_failed turned) }
-        ensures short { IfOk result (λ turned. length turned.reply ≤ 32772) }
+        ensures short { IfOk result (λ turned. length turned.reply ≤ longest_result) }
     {
         let Refresh { batch, basis } = refresh;
         match ground_of(alloc, self.to_load, &self.kept.floor, basis) {
@@ -384,7 +388,7 @@ impl<K: Keeper, S: Signs + Drop> Agent<K, S> {
         ensures turn { IfSome self.old.agent.view (λ view. ComesFrom S.signing S.is_whole K.saves view batch (asked_of asked.now) now self.old self.old.agent.holding result self.new) }
         ensures steps { IfOk result (λ turned. steps.new ≡ steps.old + turned.applied) }
         ensures cause { IfOk result (λ turned. ReplyHasCause (K.faults self.old.keeper) (K.faults self.new.keeper) self.old.agent.has_failed turned) }
-        ensures short { IfOk result (λ turned. length turned.reply ≤ 32772) }
+        ensures short { IfOk result (λ turned. length turned.reply ≤ longest_result) }
     {
         let done = turn_on(
             alloc,
@@ -421,7 +425,7 @@ impl<K: Keeper, S: Signs + Drop> Agent<K, S> {
         ensures turn { IfSome self.old.agent.view (λ view. ComesFrom S.signing S.is_whole K.saves view batch (asked_of asked.now) now self.old (holding ground.engine) result self.new) }
         ensures steps { IfOk result (λ turned. steps.new ≡ steps.old + turned.applied) }
         ensures cause { IfOk result (λ turned. ReplyHasCause (K.faults self.old.keeper) (K.faults self.new.keeper) self.old.agent.has_failed turned) }
-        ensures short { IfOk result (λ turned. length turned.reply ≤ 32772) }
+        ensures short { IfOk result (λ turned. length turned.reply ≤ longest_result) }
     {
         let done = turn_on(
             alloc,

@@ -65,7 +65,8 @@
 //! [`Turns`] is what a session wants of its agent, by a pass: a standing, a turn, and the settling of what
 //! was published. The agent that a pass reaches may be open, since others may have been there before. Each
 //! call is that call of one agent that the pass may reach, in the view that all these are in, and leaves that
-//! agent as the call does (`specs/Calls.antt`). With [`Single`] the pass is the agent itself. Lemmas to cite:
+//! agent as the call does (`specs/Calls.antt`). The turns that were answered by a pass may be told. A call may
+//! wait for the agent. With [`Single`] the pass is the agent itself ([`turn_alone`]). Lemmas to cite:
 //! `proofs/Views.antt` (a turn leaves an agent in its view) and `proofs/Bounds.antt`. The latter: what a
 //! refresh brings may be given to a turn, since the tree of a loaded basis has the bounds of an agent's.
 //!
@@ -127,6 +128,6 @@ pub use agent::Agent;
 pub use fault::{EnterFault, MakeFault, RestartFault, SnapFault};
 pub use laws::{fronts_have_the_newest, turns_are_served, written_records_go_on};
 pub use serving::{On, Served, serve};
-pub use single::Single;
+pub use single::{Single, turn_alone};
 pub use turns::Turns;
 pub use written::{Before, Written, front_with, newest_of, write_over, write_records};

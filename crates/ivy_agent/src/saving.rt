@@ -6,10 +6,11 @@ ghost use Rattle.wire_model.specs.Xdr.{word, opaque, array, optional};
 ghost use Rattle.xdr_codec.specs.Writing.{padded};
 ghost use Rattle.log_model.specs.Spelling.{vector_entry};
 ghost use Rattle.agent_model.specs.Agent.{own_key};
-ghost use Rattle.agent_model.specs.SavedBytes.{kept_bytes, kind_number, post_bytes, view_bytes};
+ghost use Rattle.agent_model.specs.SavedBytes.{kept_bytes, kind_number, post_bytes, view_bytes, saved_tag};
 ghost use Rattle.ivy_agent.specs.Saves.{saved_of, AreShort, HasSaved, IsWholeAfter};
 ghost use Rattle.ivy_agent.specs.Causes.{SaveHasCause};
 
+use agent_saves::SAVED_TAG;
 use block_parts::opaque_len;
 use dht_ids::{Post, PostKind, Posts};
 use hss_keys::Signs;
@@ -19,9 +20,6 @@ use std::alloc::Global;
 use version_vectors::Vector;
 use view_blocks::View;
 use xdr_codec::XdrWrite;
-
-/// What the saved bytes of an agent begin with.
-const MAGIC: [u8; 4] = *b"IVK1";
 
 /// What is saved of an agent.
 pub struct Kept<S> {
@@ -126,7 +124,7 @@ fn write(
     posts: &[Post],
     snapshot: Option<Key>,
 ) -> Result<Bytes, Memory>
-    ensures { IfOk result (λ bytes. bytes ≡ 73 ∷ 86 ∷ 75 ∷ 49 ∷ opaque signer.now ++ opaque view.now ++ word reach ++ array vector_entry floor.now ++ array post_bytes posts.now ++ optional (λ name. name.0) snapshot) }
+    ensures { IfOk result (λ bytes. bytes ≡ saved_tag ++ opaque signer.now ++ opaque view.now ++ word reach ++ array vector_entry floor.now ++ array post_bytes posts.now ++ optional (λ name. name.0) snapshot) }
 {
     let (Some(front), Some(back)) = (front_len(signer, view, floor), posts_len(posts)) else {
         return Err(Memory);
@@ -163,10 +161,10 @@ fn put_front(out: &mut XdrWrite, signer: &[u8], view: &[u8], reach: u32, floor: 
     requires signer { length signer.now < 2 ^ 32 }
     requires view { length view.now < 2 ^ 32 }
     requires floor { length floor.now < 2 ^ 32 }
-    ensures written { out.new.written ≡ out.old.written ++ (73 ∷ 86 ∷ 75 ∷ 49 ∷ opaque signer.now ++ opaque view.now ++ word reach ++ array vector_entry floor.now) }
+    ensures written { out.new.written ≡ out.old.written ++ (saved_tag ++ opaque signer.now ++ opaque view.now ++ word reach ++ array vector_entry floor.now) }
     ensures spare { out.new.spare + (8 + (4 + padded (length signer.now)) + (4 + padded (length view.now)) + length (array vector_entry floor.now)) ≡ out.old.spare }
 {
-    out.put_fixed(&MAGIC);
+    out.put_fixed(&SAVED_TAG);
     out.put_opaque(signer);
     out.put_opaque(view);
     out.put_u32(reach);

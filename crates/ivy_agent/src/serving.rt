@@ -20,7 +20,7 @@ use std::alloc::Global;
 use view_blocks::View;
 
 /// The most records of a log.
-const MOST_RECORDS: usize = 1_048_576;
+const MOST_RECORDS: usize = log_records::MOST_RECORDS as usize;
 
 /// What a call is served on: the tree that stands, and what the turn goes by.
 #[derive(Clone, Copy)]

@@ -1,10 +1,11 @@
 //! An agent that nobody shares.
 
-ghost use Rattle.std.specs.Prelude.{◌≡◌, ◌≤◌, ◌<◌, length, IfOk, IfSome, IsSomeAnd};
+ghost use Rattle.std.specs.Prelude.{◌≡◌, ◌≤◌, ◌<◌, length, None, IfOk, IfSome, IsSomeAnd};
 ghost use Rattle.log_fetch.specs.Standings.{asked_of, refresh_of};
 ghost use Rattle.ivy_agent.specs.Answering.{IsCall};
 ghost use Rattle.ivy_agent.specs.Bounds.{HasBounds};
 ghost use Rattle.ivy_agent.specs.Turns.{IsFetchedIn, TakesTurn};
+ghost use Rattle.nfs_model.specs.Results.{longest_result};
 
 use crate::agent::Agent;
 use crate::turns::Turns;
@@ -15,6 +16,7 @@ use ivy_io::Keeper;
 use log_fetch::{Asked, Refresh, Standing, TurnFault, Turned};
 use std::alloc::Global;
 use std::marker::Brand;
+use std::sync::Wait;
 use std::sync::ledger::{Blank, Ledger};
 
 /// Turns of an agent that nobody shares: the pass is the agent.
@@ -24,30 +26,57 @@ pub struct Single;
 impl<K: Keeper, S: Signs + Drop> Turns<K, S> for Single {
     type Pass = Agent<K, S>;
 
+    ghost fits = { λ _ _. Unit {0} };
+
     ghost comes = { λ _ pass found. found ≡ pass };
 
     ghost leaves = { λ _ pass left. left ≡ pass };
 
     ghost view = { λ _ pass. pass.agent.view };
 
-    fn standing(&self, alloc: Global, pass: &mut Agent<K, S>) -> Result<Standing, Memory> {
+    ghost made = { λ _ _. None };
+
+    fn standing<R: Wait>(
+        &self,
+        _rt: &R,
+        alloc: Global,
+        pass: &mut Agent<K, S>,
+    ) -> Result<Standing, Memory> {
         pass.standing(alloc)
     }
 
-    fn turn(
+    fn turn<R: Wait>(
         &self,
+        _rt: &R,
         alloc: Global,
         pass: &mut Agent<K, S>,
         refresh: Refresh,
         asked: &Asked,
         now: Moment,
     ) -> Result<Turned, TurnFault> {
-        turn_in::<K, S, Brand>(alloc, pass, refresh, asked, now, Blank::new(1))
+        turn_alone(alloc, pass, refresh, asked, now)
     }
 
-    fn settle(&self, pass: &mut Agent<K, S>, acks: &Acks) {
+    fn settle<R: Wait>(&self, _rt: &R, pass: &mut Agent<K, S>, acks: &Acks) {
         pass.settle(acks);
     }
+}
+
+/// A turn of the agent, as [`Agent::turn`] takes it; nobody asks how many records were applied.
+pub fn turn_alone<K: Keeper, S: Signs + Drop>(
+    alloc: Global,
+    agent: &mut Agent<K, S>,
+    refresh: Refresh,
+    asked: &Asked,
+    now: Moment,
+) -> Result<Turned, TurnFault>
+    requires batch { IsSomeAnd agent.old.agent.view (λ view. IsFetchedIn view refresh.batch) }
+    requires bounds { IfSome refresh.basis (λ basis. HasBounds basis.tree) }
+    requires call { IsCall (asked_of asked.now) now }
+    ensures turn { IfSome agent.old.agent.view (λ view. TakesTurn S.signing S.is_whole K.saves view (refresh_of refresh) (asked_of asked.now) now agent.old result agent.new) }
+    ensures short { IfOk result (λ turned. length turned.reply ≤ longest_result) }
+{
+    turn_in::<K, S, Brand>(alloc, agent, refresh, asked, now, Blank::new(1))
 }
 
 /// A turn of the agent, whose records are counted in the ledger of the blank.
@@ -65,7 +94,7 @@ fn turn_in<K: Keeper, S: Signs + Drop, L: Ledger>(
     requires bounds { IfSome refresh.basis (λ basis. HasBounds basis.tree) }
     requires call { IsCall (asked_of asked.now) now }
     ensures turn { IfSome agent.old.agent.view (λ view. TakesTurn S.signing S.is_whole K.saves view (refresh_of refresh) (asked_of asked.now) now agent.old result agent.new) }
-    ensures short { IfOk result (λ turned. length turned.reply ≤ 32772) }
+    ensures short { IfOk result (λ turned. length turned.reply ≤ longest_result) }
 {
     let mut steps = Steps::<L>::new(blank);
     agent.turn(alloc, refresh, asked, now, &mut steps)

@@ -21,6 +21,7 @@ use dht_ids::{Post, PostKind, Posts};
 use hss_keys::Signs;
 use ivy_base::{Key, Memory};
 use ivy_io::Keeper;
+use log_records::MOST_WEIGHED;
 use replay_engine::Engine;
 use snapshot_store::{Block, make};
 use std::alloc::Global;
@@ -59,16 +60,13 @@ pub fn snapshot_of(
     })
 }
 
-/// The most entries of a vector whose weight is asked for. A record cites 32 logs at most.
-const MOST_CITED: usize = 2_147_483_648;
-
 /// The greatest rank of what is held, or that of the basis. The error is that of [`snapshot_of`].
 fn tide_of(engine: &Engine) -> Result<Option<Rank>, Memory>
     ensures { IfOk result (λ tide. option_map rank_of tide ≡ last_or (holding engine.now).basis.tide (map rank (holding engine.now).held)) }
 {
     match engine.records().last() {
         Some(newest) => {
-            if newest.vector.len() > MOST_CITED {
+            if newest.vector.len() > MOST_WEIGHED {
                 return Err(Memory);
             }
             Ok(Some(newest.rank()))

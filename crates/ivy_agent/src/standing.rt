@@ -5,7 +5,7 @@ ghost use Rattle.std.specs.List.{AllByRecursion, list_any, position_or_len};
 ghost use Rattle.std.specs.Ordering.{is_lt};
 ghost use Rattle.ivy_base.specs.Naming.{key_cmp, head_key_of};
 ghost use Rattle.tree_model.specs.Tree.{same_key};
-ghost use Rattle.log_records.specs.Batches.{as_edge};
+ghost use Rattle.log_model.specs.Fetched.{as_edge};
 ghost use Rattle.log_records.specs.Records.{record_of, records_of};
 ghost use Rattle.log_fetch.specs.Edges.{edges_of};
 ghost use Rattle.log_fetch.specs.Standings.{standing_of};

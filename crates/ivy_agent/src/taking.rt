@@ -13,7 +13,7 @@ ghost use Rattle.replay_engine.specs.Engines.{holding};
 ghost use Rattle.replay_engine.specs.Places.{AreNew};
 ghost use Rattle.turn_model.specs.Work.{applied_between};
 ghost use Rattle.agent_model.specs.Agent.{joined, own_key};
-ghost use Rattle.agent_model.specs.Taking.{with_new};
+ghost use Rattle.turn_laws.specs.Taking.{with_new};
 ghost use Rattle.turn_taking.specs.Taking.{Takes};
 ghost use Rattle.ivy_agent.specs.Answering.{Answers, IsCall, MayGoOn};
 ghost use Rattle.ivy_agent.specs.Taking.{MayTakeFrom, TurnsOn};

@@ -11,7 +11,8 @@ use Rattle.log_model.specs.Record.{Record}
 use Rattle.log_model.proofs.Lists.{each_append}
 use Rattle.log_records.specs.declared.record.Record as kept
 use Rattle.log_records.specs.Records.{record_of, records_of}
-use Rattle.log_records.specs.Batches.{AreOfOneOwner, Batch, IsSound, owner_of}
+use Rattle.log_model.specs.Fetched.{IsSound, owner_of}
+use Rattle.log_records.specs.Batches.{AreOfOneOwner, Batch}
 use Rattle.causal_order.specs.AtHand.{IsFetched}
 use Rattle.causal_order.specs.Over.{IsClosed}
 use Rattle.causal_order.proofs.Fetching.{sound_is_fetched}

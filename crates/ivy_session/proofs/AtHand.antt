@@ -4,7 +4,7 @@ use Rattle.ivy_base.specs.declared.key.Key.{Key}
 use Rattle.ivy_base.specs.declared.memory.Memory.{Memory}
 use Rattle.ivy_base.specs.Naming.{name}
 use Rattle.dhash_client.specs.GetHead.{Judges}
-use Rattle.block_cache.specs.Blocks.{block_of, moved_to_front}
+use Rattle.dhash_model.specs.Cache.{block_of, moved_to_front}
 use Rattle.session_model.specs.Sessions.{Cache, pending_block}
 use Rattle.view_refresh.specs.States.{Refreshing as RefreshState, refresh_left, refresh_wanted}
 use Rattle.view_refresh.specs.Steps.{RefreshWasGiven, TakesPending}

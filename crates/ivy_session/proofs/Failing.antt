@@ -1,7 +1,7 @@
 -- Why a refresh that has failed did.
 use Rattle.std.proofs.Common.{◌≡◌, Bool, List, Option, Some, None, IfSome, Result, Ok, Err, sym, ◌∙◌, subst}
 use Rattle.dht_ids.specs.declared.ask.Want.TheVariants as want
-use Rattle.dhash_client.specs.declared.miss.Miss.{Miss}
+use Rattle.dhash_model.specs.declared.miss.Miss.{Miss}
 use Rattle.dhash_client.specs.GetHead.{Judges}
 use Rattle.session_model.specs.Sessions.{Session}
 use Rattle.log_fetch.specs.declared.note.Note.{Note as Noted}

@@ -10,7 +10,7 @@ use Rattle.dht_ids.specs.declared.ask.Heard.{Heard}
 use Rattle.dht_ids.specs.declared.judge.Judged.{Judged}
 use Rattle.dht_ids.specs.declared.peer.Peer.{Peer}
 use Rattle.dhash_client.specs.GetHead.{Judges}
-use Rattle.block_cache.specs.Blocks.{kept}
+use Rattle.dhash_model.specs.Cache.{kept}
 use Rattle.session_model.specs.Asking.{AsksNext}
 use Rattle.session_model.specs.Brought.{Brought, Part, Want}
 use Rattle.session_model.specs.Sessions.{Cache, Gets, Hears, IsGet, Session, keeping, wanted_key, with_part}

@@ -13,10 +13,11 @@ use Rattle.dht_ids.specs.declared.peer.Peer.{Peer}
 use Rattle.dht_ids.specs.declared.post.Post.{Post}
 use Rattle.dht_ids.specs.declared.post.PostKind.{PostKind}
 use Rattle.dht_ids.specs.declared.post.PostKind.TheVariants as kind
-use Rattle.dhash_client.specs.declared.miss.Miss.{Miss}
+use Rattle.dhash_model.specs.declared.miss.Miss.{Miss}
+use Rattle.dhash_model.specs.Course.{IsCourse}
+use Rattle.dhash_model.specs.Puts.{EndsPut}
 use Rattle.dhash_client.specs.declared.put.PutKind.{PutKind}
-use Rattle.dhash_client.specs.Course.{IsCourse}
-use Rattle.dhash_client.specs.Puts.{PutIsAfter, PutIsWanted, PutHasHeard, IsPutOf, EndsPut, put_kind, question_of}
+use Rattle.dhash_client.specs.Puts.{PutIsAfter, PutIsWanted, PutHasHeard, IsPutOf, put_kind, question_of}
 use Rattle.dhash_client.proofs.DrivenGets.{put_begins}
 use Rattle.session_model.specs.Sessions.{IsPutOfPost, ack_of, put_question}
 use Rattle.ivy_session.specs.Putting.{Putting, PuttingIsAfter, PuttingIsWanted, PuttingHasHeard, IsSamePutting, putting, post_of}

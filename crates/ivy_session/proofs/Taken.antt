@@ -7,7 +7,7 @@ use Rattle.dht_ids.specs.declared.judge.Judged.{Judged}
 use Rattle.dht_ids.specs.declared.peer.Peer.{Peer}
 use Rattle.dht_ids.specs.declared.post.Post.{Post}
 use Rattle.dhash_client.specs.GetHead.{Judges}
-use Rattle.block_cache.specs.Blocks.{block_of, moved_to_front}
+use Rattle.dhash_model.specs.Cache.{block_of, moved_to_front}
 use Rattle.session_model.specs.Brought.{BlockOf, Content}
 use Rattle.session_model.specs.Sessions.{Cache, Session, Takes, TakesAll, TakesSome, Wants, pending_block, with_part}
 use Rattle.session_model.specs.Sessions.Takes.{posted, cached}

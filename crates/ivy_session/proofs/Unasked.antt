@@ -8,11 +8,11 @@ use Rattle.dht_ids.specs.declared.ask.AskKind.TheVariants as kind
 use Rattle.dht_ids.specs.declared.ask.Heard.{Heard}
 use Rattle.dht_ids.specs.declared.peer.Peer.{Peer}
 use Rattle.dht_ids.specs.declared.post.Post.{Post}
-use Rattle.dhash_client.specs.declared.miss.Miss.{Miss}
-use Rattle.dhash_client.specs.Course.{Told, IsCourse, told_all}
-use Rattle.dhash_client.specs.Course.IsCourse.{no_route, of_owners}
+use Rattle.dhash_model.specs.declared.miss.Miss.{Miss}
+use Rattle.dhash_model.specs.Course.{Told, IsCourse, told_all}
+use Rattle.dhash_model.specs.Course.IsCourse.{no_route, of_owners}
+use Rattle.dhash_model.specs.Puts.{EndsPut}
 use Rattle.dhash_client.specs.Machine.{Trail}
-use Rattle.dhash_client.specs.Puts.{EndsPut}
 use Rattle.ring_model.specs.Members.{IsAmong}
 use Rattle.ring_model.specs.Route.{Route}
 use Rattle.ring_model.specs.Lookup.{IsLookup}

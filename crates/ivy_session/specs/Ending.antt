@@ -4,7 +4,7 @@ use Rattle.ivy_base.specs.declared.memory.Memory.{Memory}
 use Rattle.wire_model.specs.Rpc.{Success, SystemError, reply}
 use Rattle.nfs_model.specs.Results.{result as bytes_of}
 use Rattle.dht_ids.specs.declared.ask.Answer.{Answer}
-use Rattle.dhash_client.specs.declared.miss.Miss.{Miss}
+use Rattle.dhash_model.specs.declared.miss.Miss.{Miss}
 use Rattle.dhash_client.specs.GetHead.{Judges}
 use Rattle.session_model.specs.Replies.{missed_reply}
 use Rattle.log_fetch.specs.declared.note.Note.{Note as Noted}

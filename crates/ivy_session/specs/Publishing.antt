@@ -10,7 +10,7 @@ use Rattle.dht_ids.specs.declared.peer.Peer.{Peer}
 use Rattle.dht_ids.specs.declared.post.Ack.{Ack}
 use Rattle.dht_ids.specs.declared.post.Post.{Post}
 use Rattle.dht_ids.specs.declared.post.PostKind.{PostKind}
-use Rattle.dhash_client.specs.declared.miss.Miss.{Miss}
+use Rattle.dhash_model.specs.declared.miss.Miss.{Miss}
 use Rattle.dhash_client.specs.Course.{asks_left}
 use Rattle.dhash_client.specs.Puts.{put_awaited}
 use Rattle.agent_model.specs.Agent.{is_head}

@@ -9,9 +9,9 @@ use Rattle.dht_ids.specs.declared.ask.Want.{Want}
 use Rattle.dht_ids.specs.declared.ask.Want.TheVariants as want
 use Rattle.dht_ids.specs.declared.peer.Peer.{Peer}
 use Rattle.dht_ids.specs.declared.post.Post.{Post}
-use Rattle.dhash_client.specs.declared.miss.Miss.{Miss}
+use Rattle.dhash_model.specs.declared.miss.Miss.{Miss}
+use Rattle.dhash_model.specs.Cache.{block_of, kept}
 use Rattle.dhash_client.specs.GetHead.{Judges}
-use Rattle.block_cache.specs.Blocks.{block_of, kept}
 use Rattle.agent_model.specs.Standing.{Refresh as ModelRefresh}
 use Rattle.session_model.specs.Brought.{brought_in}
 use Rattle.session_model.specs.Refreshing.{Note, RefreshEnd, FailsBy, Refreshes}

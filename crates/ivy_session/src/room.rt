@@ -2,6 +2,7 @@
 
 ghost use Rattle.std.specs.Prelude.{◌≡◌, ◌+◌, ◌≤◌, [], length, vec_len, vec_capacity};
 ghost use Rattle.wire_model.specs.Rpc.{Success, SystemError, reply};
+ghost use Rattle.nfs_model.specs.Results.{longest_result};
 
 use crate::heads::{head_within, room_for_head};
 use ivy_base::{Bytes, Memory};
@@ -20,7 +21,7 @@ pub struct ReplyRoom {
     ghost head_is_empty: { head.written ≡ [] },
     ghost head_has_room: { 32 ≤ head.spare },
     ghost message_is_empty: { message.items ≡ [] },
-    ghost message_has_room: { vec_len message + (32 + 32772) ≤ vec_capacity message },
+    ghost message_has_room: { vec_len message + (32 + longest_result) ≤ vec_capacity message },
 }
 
 impl ReplyRoom {
@@ -34,7 +35,7 @@ impl ReplyRoom {
 
     /// The reply to the call `xid` of success with that result, from its status on. It takes no memory.
     pub fn success(self, xid: u32, bytes: &[u8]) -> Bytes
-        requires { length bytes.now ≤ 32772 }
+        requires { length bytes.now ≤ longest_result }
         ensures { result ≡ reply xid (Success bytes.now) }
     {
         let head = head_within(self.head, xid, &ReplyHead::Success);

@@ -2,6 +2,7 @@
 
 ghost use Rattle.std.specs.Prelude.{◌≡◌, ◌≤◌, length};
 ghost use Rattle.ivy_session.specs.Ending.{lacking, replying};
+ghost use Rattle.nfs_model.specs.Results.{longest_result};
 
 use crate::room::ReplyRoom;
 use ivy_base::Bytes;
@@ -60,7 +61,7 @@ pub(crate) fn no_memory(call: Call) -> Served
 
 /// Tells what the call's turn gave, from its status on. It takes no memory.
 pub(crate) fn reply_of(call: Call, bytes: &[u8]) -> Served
-    requires { length bytes.now ≤ 32772 }
+    requires { length bytes.now ≤ longest_result }
     ensures { result ≡ replying call bytes.now }
 {
     let xid = call.xid;

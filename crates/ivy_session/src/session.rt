@@ -14,6 +14,7 @@ ghost use Rattle.session_model.specs.Sessions.{Cache};
 ghost use Rattle.wire_model.specs.Rpc.{SystemError, reply};
 ghost use Rattle.agent_model.specs.SavedBytes.{HasItsName};
 ghost use Rattle.ivy_session.specs.Publishing.{publishing_awaited, publishing_begun, puts_left};
+ghost use Rattle.nfs_model.specs.Results.{longest_result};
 
 use crate::missing::missed;
 use crate::publishing::Publishing;
@@ -201,7 +202,7 @@ impl<J: Judge> Session<J> {
     /// is to be heard then until one is asked, and less is left to the session.
     pub fn turned(&mut self, turned: Result<Turned, TurnFault>)
         requires turning { is_turning self.old.stage ≡ true }
-        requires short { IfOk turned (λ t. length t.reply ≤ 32772) }
+        requires short { IfOk turned (λ t. length t.reply ≤ longest_result) }
         requires anew { IfErr turned IsAnewFor }
         ensures turned { IsTurned J.judges self.old self.new turned }
         ensures free { session_awaited self.new ≡ None }
@@ -357,7 +358,7 @@ impl<J: Judge> Session<J> {
     /// Answers the call by what its turn gave, and begins to publish.
     fn answer(&mut self, turned: &Turned)
         requires turning { is_turning self.old.stage ≡ true }
-        requires short { length turned.now.reply ≤ 32772 }
+        requires short { length turned.now.reply ≤ longest_result }
         ensures turned { IsTurned J.judges self.old self.new (Ok turned.now) }
         ensures free { session_awaited self.new ≡ None }
         ensures turning { is_turning self.new.stage ≡ false }

@@ -8,9 +8,9 @@ use Rattle.ivy_base.specs.Naming.{head_key_of}
 use Rattle.log_model.specs.View.{View}
 use Rattle.log_model.specs.Vector.{Stamp, Vector, seq_of}
 use Rattle.log_model.specs.Record.{Record}
-use Rattle.log_records.specs.declared.edge.Edge.{Edge}
-use Rattle.log_records.specs.declared.chain_fault.ChainFault.{ChainFault}
-use Rattle.dhash_client.specs.declared.miss.Miss.{Miss}
+use Rattle.log_model.specs.Fetched.{Edge}
+use Rattle.log_model.specs.declared.chain_fault.ChainFault.{ChainFault}
+use Rattle.dhash_model.specs.declared.miss.Miss.{Miss}
 use Rattle.session_model.specs.Brought.{Brought, BlockOf, Content}
 use Rattle.session_model.specs.Walks.{Walks, Tries, Lacks, Stops, Wants}
 use Rattle.session_model.specs.Walks.Tries.{wants as head_wants, misses as head_misses}

@@ -12,7 +12,7 @@ use Rattle.dht_ids.specs.declared.ask.Answer.{Answer}
 use Rattle.dht_ids.specs.declared.ask.Heard.{Heard}
 use Rattle.dht_ids.specs.declared.ask.Want.TheVariants as next
 use Rattle.dht_ids.specs.declared.peer.Peer.{Peer}
-use Rattle.dhash_client.specs.declared.miss.Miss.{Miss}
+use Rattle.dhash_model.specs.declared.miss.Miss.{Miss}
 use Rattle.dhash_client.specs.GetBlock.{block_begun}
 use Rattle.dhash_client.specs.GetHead.{Judges, head_begun}
 use Rattle.agent_model.specs.Standing as agent

@@ -7,7 +7,7 @@ use Rattle.ivy_base.specs.declared.key.Key.{Key}
 use Rattle.tree_model.specs.Tree.{same_key}
 use Rattle.tree_model.proofs.Keys.{same_key_is, same_key_itself}
 use Rattle.log_model.specs.Vector.{Vector, stamp_at}
-use Rattle.log_records.specs.declared.edge.Edge.{Edge}
+use Rattle.log_model.specs.Fetched.{Edge}
 use Rattle.log_fetch.specs.declared.edges.Edge as kept
 use Rattle.log_fetch.specs.Edges.{AreEdges, edge_of, edges_of, edge_in}
 

@@ -7,7 +7,7 @@ use Rattle.log_model.specs.Record.{Record}
 use Rattle.log_model.specs.Spelling.{IsRecordOf}
 use Rattle.log_model.specs.Chain.{HasMadeNumber}
 use Rattle.log_model.proofs.Lists.{here}
-use Rattle.dhash_client.specs.declared.miss.Miss.{Miss}
+use Rattle.dhash_model.specs.declared.miss.Miss.{Miss}
 use Rattle.session_model.specs.Brought.{Brought, BlockOf}
 use Rattle.session_model.specs.Walks.{Walks, WalkEnd, Wants, Misses, Garbled}
 use Rattle.session_model.specs.Walks.Walks.{came as all_came, wants as next_wanted, misses as one_misses, garbled as one_garbled, back as one_back}

@@ -6,9 +6,9 @@ use Rattle.ivy_base.specs.declared.key.PubKey.{PubKey}
 use Rattle.ivy_base.specs.Naming.{head_key_of}
 use Rattle.log_model.specs.Vector.{Stamp, Vector, stamp_at, seq_of}
 use Rattle.log_model.proofs.Lists.{here, in_nothing}
-use Rattle.log_records.specs.declared.chain_fault.ChainFault.{ChainFault}
-use Rattle.log_records.specs.declared.chain_fault.ChainFault.TheVariants as fault
-use Rattle.dhash_client.specs.declared.miss.Miss.{Miss}
+use Rattle.log_model.specs.declared.chain_fault.ChainFault.TheVariants as fault
+use Rattle.log_model.specs.declared.chain_fault.ChainFault.{ChainFault}
+use Rattle.dhash_model.specs.declared.miss.Miss.{Miss}
 use Rattle.agent_model.specs.Standing.{Standing, Chain, edge_at}
 use Rattle.session_model.specs.Brought.{Brought, HeadsOf, BlockOf, Heads, Content}
 use Rattle.session_model.specs.Walks.{Tries, AreTried, LogEnd, Lacks, Stops}

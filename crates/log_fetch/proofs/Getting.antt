@@ -15,10 +15,11 @@ use Rattle.dht_ids.specs.declared.ask.Want.{Want}
 use Rattle.dht_ids.specs.declared.ask.Want.TheVariants as want
 use Rattle.dht_ids.specs.declared.judge.Judged.{Judged}
 use Rattle.dht_ids.specs.declared.peer.Peer.{Peer}
-use Rattle.dhash_client.specs.declared.miss.Miss.{Miss}
+use Rattle.dhash_model.specs.declared.miss.Miss.{Miss}
+use Rattle.dhash_model.specs.GetHead.{IsGetOfHead}
 use Rattle.dhash_client.specs.Course.{Asking, CourseState, next_owner, awaited_at}
 use Rattle.dhash_client.specs.GetBlock.{BlockState, BlockIsWanted, block_begun, block_awaited_at}
-use Rattle.dhash_client.specs.GetHead.{HeadState, Judges, HeadIsWanted, IsGetOfHead, head_begun}
+use Rattle.dhash_client.specs.GetHead.{HeadState, Judges, HeadIsWanted, head_begun}
 use Rattle.dhash_client.proofs.DrivenGets.{block_begins, head_begins}
 use Rattle.session_model.specs.Brought.{HeadsOf, BlockOf, Heads, Content}
 use Rattle.session_model.specs.Sessions.{Gets}

@@ -9,12 +9,13 @@ use Rattle.dht_ids.specs.declared.ask.Ask.TheVariants as ask
 use Rattle.dht_ids.specs.declared.ask.Heard.{Heard}
 use Rattle.dht_ids.specs.declared.judge.Judged.{Judged}
 use Rattle.dht_ids.specs.declared.peer.Peer.{Peer}
-use Rattle.dhash_client.specs.Course.{Told, IsCourse, told_all, result_of}
-use Rattle.dhash_client.specs.Course.IsCourse.{no_route, of_owners}
+use Rattle.dhash_model.specs.Course.{Told, IsCourse, told_all, result_of}
+use Rattle.dhash_model.specs.Course.IsCourse.{no_route, of_owners}
+use Rattle.dhash_model.specs.GetBlock.{EndsGet, IsGetOfBlock, block_in}
+use Rattle.dhash_model.specs.GetHead.{EndsHeadGet, IsGetOfHead}
+use Rattle.dhash_model.specs.declared.miss.Miss.{Miss}
 use Rattle.dhash_client.specs.Machine.{Trail}
-use Rattle.dhash_client.specs.GetBlock.{EndsGet, IsGetOfBlock, block_in}
-use Rattle.dhash_client.specs.GetHead.{EndsHeadGet, IsGetOfHead, Judges}
-use Rattle.dhash_client.specs.declared.miss.Miss.{Miss}
+use Rattle.dhash_client.specs.GetHead.{Judges}
 use Rattle.ring_model.specs.Lookup.{IsLookup}
 use Rattle.ring_model.specs.Lookup.IsLookup.{over, spent, known, silent, answered}
 use Rattle.ring_model.specs.Members.{IsAmong}

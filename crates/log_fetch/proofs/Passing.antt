@@ -9,9 +9,9 @@ use Rattle.log_model.specs.View.{View}
 use Rattle.log_model.specs.Vector.{Stamp, Vector, stamp_at, seq_of}
 use Rattle.log_model.specs.Record.{Record}
 use Rattle.log_model.proofs.Lists.{each_append, here, in_cons, in_nothing}
-use Rattle.log_records.specs.declared.chain_fault.ChainFault.{ChainFault}
-use Rattle.log_records.specs.declared.edge.Edge.{Edge}
-use Rattle.log_records.specs.Batches.{Batch, AreUnder, GoesOnFrom, owner_of, owners_in, stamp_in}
+use Rattle.log_model.specs.declared.chain_fault.ChainFault.{ChainFault}
+use Rattle.log_model.specs.Fetched.{Edge, GoesOnFrom, owner_of, stamp_in}
+use Rattle.log_records.specs.Batches.{Batch, AreUnder, owners_in}
 use Rattle.agent_model.specs.Standing as agent
 use Rattle.agent_model.specs.Standing.{chain_of}
 use Rattle.session_model.specs.Brought.{Brought, BlockOf}

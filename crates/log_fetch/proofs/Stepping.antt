@@ -6,7 +6,7 @@ use Rattle.ivy_base.specs.declared.key.Key.{Key}
 use Rattle.ivy_base.specs.declared.key.PubKey.{PubKey}
 use Rattle.log_model.specs.Vector.{Vector}
 use Rattle.dht_ids.specs.declared.judge.Judged.{Judged}
-use Rattle.dhash_client.specs.declared.miss.Miss.{Miss}
+use Rattle.dhash_model.specs.declared.miss.Miss.{Miss}
 use Rattle.log_records.specs.Batches.{Batch, AreUnder, owners_in}
 use Rattle.agent_model.specs.Standing as agent
 use Rattle.agent_model.specs.Standing.{chain_of}

@@ -6,7 +6,7 @@ use Rattle.ivy_base.specs.declared.key.Key.{Key}
 use Rattle.ivy_base.specs.declared.memory.Memory.{Memory}
 use Rattle.log_model.specs.View.{View}
 use Rattle.log_model.specs.Vector.{Stamp, Vector, stamp_at, seq_of}
-use Rattle.log_records.specs.declared.edge.Edge.{Edge}
+use Rattle.log_model.specs.Fetched.{Edge}
 use Rattle.log_records.specs.Batches.{Batch}
 use Rattle.session_model.specs.Brought.{Brought, BlockOf}
 use Rattle.session_model.specs.Walks.{Tries, GivesNone}

@@ -8,9 +8,9 @@ use Rattle.ivy_base.specs.declared.memory.Memory.{Memory}
 use Rattle.ivy_base.specs.Naming.{head_key_of}
 use Rattle.log_model.specs.View.{IsView}
 use Rattle.log_model.specs.Vector.{Stamp, Vector, stamp_at, seq_of}
+use Rattle.log_model.specs.declared.chain_fault.ChainFault.{ChainFault}
 use Rattle.dht_ids.specs.declared.judge.Judged.{Judged}
 use Rattle.session_model.specs.Brought.{Brought, HeadsOf, BlockOf, stamp_of}
-use Rattle.log_records.specs.declared.chain_fault.ChainFault.{ChainFault}
 use Rattle.log_records.specs.Batches.{Batch}
 use Rattle.log_fetch.specs.declared.trial.Settled.{Settled}
 use Rattle.log_fetch.specs.Order.{AreToTry}

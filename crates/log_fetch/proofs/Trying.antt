@@ -12,12 +12,12 @@ use Rattle.log_model.specs.Vector.{Stamp, Vector, seq_of}
 use Rattle.log_model.specs.Record.{Record}
 use Rattle.log_model.specs.Chain.{HasMadeNumber, GoesOn}
 use Rattle.log_model.proofs.Lists.{each}
-use Rattle.log_records.specs.declared.edge.Edge.{Edge}
-use Rattle.log_records.specs.declared.chain_fault.ChainFault.{ChainFault}
-use Rattle.log_records.specs.declared.chain_fault.ChainFault.TheVariants.{Memory}
+use Rattle.log_model.specs.Fetched.{Edge, ChainFails, IsOnward, IsSound}
+use Rattle.log_model.specs.declared.chain_fault.ChainFault.{ChainFault}
+use Rattle.log_model.specs.declared.chain_fault.ChainFault.TheVariants.{Memory}
 use Rattle.log_records.specs.declared.record.Record as kept
 use Rattle.log_records.specs.Records.{records_of}
-use Rattle.log_records.specs.Batches.{Batch, AreOfOneOwner, ChainFails, IsOnward, IsSound}
+use Rattle.log_records.specs.Batches.{Batch, AreOfOneOwner}
 use Rattle.session_model.specs.Brought.{Brought}
 use Rattle.session_model.specs.Walks.{Tries, LogEnd, Gives, GivesNone}
 use Rattle.session_model.specs.Walks.Walks.{came as all_came, wants as next_wanted}

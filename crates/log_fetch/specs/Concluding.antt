@@ -1,8 +1,8 @@
 -- What comes of a head whose walk is over.
 use Rattle.std.specs.Prelude.{◌≡◌, ◌≢◌, ◌⊎◌, ◌<◌, ◌≤◌, length, Option}
 use Rattle.log_model.specs.View.{View}
+use Rattle.log_model.specs.Fetched.{Edge}
 use Rattle.log_records.specs.Batches.{Batch}
-use Rattle.log_records.specs.declared.edge.Edge.{Edge}
 use Rattle.log_fetch.specs.declared.trial.Concluded.{Concluded}
 use Rattle.log_fetch.specs.declared.trial.Concluded.TheVariants as concluded
 use Rattle.log_fetch.specs.declared.trial.Settled.{Settled}

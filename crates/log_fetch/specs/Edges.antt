@@ -6,7 +6,7 @@ use Rattle.ivy_base.specs.declared.key.Key.{Key}
 use Rattle.ivy_base.specs.Naming.{key_cmp}
 use Rattle.tree_model.specs.Tree.{same_key}
 use Rattle.log_model.specs.Vector.{stamp_at}
-use Rattle.log_records.specs.declared.edge.Edge.{Edge}
+use Rattle.log_model.specs.Fetched.{Edge}
 use Rattle.log_fetch.specs.declared.edges.Edge as kept
 
 abbrev pub edge_of : kept.Edge → Key × Edge

@@ -4,8 +4,8 @@ use Rattle.ivy_base.specs.declared.key.PubKey.{PubKey}
 use Rattle.ivy_base.specs.Naming.{head_key_of}
 use Rattle.log_model.specs.View.{View}
 use Rattle.log_model.specs.Vector.{Stamp, stamp_at, seq_of}
-use Rattle.log_records.specs.declared.edge.Edge.{Edge}
-use Rattle.log_records.specs.declared.chain_fault.ChainFault.{ChainFault}
+use Rattle.log_model.specs.Fetched.{Edge}
+use Rattle.log_model.specs.declared.chain_fault.ChainFault.{ChainFault}
 use Rattle.log_records.specs.Batches.{Batch}
 use Rattle.session_model.specs.Brought.{Brought, BlockOf}
 use Rattle.session_model.specs.Walks.{Tries, LogEnd}

@@ -3,8 +3,8 @@ use Rattle.std.specs.Prelude.{List, [], ◌∷◌, ◌++◌, map, Option, Some, 
 use Rattle.rpc_wire.specs.Callers.{identity_of}
 use Rattle.turn_model.specs.Turn as turn
 use Rattle.fs_tree.specs.Bases.{basis_of}
-use Rattle.dhash_client.specs.declared.miss.Miss.{Miss}
-use Rattle.dhash_client.specs.declared.miss.Miss.TheVariants as miss
+use Rattle.dhash_model.specs.declared.miss.Miss.TheVariants as miss
+use Rattle.dhash_model.specs.declared.miss.Miss.{Miss}
 use Rattle.agent_model.specs.Standing as agent
 use Rattle.agent_model.specs.Standing.{chain_of}
 use Rattle.session_model.specs.Refreshing as session

@@ -6,7 +6,7 @@ use Rattle.log_model.specs.Vector.{Vector}
 use Rattle.dht_ids.specs.declared.ask.Answer.{Answer}
 use Rattle.dht_ids.specs.declared.ask.Want.{Want as Next}
 use Rattle.dht_ids.specs.declared.peer.Peer.{Peer}
-use Rattle.dhash_client.specs.declared.miss.Miss.{Miss}
+use Rattle.dhash_model.specs.declared.miss.Miss.{Miss}
 use Rattle.dhash_client.specs.GetHead.{Judges}
 use Rattle.session_model.specs.Brought.{Brought, HeadsOf, BlockOf}
 use Rattle.session_model.specs.Refreshing.{FailsBy, Done}

@@ -5,10 +5,10 @@ use Rattle.ivy_base.specs.Naming.{head_key_of}
 use Rattle.log_model.specs.View.{View}
 use Rattle.log_model.specs.Vector.{Stamp, Vector, seq_of}
 use Rattle.log_model.specs.Record.{Record}
-use Rattle.log_records.specs.declared.edge.Edge.{Edge}
-use Rattle.log_records.specs.declared.chain_fault.ChainFault.{ChainFault}
-use Rattle.log_records.specs.declared.chain_fault.ChainFault.TheVariants.{Bad, Memory}
-use Rattle.log_records.specs.Batches.{Batch, ChainFails, IsOnward, IsSound}
+use Rattle.log_model.specs.Fetched.{Edge, ChainFails, IsOnward, IsSound}
+use Rattle.log_model.specs.declared.chain_fault.ChainFault.{ChainFault}
+use Rattle.log_model.specs.declared.chain_fault.ChainFault.TheVariants.{Bad, Memory}
+use Rattle.log_records.specs.Batches.{Batch}
 use Rattle.session_model.specs.Brought.{Brought, BlockOf}
 use Rattle.session_model.specs.Walks.{Tries, LogEnd, Gives, GivesNone, Lacks, Stops}
 use Rattle.log_fetch.specs.Walking.{Walking, IsAfter, begun}

@@ -28,7 +28,7 @@ pub struct Edges {
 impl Model for Edges {
     ghost use Rattle.std.specs.Prelude.{List};
     ghost use Rattle.ivy_base.specs.declared.key.Key.{Key};
-    ghost use Rattle.log_records.specs.declared.edge.Edge.{Edge as Held};
+    ghost use Rattle.log_model.specs.Fetched.{Edge as Held};
     ghost use Rattle.log_fetch.specs.Edges.{AreEdges, edges_of};
 
     ghost Value = { List (Key × Held) };
@@ -102,9 +102,7 @@ fn known_at(alloc: Global, edges: &[Edge], log: &Key) -> Result<Option<Known>, M
 {
     'edges: for edge in edges {
         if is_one(&edge.log, log) {
-            return Ok(Some(Known {
-                vector: edge.vector.copy(alloc)?,
-            }));
+            return Ok(Some(Known::of_vector(edge.vector.copy(alloc)?)));
         }
     }
     Ok(None)

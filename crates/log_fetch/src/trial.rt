@@ -160,9 +160,7 @@ fn copy_of(alloc: Global, edge: &Option<Edge>) -> Result<Option<Edge>, Memory>
     ensures { IfOk result (λ copy. copy ≡ edge.now) }
 {
     match edge {
-        Some(edge) => Ok(Some(Edge {
-            vector: edge.vector.copy(alloc)?,
-        })),
+        Some(edge) => Ok(Some(Edge::of_vector(edge.vector().copy(alloc)?))),
         None => Ok(None),
     }
 }

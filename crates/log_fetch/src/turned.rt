@@ -3,6 +3,8 @@
 use crate::standing::Standing;
 use dht_ids::Posts;
 use ivy_base::Bytes;
+use std::fmt;
+use thiserror::Error;
 use version_vectors::Vector;
 
 /// What a turn gives.
@@ -30,13 +32,23 @@ impl Drop for Turned {
 }
 
 /// Why a turn answered nothing. What begins anew has the agent's standing then, without a snapshot.
-#[derive(Drop)]
+#[derive(Drop, Error)]
 pub enum TurnFault {
     /// The refresh began with more than is held by now, or the record of a member's log that the floor names is neither held
     /// nor new.
+    #[error("the refresh is behind what its agent holds or has promised")]
     Behind(Standing),
     /// A new record isn't above the basis. Nothing is held any more.
+    #[error("a new record isn't above the basis")]
     BelowTide(Standing),
     /// Want of memory. No clause ties this to a cause.
+    #[error("there is no memory left")]
     Memory,
+}
+
+/// As it is displayed: a standing has no text of its own.
+impl fmt::Debug for TurnFault {
+    fn fmt<W: fmt::Write>(&self, f: &mut fmt::Formatter<W>) -> fmt::Result {
+        fmt::Display::fmt(self, f)
+    }
 }

@@ -7,8 +7,8 @@ use Rattle.ivy_base.specs.declared.key.Key.{Key}
 use Rattle.ivy_base.specs.declared.key.PubKey.{PubKey}
 use Rattle.ivy_base.specs.Naming.{head_key_of}
 use Rattle.wire_model.specs.Xdr.{word}
-use Rattle.log_model.specs.Spelling.{head_message}
-use Rattle.log_records.specs.Heads.{stamp}
+use Rattle.log_model.specs.Spelling.{head_message, head_tag}
+use Rattle.log_model.specs.Heads.{stamp}
 use Rattle.hash_signature_model.specs.declared.set.Width.{Width}
 use Rattle.hash_signature_model.specs.declared.set.Width.TheVariants.{W4, W8}
 use Rattle.hash_signature_model.specs.declared.set.Height.{Height}
@@ -22,8 +22,8 @@ use Rattle.log_heads.proofs.SignedHeads.{from_head}
 
 -- ---- what is signed
 
-pub message_is : (owner : PubKey) (seq : ℕ) (name : Key) → (73 ∷ 86 ∷ 72 ∷ 49 ∷ owner.0) ++ (word seq ++ name.0) ≡ head_message owner (stamp seq name)
-message_is owner seq name = sym (append_assoc (73 ∷ 86 ∷ 72 ∷ 49 ∷ owner.0) (word seq) name.0)
+pub message_is : (owner : PubKey) (seq : ℕ) (name : Key) → (head_tag ++ owner.0) ++ (word seq ++ name.0) ≡ head_message owner (stamp seq name)
+message_is owner seq name = sym (append_assoc (head_tag ++ owner.0) (word seq) name.0)
 
 -- two parts that fill all of the bytes
 pub joined_are : (front back first second : List ℕ) → length front ≡ 64 → first ≡ front → second ≡ back → put_mid 64 24 (first ++ replicate 24 0) second ≡ front ++ back

@@ -15,17 +15,19 @@ use Rattle.ivy_base.specs.Naming.{head_key_of}
 use Rattle.wire_model.specs.Xdr.{word, padding, opaque}
 use Rattle.wire_model.proofs.OneReading.{whole}
 use Rattle.log_model.specs.Vector.{Stamp}
-use Rattle.log_model.specs.Spelling.{IsBlock, most_records, head_message, head_block, IsHeadOf}
+use Rattle.log_model.specs.Spelling.{IsBlock, most_records, head_message, head_block, IsHeadOf, head_tag}
+use Rattle.log_model.specs.Heads.{stamp, owner_in, seq_in, name_in, is_block}
 use Rattle.dht_ids.specs.declared.judge.Judged.{Judged}
-use Rattle.log_records.specs.Heads.{Parts, stamp, owner_in, seq_in, name_in, is_block}
+use Rattle.log_records.specs.Heads.{Parts}
 use Rattle.log_records.proofs.OneHead.{one_head}
 use Rattle.block_parts.proofs.Bytes.{all_bytes}
 use Rattle.hash_signature_model.specs.declared.set.LmsFault.{LmsFault}
 use Rattle.hash_signature_model.proofs.Readings.{IsBytes}
 use Rattle.hss_keys.specs.Hss.{HssAccepts}
-use Rattle.hss_keys.specs.Reading.{hss_verdict}
+use Rattle.hash_signature_model.specs.Levels.{hss_verdict}
 use Rattle.hss_keys.proofs.Acceptance.{hss_accepts_from, hss_yes_from}
-use Rattle.log_heads.specs.Signed.{are_bytes, IsSignedHead, signature_in, is_head, is_yes, is_signed, is_signed_head, hss_judged, SignedHeadsAreJudged}
+use Rattle.dhash_model.specs.Signed.{are_bytes, signature_in, is_head, is_yes, is_signed, is_signed_head, hss_judged}
+use Rattle.log_heads.specs.Signed.{IsSignedHead, SignedHeadsAreJudged}
 
 first : (a b : Bool) → (a && b) ≡ true → a ≡ true
 first true b h = refl
@@ -107,10 +109,10 @@ abbrev after_owner : ℕ → Key → List ℕ → List ℕ
 after_owner seq name rest = word seq ++ (name.0 ++ rest)
 
 abbrev placed : PubKey → ℕ → Key → List ℕ → List ℕ
-placed owner seq name rest = 73 ∷ 86 ∷ 72 ∷ 49 ∷ (owner.0 ++ after_owner seq name rest)
+placed owner seq name rest = head_tag ++ (owner.0 ++ after_owner seq name rest)
 
 placed_from : (owner : PubKey) (seq : ℕ) (name : Key) (rest : List ℕ) → head_message owner (stamp seq name) ++ rest ≡ placed owner seq name rest
-placed_from owner seq name rest = ap (λ (s : List ℕ). 73 ∷ 86 ∷ 72 ∷ 49 ∷ s) (append_assoc (owner.0 ++ word seq) name.0 rest ∙ append_assoc owner.0 (word seq) (name.0 ++ rest))
+placed_from owner seq name rest = ap (λ (s : List ℕ). head_tag ++ s) (append_assoc (owner.0 ++ word seq) name.0 rest ∙ append_assoc owner.0 (word seq) (name.0 ++ rest))
 
 owner_there : (owner : PubKey) (seq : ℕ) (name : Key) (rest : List ℕ) → length owner.0 ≡ 60 → owner_in (placed owner seq name rest) ≡ owner
 owner_there owner seq name rest l = ap (λ (s : List ℕ). record { 0 = s }) (take_at owner.0 (after_owner seq name rest) 60 l)

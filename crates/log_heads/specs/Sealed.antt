@@ -4,9 +4,10 @@ use Rattle.ivy_base.specs.declared.key.Key.{Key}
 use Rattle.ivy_base.specs.declared.key.PubKey.{PubKey}
 use Rattle.ivy_base.specs.Naming.{head_key_of}
 use Rattle.log_model.specs.Spelling.{IsBlock, IsKey, head_message, head_block}
-use Rattle.log_records.specs.Heads.{stamp, IsNumber}
+use Rattle.log_model.specs.Heads.{stamp}
+use Rattle.log_records.specs.Heads.{IsNumber}
 use Rattle.hss_keys.specs.Hss.{HssAccepts}
-use Rattle.log_heads.specs.Signed.{are_bytes, hss_judged}
+use Rattle.dhash_model.specs.Signed.{are_bytes, hss_judged}
 
 -- a head whose signature is accepted says its number and its name under its owner's key; no such signature is too long
 abbrev pub SealedHeadsAreJudged : Type 0

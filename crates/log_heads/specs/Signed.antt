@@ -1,21 +1,13 @@
--- Which heads of logs the judge of signed heads takes. What a head's signature signs is `head_message`, the first 88 bytes of its block.
-use Rattle.std.specs.Prelude.{◌≡◌, ℕ, Bool, true, false, ◌&&◌, List, length, take, drop, Option, Some, None, Result, Ok, Err, if◌then◌else◌, nat_lt, nat_le, IsTrue, ◌↔◌}
-use Rattle.std.specs.Int.{w32, from_be_bytes}
-use Rattle.std.specs.List.{list_all}
-use Rattle.std.specs.Str.{bytes_eq}
+-- Which heads of logs are signed. What a head's signature signs is `head_message`, the first 88 bytes of its block.
+use Rattle.std.specs.Prelude.{◌≡◌, ℕ, List, Some, IsTrue, ◌↔◌}
 use Rattle.ivy_base.specs.declared.key.Key.{Key}
 use Rattle.ivy_base.specs.declared.key.PubKey.{PubKey}
 use Rattle.ivy_base.specs.Naming.{head_key_of}
-use Rattle.log_model.specs.Spelling.{most_records, head_message, head_block, IsHeadOf}
+use Rattle.log_model.specs.Spelling.{head_message, IsHeadOf}
+use Rattle.log_model.specs.Heads.{stamp}
 use Rattle.dht_ids.specs.declared.judge.Judged.{Judged}
-use Rattle.log_records.specs.Heads.{stamp, owner_in, seq_in, name_in, is_block}
-use Rattle.hash_signature_model.specs.declared.set.LmsFault.{LmsFault}
 use Rattle.hss_keys.specs.Hss.{HssAccepts}
-use Rattle.hss_keys.specs.Reading.{hss_verdict}
-
--- each is below 256
-abbrev pub are_bytes : List ℕ → Bool
-are_bytes bytes = list_all (λ b. nat_lt b 256) bytes
+use Rattle.dhash_model.specs.Signed.{are_bytes, hss_judged}
 
 -- The bytes are a head under that key and say this, and its signature of what it signs is accepted under its public key
 -- (RFC 8554, section 6.3)
@@ -26,34 +18,6 @@ pub record IsSignedHead (key : Key) (bytes : List ℕ) (judged : Judged) : Type 
   pub head : IsHeadOf owner bytes (stamp judged.seq judged.name) signature
   pub key_is : key ≡ head_key_of owner
   pub accepted : HssAccepts owner.0 (head_message owner (stamp judged.seq judged.name)) signature
-
--- ---- the same by tests of the places
-
--- what stands in the place of the signature, whose length stands in front of it
-abbrev pub signature_in : List ℕ → List ℕ
-signature_in bytes = take (from_be_bytes w32 (take 4 (drop 88 bytes))) (drop 92 bytes)
-
--- the bytes are a head with that owner, number, name and signature
-abbrev pub is_head : List ℕ → PubKey → ℕ → Key → List ℕ → Bool
-is_head bytes owner seq name signature =
-    is_block 60 owner.0 && nat_le 1 seq && nat_le seq most_records && is_block 20 name.0 && nat_le (length signature) 16000 && are_bytes bytes
-    && bytes_eq bytes (head_block owner (stamp seq name) signature)
-
-abbrev pub is_yes : Result (Unit {0}) LmsFault → Bool
-is_yes (Ok x) = true
-is_yes (Err fault) = false
-
--- and it is under the key, and signed
-abbrev pub is_signed : Key → List ℕ → PubKey → ℕ → Key → List ℕ → Bool
-is_signed key bytes owner seq name signature =
-    is_head bytes owner seq name signature && bytes_eq key.0 (head_key_of owner).0 && is_yes (hss_verdict owner.0 (head_message owner (stamp seq name)) signature)
-
-abbrev pub is_signed_head : Key → List ℕ → Bool
-is_signed_head key bytes = is_signed key bytes (owner_in bytes) (seq_in bytes) (name_in bytes) (signature_in bytes)
-
--- what the bytes say as a signed head under the key, where they are one
-abbrev pub hss_judged : Key → List ℕ → Option Judged
-hss_judged key bytes = if is_signed_head key bytes then Some (record { seq = seq_in bytes; name = name_in bytes }) else None
 
 -- ---- the law
 

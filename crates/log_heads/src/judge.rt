@@ -23,7 +23,7 @@ const SIGNED_LEN: usize = 88;
 pub struct HssJudge;
 
 impl Judge for HssJudge {
-    ghost use Rattle.log_heads.specs.Signed.{hss_judged};
+    ghost use Rattle.dhash_model.specs.Signed.{hss_judged};
 
     ghost judges = { λ _ key bytes. hss_judged key bytes };
 

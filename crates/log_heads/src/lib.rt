@@ -13,7 +13,7 @@
 //!
 //! Definitions: what a head is and what its signature signs are `IsHeadOf` and `head_message` of `log_model`.
 //! When a signature is accepted is `HssAccepts` of `hss_keys`. `specs/Signed.antt` joins them, and has the
-//! function and the law; `specs/Sealed.antt` has the law of sealed heads.
+//! law; the function is `hss_judged` of `dhash_model`. `specs/Sealed.antt` has the law of sealed heads.
 //!
 //! Costs: nothing allocates, and nothing is copied but the owner's key and the name. The signature, which
 //! takes hundreds to thousands of hashes, is checked only where the key is right, which takes one SHA-1.

@@ -3,8 +3,8 @@
 ghost use Rattle.std.specs.Prelude.{◌≡◌, ◌↔◌, ◌+◌, ◌≤◌, ◌∷◌, ◌++◌, Err, IfOk, OnOk, OnErr};
 ghost use Rattle.dht_ids.specs.declared.signature.SignFault.TheVariants.{Spent};
 ghost use Rattle.wire_model.specs.Xdr.{word};
-ghost use Rattle.log_model.specs.Spelling.{most_records, head_message, head_block};
-ghost use Rattle.log_records.specs.Heads.{stamp};
+ghost use Rattle.log_model.specs.Spelling.{most_records, head_message, head_block, head_tag};
+ghost use Rattle.log_model.specs.Heads.{stamp};
 ghost use Rattle.log_heads.specs.Sealed.{SealedHeadsAreJudged};
 
 use dht_ids::{SignFault, Signature};
@@ -91,7 +91,7 @@ fn joined(front: &[u8; 64], back: &[u8; 24]) -> [u8; 88]
 
 /// The mark of a head, and the owner.
 fn front_of(owner: &PubKey) -> [u8; 64]
-    ensures { result ≡ 73 ∷ 86 ∷ 72 ∷ 49 ∷ owner.now.0 }
+    ensures { result ≡ head_tag ++ owner.now.0 }
 {
     let mut out = [0u8; 64];
     out[..4].copy_from_slice(&MAGIC[..]);

@@ -17,6 +17,7 @@ use Rattle.wire_model.specs.Xdr.{word, double_word, opaque, optional, array, mom
 use Rattle.log_model.specs.Vector.{Entry, Vector, Stamp, stamp_at}
 use Rattle.log_model.specs.Record.{Record, Heading, heading_of}
 use Rattle.log_model.specs.View.{most_cited}
+use Rattle.tree_model.specs.Tree.{longest_file}
 
 -- a kind as an inode's record has it (RFC 1813, section 2.5, ftype3)
 abbrev pub kind_number : Kind → ℕ
@@ -124,14 +125,14 @@ pub record IsChange (c : Change) : Type 0 where
   pub mode : IfSome c.mode IsMode
   pub uid : IfSome c.uid (λ n. n < 2 ^ 32)
   pub gid : IfSome c.gid (λ n. n < 2 ^ 32)
-  pub size : IfSome c.size (λ n. n ≤ 16777216)
+  pub size : IfSome c.size (λ n. n ≤ longest_file)
   pub atime : IfSome c.atime IsMoment
   pub mtime : IfSome c.mtime IsMoment
 
 -- the operation's parts have their bounds
 abbrev pub OperationFits : Op → Type 0
 OperationFits (op.Inode number kind mode uid gid target) = IsKey number × IsMode mode × (uid < 2 ^ 32) × (gid < 2 ^ 32) × IsTarget kind target
-OperationFits (op.Write number offset bytes) = IsKey number × (1 ≤ length bytes) × (length bytes ≤ 8192) × (offset + length bytes ≤ 16777216)
+OperationFits (op.Write number offset bytes) = IsKey number × (1 ≤ length bytes) × (length bytes ≤ 8192) × (offset + length bytes ≤ longest_file)
 OperationFits (op.Link dir name number) = IsKey dir × IsFileName name × IsKey number
 OperationFits (op.Unlink dir name) = IsKey dir × IsFileName name
 OperationFits (op.Rename dir name to_dir to_name) = IsKey dir × IsFileName name × IsKey to_dir × IsFileName to_name
@@ -170,9 +171,13 @@ pub record IsRecordOf (owner : PubKey) (block : List ℕ) (r : Record) : Type 0 
 
 -- ---- heads
 
--- what a head's signature signs: "IVH1", the public key, the number and the name of the log's newest record
+-- "IVH1"
+abbrev pub head_tag : List ℕ
+head_tag = 73 ∷ 86 ∷ 72 ∷ 49 ∷ []
+
+-- what a head's signature signs: the tag, the public key, the number and the name of the log's newest record
 abbrev pub head_message : PubKey → Stamp → List ℕ
-head_message owner newest = 73 ∷ 86 ∷ 72 ∷ 49 ∷ owner.0 ++ word newest.seq ++ newest.name.0
+head_message owner newest = head_tag ++ owner.0 ++ word newest.seq ++ newest.name.0
 
 abbrev pub head_block : PubKey → Stamp → List ℕ → List ℕ
 head_block owner newest signature = head_message owner newest ++ opaque signature

@@ -35,9 +35,13 @@ is_former view log = is_log_of view.former log
 abbrev pub is_named : View → Key → Bool
 is_named view log = is_member view log || is_former view log
 
--- the block of a view: "IVV1", and its two lists of public keys
+-- "IVV1"
+abbrev pub view_tag : List ℕ
+view_tag = 73 ∷ 86 ∷ 86 ∷ 49 ∷ []
+
+-- the block of a view: its tag, and its two lists of public keys
 abbrev pub view_block : View → List ℕ
-view_block view = 73 ∷ 86 ∷ 86 ∷ 49 ∷ array (λ k. k.0) view.members ++ array (λ k. k.0) view.former
+view_block view = view_tag ++ array (λ k. k.0) view.members ++ array (λ k. k.0) view.former
 
 abbrev pub view_name : View → Key
 view_name view = name (view_block view)

@@ -11,11 +11,11 @@ use Rattle.log_model.specs.Record.{Record}
 use Rattle.log_model.specs.Rank.{own_entry, full_vector}
 use Rattle.log_model.specs.Chain.{GoesOn, IsChain, LinkedFrom}
 use Rattle.log_model.proofs.Lists.{here, there, in_nothing, each_append}
-use Rattle.log_records.specs.declared.edge.Edge.{Edge}
-use Rattle.log_records.specs.Batches.{Batch, owner_of, stamp_in, as_edge, owners_in, KnowsEdge, GoesOnFrom, EndsAt, OldestNames, HasRecord, name_or_none, IsSound, IsOnward, Extends, AreApart, IsBatch, AreUnder}
+use Rattle.log_model.specs.Fetched.{Edge, owner_of, stamp_in, as_edge, KnowsEdge, GoesOnFrom, EndsAt, OldestNames, HasRecord, IsSound, IsOnward}
+use Rattle.log_model.specs.Heads.{stamp}
+use Rattle.log_records.specs.Batches.{Batch, owners_in, name_or_none, Extends, AreApart, IsBatch, AreUnder}
 use Rattle.log_records.specs.BatchLaws.{ChainsBegin, ChainsGoOn}
 use Rattle.log_records.specs.declared.batch.Chain.{Chain}
-use Rattle.log_records.specs.Heads.{stamp}
 use Rattle.log_records.specs.Records.{records_of}
 use Rattle.log_records.specs.Kept.{chain_of, chains_of}
 

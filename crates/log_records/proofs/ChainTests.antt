@@ -8,12 +8,12 @@ use Rattle.log_model.specs.View.{View}
 use Rattle.log_model.specs.Vector.{Stamp, Vector, stamp_at, seq_of}
 use Rattle.log_model.specs.Record.{Record}
 use Rattle.log_model.specs.Chain.{IsGood}
+use Rattle.log_model.specs.Fetched.{Edge, owner_of, MayBeNext, KnowsEdge, GoesOnFrom, EndsAt, Names, OldestNames, HasRecord, PassesFloor, IsSound, IsOnward}
+use Rattle.log_model.specs.Heads.{stamp}
 use Rattle.version_vectors.specs.declared.entry.Entry.{Entry}
 use Rattle.version_vectors.specs.Entries.{entry_of}
-use Rattle.log_records.specs.declared.edge.Edge.{Edge}
-use Rattle.log_records.specs.Heads.{stamp}
 use Rattle.log_records.specs.Walks.{BeginsSpelled, GoesOnInside}
-use Rattle.log_records.specs.Batches.{owner_of, AreOfOneOwner, MayBeNext, KnowsEdge, GoesOnFrom, EndsAt, Names, OldestNames, HasRecord, PassesFloor, IsSound, IsOnward}
+use Rattle.log_records.specs.Batches.{AreOfOneOwner}
 use Rattle.log_records.proofs.Walks.{HasAt, assemble, take_apart}
 
 -- ---- two tests

@@ -12,10 +12,10 @@ use Rattle.log_model.specs.Vector.{Stamp, reach}
 use Rattle.log_model.specs.Record.{Record}
 use Rattle.log_model.specs.Spelling.{IsKey, IsBlock, IsMode, IsTarget, IsChange, OperationFits, IsEndOp, HasSpelling, no_name}
 use Rattle.log_model.specs.Chain.{IsFirst}
-use Rattle.block_parts.specs.Parts.{longest_file}
+use Rattle.log_model.specs.Fetched.{MayBeNext}
 use Rattle.log_records.specs.Parts.{IsPlace}
 use Rattle.log_records.specs.Spelled.{IsInPlace}
-use Rattle.log_records.specs.Batches.{MayBeNext}
+use Rattle.tree_model.specs.Tree.{longest_file}
 
 -- ---- whether an operation fits, where it is of that form
 

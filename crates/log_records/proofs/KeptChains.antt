@@ -9,12 +9,12 @@ use Rattle.log_model.specs.Vector.{Stamp, stamp_at, Dominates}
 use Rattle.log_model.specs.Record.{Record}
 use Rattle.log_model.specs.Spelling.{HasSpelling}
 use Rattle.log_model.specs.Chain.{Follows}
+use Rattle.log_model.specs.Fetched.{Edge, owner_of, MayBeNext, KnowsEdge}
 use Rattle.version_vectors.specs.declared.entry.Entry.{Entry}
 use Rattle.version_vectors.specs.Entries.{entry_of}
 use Rattle.log_records.specs.declared.record.Record as kept
 use Rattle.log_records.specs.Records.{record_of, records_of}
-use Rattle.log_records.specs.declared.edge.Edge.{Edge}
-use Rattle.log_records.specs.Batches.{owner_of, AreOfOneOwner, MayBeNext, KnowsEdge}
+use Rattle.log_records.specs.Batches.{AreOfOneOwner}
 use Rattle.log_records.proofs.Walks.{HasAt, owned_at}
 use Rattle.log_records.proofs.Knowing.{knows, knows_before}
 

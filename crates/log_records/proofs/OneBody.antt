@@ -13,10 +13,10 @@ use Rattle.wire_model.specs.Xdr.{IsWord, IsDoubleWord, IsWordMoment}
 use Rattle.wire_model.proofs.OneReading.{◌▷◌, of_parts, of_fewer, one_word, one_double_word, one_moment, one_short_opaque, one_optional, one_raw}
 use Rattle.block_parts.proofs.OneParts.{one_kind}
 use Rattle.log_model.specs.Spelling.{record_kind, body, IsMoment, IsTarget, IsChange, OperationFits}
-use Rattle.block_parts.specs.Parts.{longest_file}
 use Rattle.log_records.specs.Parts.{change_block, IsOfKind}
 use Rattle.log_records.specs.Shapes.{IsChangeShape, HasShape, IsShapeOf}
 use Rattle.log_records.proofs.ReadParts.{one_long_key}
+use Rattle.tree_model.specs.Tree.{longest_file}
 
 -- the parts of a change, side by side
 abbrev pub ChangeParts : Type 0

@@ -1,5 +1,5 @@
 -- Heads: each has one spelling, and where none can be read.
-use Rattle.std.proofs.Common.{◌≡◌, ℕ, List, [], ◌∷◌, ◌++◌, Option, Some, refl, ap, arith}
+use Rattle.std.proofs.Common.{◌≡◌, ℕ, List, [], ◌++◌, Option, Some, refl, ap, arith}
 use Rattle.std.specs.Prelude.{◌≢◌}
 use Rattle.ivy_base.specs.declared.key.Key.{Key}
 use Rattle.ivy_base.specs.declared.key.PubKey.{PubKey}
@@ -10,9 +10,10 @@ use Rattle.wire_model.specs.Parts.{Reads}
 use Rattle.wire_model.proofs.Made.{Made}
 use Rattle.wire_model.proofs.PartByPart.{◌▸◌, part, made_read}
 use Rattle.log_model.specs.Vector.{Stamp}
-use Rattle.log_model.specs.Spelling.{IsBlock, IsKey, IsHeadOf}
+use Rattle.log_model.specs.Spelling.{IsBlock, IsKey, IsHeadOf, head_tag}
+use Rattle.log_model.specs.Heads.{stamp}
 use Rattle.block_parts.specs.Parts.{constant_bytes, as_it_stands, key_bytes}
-use Rattle.log_records.specs.Heads.{stamp, IsNumber, Parts, IsHead, head_bytes}
+use Rattle.log_records.specs.Heads.{IsNumber, Parts, IsHead, head_bytes}
 use Rattle.log_records.specs.Laws.{HeadsAreOne}
 use Rattle.block_parts.proofs.Constants.{one_constant}
 use Rattle.block_parts.proofs.OneParts.{one_block, one_key}
@@ -24,9 +25,6 @@ use Rattle.log_records.proofs.ReadParts.{is_whole, is_not_whole, block_read, tru
 pub one_number : ReadsOne IsNumber word
 one_number = of_fewer {Fewer = IsNumber} (λ n f. omega (arith, f.1)) one_word
 
-abbrev magic : List ℕ
-magic = 73 ∷ 86 ∷ 72 ∷ 49 ∷ []
-
 abbrev Two : Type 0
 Two = Unit {0} × List ℕ
 
@@ -34,10 +32,10 @@ abbrev IsTwo : Two → Type 0
 IsTwo p = IsAny p.0 × IsBlock 60 p.1
 
 abbrev two : Two → List ℕ
-two p = constant_bytes magic p.0 ++ as_it_stands p.1
+two p = constant_bytes head_tag p.0 ++ as_it_stands p.1
 
 one_two : ReadsOne IsTwo two
-one_two = one_constant magic ▷ one_block 60
+one_two = one_constant head_tag ▷ one_block 60
 
 abbrev Three : Type 0
 Three = Two × ℕ
@@ -81,11 +79,11 @@ made_head : Made IsFive five IsHead head_bytes parts_in
 made_head = record { whole = λ p f. (f.0.0.0.1, f.0.0.1, f.0.1, f.1); spelled = λ p. refl; parts = λ p f. record { part = chain p; fits = chain_fits p f; same = refl } }
 
 pub head_read : {a b c d e f : Option (List ℕ)} {owner signature : List ℕ} {n : ℕ} {name : Key} → IsBlock 60 owner → IsKey name
-    → Reads IsAny (constant_bytes magic) a tt b → Reads (IsOfLength 60) as_it_stands b owner c → Reads IsNumber word c n d → Reads IsKeyLong key_bytes d name e → Reads (IsUpTo 16000) opaque e signature f
+    → Reads IsAny (constant_bytes head_tag) a tt b → Reads (IsOfLength 60) as_it_stands b owner c → Reads IsNumber word c n d → Reads IsKeyLong key_bytes d name e → Reads (IsUpTo 16000) opaque e signature f
     → Reads IsHead head_bytes a ((record { 0 = owner }, stamp n name), signature) f
 head_read owner name p q r s t =
     (made_read made_head (
-    part (one_constant magic) p ▸ part (one_block 60) (block_read 60 owner q) ▸ part one_number r ▸ part one_key (true_key_read name s) ▸ part (one_short_opaque 16000 (omega arith)) t
+    part (one_constant head_tag) p ▸ part (one_block 60) (block_read 60 owner q) ▸ part one_number r ▸ part one_key (true_key_read name s) ▸ part (one_short_opaque 16000 (omega arith)) t
     )).reads
 
 module _ {bytes : List ℕ} {a b : Option (List ℕ)} {owner : PubKey} {newest : Stamp} {signature : List ℕ} (all : a ≡ Some bytes) (f : Reads IsHead head_bytes a ((owner, newest), signature) b) where

@@ -14,9 +14,10 @@ use Rattle.ivy_base.specs.Naming.{head_key_of}
 use Rattle.wire_model.specs.Xdr.{word, opaque}
 use Rattle.wire_model.proofs.OneReading.{whole}
 use Rattle.log_model.specs.Vector.{Stamp}
-use Rattle.log_model.specs.Spelling.{IsBlock, most_records, head_block, IsHeadOf}
+use Rattle.log_model.specs.Spelling.{IsBlock, most_records, head_block, IsHeadOf, head_tag}
+use Rattle.log_model.specs.Heads.{stamp, owner_in, seq_in, name_in, is_block}
 use Rattle.dht_ids.specs.declared.judge.Judged.{Judged}
-use Rattle.log_records.specs.Heads.{Parts, stamp, IsPlainHead, owner_in, seq_in, name_in, is_block, is_plain, is_plain_head, plain_judged}
+use Rattle.log_records.specs.Heads.{Parts, IsPlainHead, is_plain, is_plain_head, plain_judged}
 use Rattle.log_records.specs.Laws.{PlainHeadsAreJudged}
 use Rattle.block_parts.proofs.Tested.{same_key}
 use Rattle.log_records.proofs.OneHead.{one_head}
@@ -74,10 +75,10 @@ abbrev after_owner : ℕ → Key → List ℕ
 after_owner seq name = word seq ++ (name.0 ++ opaque [])
 
 abbrev placed : PubKey → ℕ → Key → List ℕ
-placed owner seq name = 73 ∷ 86 ∷ 72 ∷ 49 ∷ (owner.0 ++ after_owner seq name)
+placed owner seq name = head_tag ++ (owner.0 ++ after_owner seq name)
 
 spelled_from : (owner : PubKey) (seq : ℕ) (name : Key) → head_block owner (stamp seq name) [] ≡ placed owner seq name
-spelled_from owner seq name = ap (λ (s : List ℕ). 73 ∷ 86 ∷ 72 ∷ 49 ∷ s) (append_assoc (owner.0 ++ word seq) name.0 (opaque []) ∙ append_assoc owner.0 (word seq) (name.0 ++ opaque []))
+spelled_from owner seq name = ap (λ (s : List ℕ). head_tag ++ s) (append_assoc (owner.0 ++ word seq) name.0 (opaque []) ∙ append_assoc owner.0 (word seq) (name.0 ++ opaque []))
 
 owner_there : (owner : PubKey) (seq : ℕ) (name : Key) → length owner.0 ≡ 60 → owner_in (placed owner seq name) ≡ owner
 owner_there owner seq name l = ap (λ (s : List ℕ). record { 0 = s }) (take_at owner.0 (after_owner seq name) 60 l)

@@ -15,8 +15,8 @@ use Rattle.log_model.specs.Chain.{IsGood, Follows, GoesOn}
 use Rattle.log_model.proofs.Lists.{each, both}
 use Rattle.version_vectors.specs.declared.entry.Entry.{Entry}
 use Rattle.version_vectors.specs.Entries.{vector_of}
-use Rattle.log_records.specs.declared.edge.Edge.{Edge}
-use Rattle.log_records.specs.Batches.{owner_of, AreOfOneOwner, MayBeNext, KnowsEdge, GoesOnFrom, EndsAt, HasRecord}
+use Rattle.log_model.specs.Fetched.{Edge, owner_of, MayBeNext, KnowsEdge, GoesOnFrom, EndsAt, HasRecord}
+use Rattle.log_records.specs.Batches.{AreOfOneOwner}
 use Rattle.log_records.specs.Walks.{GoesOnInside, BeginsSpelled}
 
 -- the list has x at that index

@@ -5,8 +5,8 @@ use Rattle.log_model.specs.Vector.{Stamp, Vector}
 use Rattle.log_model.specs.Record.{Record}
 use Rattle.log_model.specs.Rank.{own_entry}
 use Rattle.log_model.specs.Chain.{IsChain}
-use Rattle.log_records.specs.declared.edge.Edge.{Edge}
-use Rattle.log_records.specs.Batches.{owner_of, stamp_in, as_edge, GoesOnFrom, EndsAt, Extends}
+use Rattle.log_model.specs.Fetched.{Edge, owner_of, stamp_in, as_edge, GoesOnFrom, EndsAt}
+use Rattle.log_records.specs.Batches.{Extends}
 
 -- where nothing of its log is held, it is a chain from the opening record on
 abbrev pub ChainsBegin : Type 0

@@ -1,18 +1,13 @@
 -- Heads of logs as they are read and written, and which of them the plain judge takes.
-use Rattle.std.specs.Prelude.{◌≡◌, ℕ, ◌≤◌, Bool, ◌&&◌, List, [], length, take, drop, Option, Some, None, if◌then◌else◌, nat_eq, nat_lt, nat_le}
-use Rattle.std.specs.Int.{w32, from_be_bytes}
-use Rattle.std.specs.List.{list_all}
+use Rattle.std.specs.Prelude.{◌≡◌, ℕ, ◌≤◌, Bool, ◌&&◌, List, [], length, Option, Some, None, if◌then◌else◌, nat_le}
 use Rattle.std.specs.Str.{bytes_eq}
 use Rattle.ivy_base.specs.declared.key.Key.{Key}
 use Rattle.ivy_base.specs.declared.key.PubKey.{PubKey}
 use Rattle.ivy_base.specs.Naming.{head_key_of}
 use Rattle.log_model.specs.Vector.{Stamp}
 use Rattle.log_model.specs.Spelling.{IsBlock, IsKey, most_records, head_block, IsHeadOf}
+use Rattle.log_model.specs.Heads.{stamp, owner_in, seq_in, name_in, is_block}
 use Rattle.dht_ids.specs.declared.judge.Judged.{Judged}
-
--- a record by its number and its name
-abbrev pub stamp : ℕ → Key → Stamp
-stamp seq name = record { seq = seq; name = name }
 
 -- a record's number in its log
 abbrev pub IsNumber : ℕ → Type 0
@@ -33,19 +28,6 @@ pub record IsPlainHead (key : Key) (bytes : List ℕ) (judged : Judged) : Type 0
   pub owner : PubKey
   pub head : IsHeadOf owner bytes (stamp judged.seq judged.name) []
   pub key_is : key ≡ head_key_of owner
-
--- what stands in the places of the owner, the number and the name
-abbrev pub owner_in : List ℕ → PubKey
-owner_in bytes = record { 0 = take 60 (drop 4 bytes) }
-
-abbrev pub seq_in : List ℕ → ℕ
-seq_in bytes = from_be_bytes w32 (take 4 (drop 64 bytes))
-
-abbrev pub name_in : List ℕ → Key
-name_in bytes = record { 0 = take 20 (drop 68 bytes) }
-
-abbrev pub is_block : ℕ → List ℕ → Bool
-is_block count bytes = nat_eq (length bytes) count && list_all (λ b. nat_lt b 256) bytes
 
 -- they are a head under the key with that owner, number and name, and with an empty signature
 abbrev pub is_plain : Key → List ℕ → PubKey → ℕ → Key → Bool

@@ -3,9 +3,9 @@ use Rattle.std.specs.Prelude.{List, map}
 use Rattle.ivy_base.specs.declared.key.Key.{Key}
 use Rattle.log_model.specs.Vector.{Stamp}
 use Rattle.log_model.specs.Record.{Record}
+use Rattle.log_model.specs.Heads.{stamp}
 use Rattle.log_records.specs.declared.record.Record as kept
 use Rattle.log_records.specs.declared.batch.Chain.{Chain}
-use Rattle.log_records.specs.Heads.{stamp}
 use Rattle.log_records.specs.Records.{record_of, records_of}
 
 abbrev pub chain_of : Chain → Stamp × List Record

@@ -1,19 +1,18 @@
 -- Parts of a record's block that are read and written as one, with their bounds.
 use Rattle.std.specs.Prelude.{◌≡◌, ℕ, ◌+◌, ◌≤◌, List, ◌++◌, length}
+use Rattle.std.specs.Int.{w32, from_be_bytes}
 use Rattle.ivy_base.specs.declared.key.Key.{Key}
 use Rattle.ivy_base.specs.declared.format.Format.{Format}
-use Rattle.ivy_base.specs.declared.format.Format.TheVariants.{One, Two}
 use Rattle.ivy_base.specs.declared.operation.Change.{Change}
 use Rattle.ivy_base.specs.declared.operation.Op.{Op}
 use Rattle.ivy_base.specs.Naming.{IsFileName}
 use Rattle.wire_model.specs.Xdr.{word, double_word, opaque, optional, moment}
-use Rattle.log_model.specs.Spelling.{record_kind, IsKey, OperationFits}
-use Rattle.block_parts.specs.Parts.{longest_file}
+use Rattle.log_model.specs.Spelling.{record_kind, record_tag, IsKey, OperationFits}
+use Rattle.tree_model.specs.Tree.{longest_file}
 
--- the tag of each format, read as a number: "IVR1", "IVR2"
+-- the tag of each format, read as a number
 abbrev pub tag_number : Format → ℕ
-tag_number One = 1230393905
-tag_number Two = 1230393906
+tag_number format = from_be_bytes w32 (record_tag format)
 
 -- a name in a directory
 abbrev pub place_block : Key × List ℕ → List ℕ

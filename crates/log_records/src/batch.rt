@@ -2,18 +2,19 @@
 
 ghost use Rattle.std.specs.Prelude.{◌≡◌, [], ◌∷◌, ◌++◌, Contains, None, map, IfOk, OnOk, IfErr, OnErr, IfSome};
 ghost use Rattle.log_model.specs.Vector.{stamp_at};
+ghost use Rattle.log_model.specs.Heads.{stamp};
+ghost use Rattle.log_model.specs.Fetched.{owner_of, stamp_in, GoesOnFrom, EndsAt, IsSound, IsOnward, ChainFails};
 ghost use Rattle.ivy_base.specs.Naming.{head_key_of};
 ghost use Rattle.log_records.specs.Records.{records_of};
-ghost use Rattle.log_records.specs.Heads.{stamp};
-ghost use Rattle.log_records.specs.Batches.{owner_of, stamp_in, owners_in, AreOfOneOwner, GoesOnFrom, EndsAt, IsSound, IsOnward, ChainFails, IsBatch};
+ghost use Rattle.log_records.specs.Batches.{owners_in, AreOfOneOwner, IsBatch};
 
 use crate::chain::test_chain;
-use crate::chain_fault::ChainFault;
 use crate::edge::Edge;
 use crate::record::Record;
 use crate::records::Records;
 use dht_ids::Judged;
 use ivy_base::Memory;
+use log_model::ChainFault;
 use std::alloc::Global;
 use std::marker::Model;
 use version_vectors::Vector;

@@ -8,18 +8,19 @@ ghost use Rattle.log_model.specs.Vector.{stamp_at, seq_of};
 ghost use Rattle.log_model.specs.Spelling.{HasSpelling};
 ghost use Rattle.log_model.specs.Rank.{own_entry};
 ghost use Rattle.log_model.specs.Chain.{IsGood, Follows};
-ghost use Rattle.log_records.specs.Heads.{stamp};
+ghost use Rattle.log_model.specs.Heads.{stamp};
+ghost use Rattle.log_model.specs.Fetched.{owner_of, stamp_in, MayBeNext, KnowsEdge, GoesOnFrom, EndsAt, Names, HasRecord, PassesFloor, IsSound, IsOnward, ChainFails};
 ghost use Rattle.log_records.specs.Records.{record_of, records_of};
 ghost use Rattle.log_records.specs.Kept.{names_of};
 ghost use Rattle.log_records.specs.Walks.{GoesOnInside, BeginsSpelled};
-ghost use Rattle.log_records.specs.Batches.{owner_of, stamp_in, AreOfOneOwner, MayBeNext, KnowsEdge, GoesOnFrom, EndsAt, Names, HasRecord, PassesFloor, IsSound, IsOnward, ChainFails};
+ghost use Rattle.log_records.specs.Batches.{AreOfOneOwner};
 
-use crate::chain_fault::ChainFault;
 use crate::edge::Edge;
 use crate::record::{Record, has_made_number};
 use crate::spelled::is_spelled;
 use dht_ids::Judged;
 use ivy_base::{Key, Memory, head_key};
+use log_model::ChainFault;
 use std::alloc::Global;
 use version_vectors::{Entry, Vector};
 use view_blocks::View;
@@ -172,7 +173,7 @@ fn knows_edge(log: &Key, held: &Vector, edge: &Option<Edge>, first: &Record) -> 
     ensures { IsTrue result ↔ KnowsEdge (stamp_at held.now log.now) edge.now (record_of first.now) }
 {
     match (held.get(log), edge) {
-        (Some(_), Some(edge)) => first.vector.dominates(&edge.vector),
+        (Some(_), Some(edge)) => first.vector.dominates(edge.vector()),
         _ => true,
     }
 }

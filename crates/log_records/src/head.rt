@@ -5,7 +5,8 @@ ghost use Rattle.ivy_base.specs.declared.key.PubKey.{PubKey};
 ghost use Rattle.wire_model.specs.Parts.{Reads};
 ghost use Rattle.log_model.specs.Vector.{Stamp};
 ghost use Rattle.log_model.specs.Spelling.{head_block, IsHeadOf};
-ghost use Rattle.log_records.specs.Heads.{stamp, IsHead, head_bytes};
+ghost use Rattle.log_model.specs.Heads.{stamp};
+ghost use Rattle.log_records.specs.Heads.{IsHead, head_bytes};
 
 use crate::parts::{read_key, read_number, read_tag};
 use block_parts::{check_block, opaque_len, put_key, put_owner};

@@ -39,8 +39,8 @@
 //! Definitions: the spellings are those of `log_model`.
 //! - `specs/Records.antt`: what a read record is and when each fault comes; `specs/Heads.antt`: what the
 //!   plain judge takes; `specs/Laws.antt`: the laws.
-//! - `specs/Batches.antt`: when a chain is sound and goes on, what each batch is, and that its chains were
-//!   added under a view.
+//! - `specs/Batches.antt`: what each batch is, and that its chains were added under a view. When a chain is
+//!   sound and goes on is said by `log_model` (`specs/Fetched.antt` there).
 //! - `specs/BatchLaws.antt`: the laws of batches; `specs/Kept.antt`: how a [`Chain`] is seen;
 //!   `specs/Places.antt`: the place of a record.
 //! - Only the functions inside use `specs/Parts`, `specs/Shapes`, `specs/Frames`, `specs/Sizes`,
@@ -60,7 +60,6 @@ mod batch_laws;
 mod body;
 mod body_writing;
 mod chain;
-pub mod chain_fault;
 mod change;
 mod change_writing;
 pub mod edge;
@@ -77,14 +76,14 @@ mod spelled;
 
 pub use batch::{Batch, Chain};
 pub use batch_laws::chains_go_on;
-pub use chain_fault::ChainFault;
 pub use edge::Edge;
 pub use fault::RecordFault;
 pub use frame::MOST_CITED;
 pub use head::{Head, plain_head};
 pub use judge::PlainJudge;
 pub use laws::blocks_are_one;
+pub use log_model::ChainFault;
 pub use parts::MOST_RECORDS;
 pub use places::merge_place;
-pub use record::Record;
+pub use record::{MOST_WEIGHED, Record};
 pub use records::Records;

@@ -24,6 +24,10 @@ use std::alloc::Global;
 use version_vectors::{Rank, Vector};
 use xdr_codec::XdrWrite;
 
+/// The most entries of a vector whose record's weight can be told: the sum of so many numbers is one of 64 bits. What was
+/// read has 32 at most.
+pub const MOST_WEIGHED: usize = 2_147_483_648;
+
 /// The most bytes of a record's block.
 const LONGEST_RECORD: usize = 12_288;
 

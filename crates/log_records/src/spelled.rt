@@ -4,11 +4,11 @@ ghost use Rattle.std.specs.Prelude.{◌≡◌, ◌<◌, ◌≤◌, ◌^◌, ◌+
 ghost use Rattle.ivy_base.specs.Naming.{head_key_of};
 ghost use Rattle.ivy_base.specs.declared.format.Format.TheVariants.{One};
 ghost use Rattle.log_model.specs.Spelling.{no_name, HasSpelling, IsMode, IsMoment, IsTarget, IsChange, OperationFits};
-ghost use Rattle.block_parts.specs.Parts.{longest_file};
 ghost use Rattle.log_records.specs.Frames.{IsCited};
 ghost use Rattle.log_records.specs.Parts.{IsPlace};
 ghost use Rattle.log_records.specs.Records.{record_of};
 ghost use Rattle.log_records.specs.Spelled.{IsInPlace};
+ghost use Rattle.tree_model.specs.Tree.{longest_file};
 
 use crate::chain::is_same;
 use crate::frame::MOST_CITED;

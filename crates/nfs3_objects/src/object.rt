@@ -4,7 +4,7 @@ ghost use Rattle.std.specs.Prelude.{◌≡◌, ◌&&◌, ◌==◌, IfOk, IfErr, 
 ghost use Rattle.log_model.specs.View.{view_name};
 ghost use Rattle.tree_model.specs.Tree.{inode_at};
 ghost use Rattle.nfs_model.specs.Checks.{same_bytes};
-ghost use Rattle.nfs_model.specs.Objects.{handle_of, live_object, object_of};
+ghost use Rattle.nfs_model.specs.Objects.{handle_of, live_object, object_of, handle_tag};
 ghost use Rattle.nfs3_objects.specs.Seen.{seen};
 
 use fs_tree::Tree;
@@ -53,7 +53,7 @@ pub fn object_of<'t>(
 
 /// Whether the bytes have the length and the tag of a handle.
 fn is_handle(handle: &[u8]) -> bool
-    ensures { result ≡ (length handle.now == 44 && same_bytes (take 4 handle.now) (73 ∷ 86 ∷ 89 ∷ 49 ∷ [])) }
+    ensures { result ≡ (length handle.now == 44 && same_bytes (take 4 handle.now) handle_tag) }
 {
     handle.len() == HANDLE && handle[..4] == TAG[..]
 }

@@ -1,7 +1,7 @@
 //! How many bytes entries take, and how many they may take.
 
 ghost use Rattle.std.specs.Prelude.{◌≡◌, ◌<◌, ◌+◌, ◌^◌, min};
-ghost use Rattle.nfs_model.specs.Pages.{room_for_entries};
+ghost use Rattle.nfs_model.specs.Pages.{room_for_entries, longest_page};
 ghost use Rattle.nfs3_reads.specs.Measures.{length_by};
 
 /// The bytes of an entry's number, and of its cookie.
@@ -49,7 +49,7 @@ pub fn length_by(measure: Measure, name: &[u8]) -> usize
 
 /// How many bytes a page may take, of which so many were asked for.
 pub fn most_bytes(count: u32) -> usize
-    ensures { result ≡ min count 32768 }
+    ensures { result ≡ min count longest_page }
 {
     count.min(MOST) as usize
 }

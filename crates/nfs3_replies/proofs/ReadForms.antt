@@ -17,6 +17,7 @@ use Rattle.nfs3_replies.specs.ReadParts.{constant, AreAttributesAndCache, attrib
 use Rattle.wire_model.proofs.PartByPart.{Read}
 use Rattle.wire_model.proofs.Made.{MadeOf, Made, one_made}
 use Rattle.nfs3_replies.proofs.ReadConstants.{one_constant}
+use Rattle.tree_model.specs.Tree.{longest_file}
 
 -- ---- parts
 
@@ -198,7 +199,7 @@ made_space = record {
 }
 
 abbrev pub limits_words : List ℕ
-limits_words = 8192 ∷ 8192 ∷ 512 ∷ 8192 ∷ 8192 ∷ 512 ∷ 8192 ∷ 0 ∷ 16777216 ∷ 0 ∷ 1 ∷ 27 ∷ []
+limits_words = 8192 ∷ 8192 ∷ 512 ∷ 8192 ∷ 8192 ∷ 512 ∷ 8192 ∷ 0 ∷ longest_file ∷ 0 ∷ 1 ∷ 27 ∷ []
 
 abbrev limits_with : Option Fattr × Unit {0} → Reply
 limits_with p = reply.Limits p.0
@@ -216,7 +217,7 @@ properties = many word (0 ∷ 1 ∷ 27 ∷ [])
 pub made_limits : Made IsNumbered (numbered limits_words) (IsDone 19) after_status limits_with
 made_limits = record {
   whole = λ p f. (refl, f.0);
-  spelled = λ p. append_assoc (optional fattr p.0 ++ sizes) (double_word 16777216) properties ∙ append_assoc (optional fattr p.0) sizes (double_word 16777216 ++ properties);
+  spelled = λ p. append_assoc (optional fattr p.0 ++ sizes) (double_word longest_file) properties ∙ append_assoc (optional fattr p.0) sizes (double_word longest_file ++ properties);
   parts = limits_parts;
 }
 

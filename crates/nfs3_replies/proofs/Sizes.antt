@@ -18,6 +18,7 @@ use Rattle.nfs_model.specs.Arguments.{IsVerifier}
 use Rattle.nfs_model.specs.Pages.{plain_length, long_length}
 use Rattle.nfs_model.specs.Results.{status_number, fattr, before, wcc, tail, listed_entry, listed_entry_plus, write_verifier, many, result}
 use Rattle.nfs3_replies.specs.Sizes.{result_bound, HasShortHandle, HasShortHandles, HasWholeVerifier}
+use Rattle.tree_model.specs.Tree.{longest_file}
 
 -- at most so many bytes
 record AtMost (bytes : List ℕ) (n : ℕ) : Type 0 where
@@ -123,7 +124,7 @@ most (reply.DirectoryPlus dir verifier page eof) v f = most_whole_page dir verif
 most (reply.Space object) v f =
     within (most_word 0 ▷ most_attributes object ▷ all_of (many double_word (2 ^ 40 ∷ 2 ^ 40 ∷ 2 ^ 40 ∷ 2 ^ 32 ∷ 2 ^ 32 ∷ 2 ^ 32 ∷ [])) ▷ most_word 0) (omega arith)
 most (reply.Limits object) v f =
-    within (most_word 0 ▷ most_attributes object ▷ all_of (many word (8192 ∷ 8192 ∷ 512 ∷ 8192 ∷ 8192 ∷ 512 ∷ 8192 ∷ [])) ▷ most_double_word 16777216 ▷ all_of (many word (0 ∷ 1 ∷ 27 ∷ []))) (omega arith)
+    within (most_word 0 ▷ most_attributes object ▷ all_of (many word (8192 ∷ 8192 ∷ 512 ∷ 8192 ∷ 8192 ∷ 512 ∷ 8192 ∷ [])) ▷ most_double_word longest_file ▷ all_of (many word (0 ∷ 1 ∷ 27 ∷ []))) (omega arith)
 most (reply.Paths object) v f = within (most_word 0 ▷ most_attributes object ▷ all_of (many word (1000 ∷ 255 ∷ 1 ∷ 1 ∷ 0 ∷ 1 ∷ []))) (omega arith)
 most (reply.Mounted handle) v f = within (most_word 0 ▷ most_opaque handle ▷ all_of (many word (1 ∷ 1 ∷ []))) (omega arith)
 most reply.NoSuchPath v f = record { most = omega arith }

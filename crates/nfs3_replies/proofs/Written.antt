@@ -6,6 +6,7 @@ use Rattle.nfs_model.specs.declared.replies.Wcc.{Wcc}
 use Rattle.nfs_model.specs.declared.replies.Reply.TheVariants as reply
 use Rattle.nfs_model.specs.Results.{fattr, wcc, write_verifier, many, result}
 use Rattle.nfs3_replies.proofs.ReadForms.{space_words, limits_words}
+use Rattle.tree_model.specs.Tree.{longest_file}
 
 -- these bytes were put behind the first ones
 pub record Puts (start done now : List ℕ) : Type 0 where
@@ -33,7 +34,7 @@ properties = many word (0 ∷ 1 ∷ 27 ∷ [])
 pub limits_written : (old : List ℕ) (o : Option Fattr) {new : List ℕ} → new ≡ old ++ ((word 0 ++ optional fattr o) ++ many word limits_words) → new ≡ old ++ result (reply.Limits o)
 limits_written old o put =
     let start = word 0 ++ optional fattr o in
-    put ∙ ap (λ (s : List ℕ). old ++ s) (sym (append_assoc (start ++ sizes) (double_word 16777216) properties ∙ append_assoc start sizes (double_word 16777216 ++ properties)))
+    put ∙ ap (λ (s : List ℕ). old ++ s) (sym (append_assoc (start ++ sizes) (double_word longest_file) properties ∙ append_assoc start sizes (double_word longest_file ++ properties)))
 
 pub written_written : (old : List ℕ) (w : Wcc) (count : ℕ) {new : List ℕ} → new ≡ old ++ (((word 0 ++ wcc w) ++ word count) ++ many word (2 ∷ 1230395734 ∷ 1163019825 ∷ []))
     → new ≡ old ++ result (reply.Written w count)

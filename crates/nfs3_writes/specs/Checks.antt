@@ -3,7 +3,7 @@
 use Rattle.std.specs.Prelude.{ℕ, ◌+◌, nat_le, nat_lt, Bool, ◌||◌, ◌&&◌, not, List, [], ◌∷◌, ◌++◌, length, Option, is_some, ◌==◌}
 use Rattle.ivy_base.specs.declared.key.Key.{Key}
 use Rattle.wire_model.specs.Rpc.{Identity}
-use Rattle.tree_model.specs.Tree.{Tree, is_file, is_directory, directory_kind, file_kind, name_count}
+use Rattle.tree_model.specs.Tree.{Tree, is_file, is_directory, directory_kind, file_kind, name_count, longest_file}
 use Rattle.nfs_model.specs.declared.arguments.SetWhat.{SetWhat}
 use Rattle.nfs_model.specs.declared.replies.NfsStatus.TheVariants as status
 use Rattle.nfs_model.specs.Checks.{Check, is_dot, is_dot_dot}
@@ -47,7 +47,7 @@ write_checks who o offset count bytes =
     (not (file_kind o.inode.kind), status.Inval)
     ∷ (not (may_write who o.inode || is_owner who o.inode), status.Acces)
     ∷ (not (count == length bytes), status.Inval)
-    ∷ (nat_lt 16777216 (offset + length (taken_part bytes)), status.FBig) ∷ []
+    ∷ (nat_lt longest_file (offset + length (taken_part bytes)), status.FBig) ∷ []
 
 -- of REMOVE, where the name leads to that inode or to none
 abbrev pub remove_rest : Tree → List ℕ → Option Key → List Check

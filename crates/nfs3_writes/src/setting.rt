@@ -9,13 +9,13 @@ ghost use Rattle.nfs_model.specs.Changing.{Nothing, Operations, unless, plan_att
 ghost use Rattle.nfs3_objects.specs.Seen.{seen as seen_object};
 ghost use Rattle.nfs3_writes.specs.Checks.{write_checks};
 ghost use Rattle.nfs3_writes.specs.Seen.{seen};
+ghost use Rattle.tree_model.specs.Tree.{longest_file};
 
 use crate::checks::{first_failure, is_file};
 use crate::plans::Plan;
 use crate::refusals::{planned, refused_at, refused_handle, told_of};
-use crate::times::{
-    MOST_FILE, asked_change, has_invalid_time, has_server_time, is_client_time, is_too_large,
-};
+use crate::times::{asked_change, has_invalid_time, has_server_time, is_client_time, is_too_large};
+use block_parts::LONGEST_FILE;
 use fs_tree::Tree;
 use inode_replay::Content;
 use ivy_base::{Bytes, Memory, Moment, Op};
@@ -185,9 +185,9 @@ fn write_fault(
 
 /// Whether bytes from the offset on end where no file may end.
 fn ends_too_far(offset: u64, bytes: &[u8]) -> bool
-    ensures { result ≡ nat_lt 16777216 (offset + length bytes.now) }
+    ensures { result ≡ nat_lt longest_file (offset + length bytes.now) }
 {
-    offset.saturating_add(bytes.len() as u64) > MOST_FILE
+    offset.saturating_add(bytes.len() as u64) > LONGEST_FILE
 }
 
 /// The bytes of a WRITE that are taken.

@@ -4,16 +4,15 @@ ghost use Rattle.std.specs.Prelude.{◌≡◌, ◌||◌, nat_lt, false};
 ghost use Rattle.std.specs.Option.{option_map_or};
 ghost use Rattle.rpc_wire.specs.Callers.{identity_of};
 ghost use Rattle.nfs_model.specs.Changing.{is_invalid_time, is_client_time, is_server_time, given_time, given_mode, permission_bits, usual_mode, new_owner, asked_change, only_times};
+ghost use Rattle.tree_model.specs.Tree.{longest_file};
 
+use block_parts::LONGEST_FILE;
 use ivy_base::{Change, Kind, Moment};
 use nfs_model::{SetTime, SetWhat};
 use rpc_wire::Caller;
 
 /// The nanoseconds of a second.
 const SECOND: u32 = 1_000_000_000;
-
-/// The most bytes of a file.
-pub const MOST_FILE: u64 = 16_777_216;
 
 /// How many permission bits a mode has, as their number of values.
 const MODES: u32 = 0o10000;
@@ -69,10 +68,10 @@ pub fn given_time(now: Moment, time: SetTime) -> Option<Moment>
 
 /// Whether a size is given that no file may have.
 pub fn is_too_large(size: Option<u64>) -> bool
-    ensures { result ≡ option_map_or (nat_lt 16777216) size false }
+    ensures { result ≡ option_map_or (nat_lt longest_file) size false }
 {
     match size {
-        Some(size) => size > MOST_FILE,
+        Some(size) => size > LONGEST_FILE,
         None => false,
     }
 }

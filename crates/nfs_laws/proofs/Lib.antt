@@ -13,3 +13,4 @@ mod PlanForms
 pub mod Counts
 pub mod Replays
 mod PageEntries
+pub mod Faultless

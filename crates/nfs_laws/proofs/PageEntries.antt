@@ -23,7 +23,7 @@ use Rattle.nfs_model.specs.declared.replies.Reply.TheVariants as reply
 use Rattle.nfs_model.specs.Answers.{about, unless}
 use Rattle.nfs_model.specs.Checks.{Check, same_bytes}
 use Rattle.nfs_model.specs.Objects.{Object, object_of, handle_of, attributes, may_read}
-use Rattle.nfs_model.specs.Pages.{placed, all_entries, entries_from, cookie_verifier, fitting, at_least_one, too_small, room_for_entries, entry_length, plain_length, long_length, listed, listed_plus, page_checks, read_directory, read_directory_plus}
+use Rattle.nfs_model.specs.Pages.{placed, all_entries, entries_from, cookie_verifier, fitting, at_least_one, too_small, room_for_entries, entry_length, plain_length, long_length, listed, listed_plus, page_checks, read_directory, read_directory_plus, longest_page}
 use Rattle.nfs_model.specs.Reading.{answer}
 use Rattle.nfs_model.proofs.NameChecks.{same_bytes_itself}
 use Rattle.nfs_model.proofs.Objects.{object_of_handle, object_at}
@@ -211,14 +211,14 @@ good_cookie false true h = refl
 good_cookie false false (inl e) = cc
 good_cookie false false (inr e) = cc
 
-not_too_small : (size : List ℕ → ℕ) (count : ℕ) (left : List Entry) → ((e : Entry) → slice_get left 0 ≡ Some e → 104 + size e.1.0 ≤ min count 32768) → too_small size count left ≡ false
+not_too_small : (size : List ℕ → ℕ) (count : ℕ) (left : List Entry) → ((e : Entry) → slice_get left 0 ≡ Some e → 104 + size e.1.0 ≤ min count longest_page) → too_small size count left ≡ false
 not_too_small size count [] room = refl
-not_too_small size count (e ∷ es) room = le-ltb (min count 32768) (104 + size e.1.0) (room e refl)
+not_too_small size count (e ∷ es) room = le-ltb (min count longest_page) (104 + size e.1.0) (room e refl)
 
 checks_pass : (t : Tree) (view : View) (who : Identity) (handle : List ℕ) (cookie : ℕ) (verifier : List ℕ) (dir : Object) (size : List ℕ → ℕ) (count : ℕ)
     → object_of t view handle ≡ Ok dir → directory_kind dir.inode.kind ≡ true → may_read who dir.inode ≡ true
     → (cookie ≡ 0) ⊎ WasGiven view dir.number (listing t dir.number) verifier
-    → ((name : List ℕ) (number : Key) → StandsAt t dir.number (cookie + 1) name number → 104 + size name ≤ min count 32768)
+    → ((name : List ℕ) (number : Key) → StandsAt t dir.number (cookie + 1) name number → 104 + size name ≤ min count longest_page)
     → Pass (page_checks t who dir cookie verifier size count)
 checks_pass t view who handle cookie verifier dir size count found is_directory readable good room =
     let place : cookie + 1 + 0 ≡ cookie + 1 = omega arith in

@@ -13,7 +13,7 @@ use Rattle.nfs_model.specs.declared.replies.Fattr.{Fattr}
 use Rattle.nfs_model.specs.declared.replies.Listed.{Listed}
 use Rattle.nfs_model.specs.declared.replies.Reply.{Reply}
 use Rattle.nfs_model.specs.declared.replies.Reply.TheVariants as reply
-use Rattle.nfs_model.specs.Pages.{placed, all_entries, fitting, at_least_one, too_small, room_for_entries, entries_from, entry_length, plain_length, long_length, listed, listed_plus, cookie_verifier}
+use Rattle.nfs_model.specs.Pages.{placed, all_entries, fitting, at_least_one, too_small, room_for_entries, entries_from, entry_length, plain_length, long_length, listed, listed_plus, cookie_verifier, longest_page}
 use Rattle.nfs_model.specs.Results.{fattr, listed_entry, listed_entry_plus}
 use Rattle.nfs_laws.specs.Lengths.{NamesAreKeys}
 use Rattle.nfs_laws.proofs.Pages.{Entry, first_fits}
@@ -107,13 +107,13 @@ most_verifier t dir = record { most = let whole = length-take 8 (digest (flat_ma
 
 -- the marks round the entries take 108 bytes
 most_whole_page : {entries : List ℕ} (count : ℕ) (t : Tree) (number : Key) (dir : Option Fattr) (eof : Bool) → AtMost entries (room_for_entries count)
-    → AtMost (word 0 ++ optional fattr dir ++ cookie_verifier t number ++ entries ++ word 0 ++ boolean eof) (4 + max 104 (min count 32768))
+    → AtMost (word 0 ++ optional fattr dir ++ cookie_verifier t number ++ entries ++ word 0 ++ boolean eof) (4 + max 104 (min count longest_page))
 most_whole_page count t number dir eof page =
     within (most_word 0 ▷ most_attributes dir ▷ most_verifier t number ▷ page ▷ most_word 0 ▷ most_boolean eof) (omega arith)
 
 -- the reply takes no more than the room, or what an empty page takes
 abbrev pub IsInRoom : ℕ → Reply → Type 0
-IsInRoom count r = IsWithin (4 + max 104 (min count 32768)) r
+IsInRoom count r = IsWithin (4 + max 104 (min count longest_page)) r
 
 pub most_directory : (count : ℕ) (t : Tree) (number : Key) (dir : Option Fattr) (eof : Bool) (left : List Entry)
     → IsInRoom count (reply.Directory dir (cookie_verifier t number) (map listed (fitting plain_length (room_for_entries count) left)) eof)

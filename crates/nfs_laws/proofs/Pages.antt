@@ -13,7 +13,7 @@ use Rattle.nfs_model.specs.declared.replies.Tail.{Tail}
 use Rattle.nfs_model.specs.declared.replies.Reply.{Reply}
 use Rattle.nfs_model.specs.declared.replies.Reply.TheVariants as reply
 use Rattle.nfs_model.specs.Objects.{Object, object_of}
-use Rattle.nfs_model.specs.Pages.{fitting, at_least_one, too_small, room_for_entries, entries_from, entry_length, plain_length, long_length, listed, listed_plus, page_checks, read_directory, read_directory_plus}
+use Rattle.nfs_model.specs.Pages.{fitting, at_least_one, too_small, room_for_entries, entries_from, entry_length, plain_length, long_length, listed, listed_plus, page_checks, read_directory, read_directory_plus, longest_page}
 use Rattle.nfs_model.specs.Reading.{answer}
 use Rattle.nfs_laws.specs.Listings.{shown, IsPageCall, IsPage, plain, plus}
 use Rattle.nfs_laws.proofs.Ways.{of_unless, of_about}
@@ -55,7 +55,7 @@ some_fit false e es h = omega arith
 
 -- the first of the entries that are left has its place
 pub first_fits : (size : List ℕ → ℕ) (count : ℕ) (e : Entry) (es : List Entry) → too_small size count (e ∷ es) ≡ false → size e.1.0 ≤ room_for_entries count
-first_fits size count e es h = let room = ltb-false (min count 32768) (104 + size e.1.0) h in omega (arith, room)
+first_fits size count e es h = let room = ltb-false (min count longest_page) (104 + size e.1.0) h in omega (arith, room)
 
 fitting_goes_on : (size : List ℕ → ℕ) (count : ℕ) (left : List Entry) → too_small size count left ≡ false
     → (length (fitting size (room_for_entries count) left) == length left) ≡ false → 1 ≤ length (fitting size (room_for_entries count) left)

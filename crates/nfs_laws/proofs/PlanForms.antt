@@ -7,7 +7,7 @@ use Rattle.ivy_base.specs.declared.operation.Moment.{Moment}
 use Rattle.ivy_base.specs.declared.operation.Op.{Op}
 use Rattle.ivy_base.specs.Naming.{inode_number}
 use Rattle.ivy_base.proofs.NameLemmas.{length-digest}
-use Rattle.tree_model.specs.Tree.{Tree, entry, is_directory, is_file, directory_kind, file_kind, name_count}
+use Rattle.tree_model.specs.Tree.{Tree, entry, is_directory, is_file, directory_kind, file_kind, name_count, longest_file}
 use Rattle.log_model.specs.View.{View}
 use Rattle.wire_model.specs.Rpc.{Identity}
 use Rattle.nfs_model.specs.declared.arguments.Args.{Args}
@@ -126,7 +126,7 @@ module _ (t after : Tree) (view : View) (who : Identity) (now : Moment) (own : P
       ((not (file_kind o.inode.kind), Inval)
       ∷ (not (may_write who o.inode || is_owner who o.inode), Acces)
       ∷ (not (count == length bytes), Inval)
-      ∷ (nat_lt 16777216 (offset + length (taken_part bytes)), FBig) ∷ []) _ (λ passed.
+      ∷ (nat_lt longest_file (offset + length (taken_part bytes)), FBig) ∷ []) _ (λ passed.
       of_plan_if (Leads (call.Write handle offset count stable bytes)) (length bytes == 0) _ _
       (λ none. record { form = refl; fits = (now_fits o.number, omega arith) })
       (λ some. on_standing (IsFittingReply (call.Write handle offset count stable bytes)) (object_of t view handle) o _ e

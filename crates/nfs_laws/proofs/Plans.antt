@@ -10,7 +10,7 @@ use Rattle.ivy_base.specs.declared.operation.Op.{Op}
 use Rattle.ivy_base.specs.declared.operation.Op.TheVariants as op
 use Rattle.ivy_base.specs.Naming.{inode_number}
 use Rattle.ivy_base.proofs.NameLemmas.{length-digest}
-use Rattle.tree_model.specs.Tree.{Tree, Inode, inode_at, entry, is_directory, is_file, directory_kind, file_kind, name_count}
+use Rattle.tree_model.specs.Tree.{Tree, Inode, inode_at, entry, is_directory, is_file, directory_kind, file_kind, name_count, longest_file}
 use Rattle.tree_model.proofs.Sound.{both_false, not_false}
 use Rattle.log_model.specs.View.{View}
 use Rattle.log_model.specs.Laws.{NumbersAreKeys}
@@ -122,7 +122,7 @@ module _ (t : Tree) (view : View) (who : Identity) (now : Moment) (own : PubKey)
       ((not (file_kind o.inode.kind), Inval)
       ∷ (not (may_write who o.inode || is_owner who o.inode), Acces)
       ∷ (not (count == length bytes), Inval)
-      ∷ (nat_lt 16777216 (offset + length (take 8192 bytes)), FBig) ∷ []) _ _ (λ passed.
+      ∷ (nat_lt longest_file (offset + length (take 8192 bytes)), FBig) ∷ []) _ _ (λ passed.
       by_test (length bytes == 0) _ _ (λ none keys. short_written _ 0) (λ some. (omega arith, omega arith, λ keys. tt))))
 
   goes_remove : (handle name : List ℕ) → Goes t (plan_remove t view who handle name)

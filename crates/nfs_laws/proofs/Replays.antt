@@ -15,7 +15,7 @@ use Rattle.ivy_base.specs.declared.operation.Change.{Change}
 use Rattle.ivy_base.specs.declared.operation.Op.{Op}
 use Rattle.ivy_base.specs.declared.operation.Op.TheVariants as op
 use Rattle.ivy_base.specs.Naming.{root_number, IsFileName}
-use Rattle.tree_model.specs.Tree.{Tree, Inode, Place, place_cmp, inode_at, entry, same_key, is_file}
+use Rattle.tree_model.specs.Tree.{Tree, Inode, Place, place_cmp, inode_at, entry, same_key, is_file, longest_file}
 use Rattle.tree_model.specs.Apply.{apply, apply_all, empty_tree, with_inode, at_inode, touched, move, set_attributes, overwritten, resized, with_name, without_name, may_link, may_rename}
 use Rattle.tree_model.proofs.Names.{names-touched, names-changed_inode}
 use Rattle.log_model.specs.Record.{Record}
@@ -107,7 +107,7 @@ count_apply_all n t (o ∷ ops) h = record { most = let all = (count_apply_all (
 abbrev InodesFit : Tree → Type 0
 InodesFit t = (number : Key) (i : Inode) → inode_at t number ≡ Some i → InodeFits i
 
-few_target : (kind : Kind) (target : List ℕ) → IsTarget kind target → length target ≤ 16777216
+few_target : (kind : Kind) (target : List ℕ) → IsTarget kind target → length target ≤ longest_file
 few_target Reg target fits = let none : target ≡ [] = fits in rw none (omega arith)
 few_target Dir target fits = let none : target ≡ [] = fits in rw none (omega arith)
 few_target Lnk target fits = omega (arith, fits.1)
@@ -115,7 +115,7 @@ few_target Lnk target fits = omega (arith, fits.1)
 pub length-resized : (size : ℕ) (bytes : List ℕ) → length (resized size bytes) ≡ size
 length-resized size bytes = omega (arith, length-append (take size bytes) (replicate (size - length bytes) 0), length-take size bytes, length-replicate {A = ℕ} (size - length bytes) 0)
 
-pub few_overwritten : (bytes : List ℕ) (offset : ℕ) (part : List ℕ) → length bytes ≤ 16777216 → offset + length part ≤ 16777216 → length (overwritten bytes offset part) ≤ 16777216
+pub few_overwritten : (bytes : List ℕ) (offset : ℕ) (part : List ℕ) → length bytes ≤ longest_file → offset + length part ≤ longest_file → length (overwritten bytes offset part) ≤ longest_file
 few_overwritten bytes offset part few fits = omega (
   arith,
   few,
@@ -143,7 +143,7 @@ set_fits now change i moment given fits = record {
   atime = given_or IsMoment change.atime i.attributes.atime given.atime fits.atime;
   mtime = given_or IsMoment change.mtime _ given.mtime (either_moment (is_some change.size) now i.attributes.mtime moment fits.mtime);
   ctime = moment;
-  few = let size = given_or (λ n. n ≤ 16777216) change.size (length i.body) given.size fits.few in
+  few = let size = given_or (λ n. n ≤ longest_file) change.size (length i.body) given.size fits.few in
       omega (arith, size, length-resized (unwrap_or change.size (length i.body)) i.body);
 }
 

@@ -14,7 +14,8 @@ use Rattle.nfs_model.specs.declared.replies.Tail.TheVariants as tails
 use Rattle.nfs_model.specs.declared.replies.Reply.{Reply}
 use Rattle.nfs_model.specs.declared.replies.Reply.TheVariants as reply
 use Rattle.nfs_model.specs.Objects.{handle_of}
-use Rattle.nfs_model.specs.Results.{status_number, fattr, before, wcc, tail, write_verifier, many, result}
+use Rattle.nfs_model.specs.Results.{status_number, fattr, before, wcc, tail, write_verifier, many, result, longest_result}
+use Rattle.tree_model.specs.Tree.{longest_file}
 
 -- at most so many bytes
 pub record AtMost (bytes : List ℕ) (n : ℕ) : Type 0 where
@@ -93,7 +94,7 @@ of_bytes p q = record { most = omega (arith, p.most, q) }
 
 -- no longer than the longest page
 abbrev pub IsShort : Reply → Type 0
-IsShort r = IsWithin 32772 r
+IsShort r = IsWithin longest_result r
 
 pub short_nothing : IsShort reply.Nothing
 short_nothing = record { most = omega arith }
@@ -141,7 +142,7 @@ short_space object =
 
 pub short_limits : (object : Option Fattr) → IsShort (reply.Limits object)
 short_limits object =
-    of_bytes (most_word 0 ▷ most_attributes object ▷ all_of (many word (8192 ∷ 8192 ∷ 512 ∷ 8192 ∷ 8192 ∷ 512 ∷ 8192 ∷ [])) ▷ most_double_word 16777216 ▷ all_of (many word (0 ∷ 1 ∷ 27 ∷ []))) (omega arith)
+    of_bytes (most_word 0 ▷ most_attributes object ▷ all_of (many word (8192 ∷ 8192 ∷ 512 ∷ 8192 ∷ 8192 ∷ 512 ∷ 8192 ∷ [])) ▷ most_double_word longest_file ▷ all_of (many word (0 ∷ 1 ∷ 27 ∷ []))) (omega arith)
 
 pub short_paths : (object : Option Fattr) → IsShort (reply.Paths object)
 short_paths object = of_bytes (most_word 0 ▷ most_attributes object ▷ all_of (many word (1000 ∷ 255 ∷ 1 ∷ 1 ∷ 0 ∷ 1 ∷ []))) (omega arith)

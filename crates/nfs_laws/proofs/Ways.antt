@@ -13,7 +13,7 @@ use Rattle.nfs_model.specs.declared.replies.Tail.{Tail}
 use Rattle.nfs_model.specs.declared.replies.Reply.{Reply}
 use Rattle.nfs_model.specs.declared.replies.Reply.TheVariants as reply
 use Rattle.nfs_model.specs.Checks.{Check, same_bytes}
-use Rattle.nfs_model.specs.Objects.{Object, object_of}
+use Rattle.nfs_model.specs.Objects.{Object, object_of, handle_tag}
 use Rattle.nfs_model.specs.Answers.{about, unless}
 use Rattle.nfs_model.proofs.Objects.{object_at}
 use Rattle.nfs_model.specs.Changing.{Plan, Refuse, about as plan_about, unless as plan_unless}
@@ -86,10 +86,10 @@ pub record IsObject (t : Tree) (o : Object) : Type 0 where
 
 pub is_object : (t : Tree) (view : View) (handle : List ℕ) (o : Object) → object_of t view handle ≡ Ok o → IsObject t o
 is_object t view handle o e =
-    let tagged = passed_test (not (length handle == 44 && same_bytes (take 4 handle) (73 ∷ 86 ∷ 89 ∷ 49 ∷ []))) BadHandle _ o e in
+    let tagged = passed_test (not (length handle == 44 && same_bytes (take 4 handle) handle_tag)) BadHandle _ o e in
     let here = passed_test (not (same_bytes (take 20 (drop 4 handle)) (view_name view).0)) Stale _ o tagged.1 in
     let at = object_at t (record { 0 = drop 24 handle }) o here.1 in
-    let long = eqb-true (length handle) 44 (both_true _ _ (not_false (length handle == 44 && same_bytes (take 4 handle) (73 ∷ 86 ∷ 89 ∷ 49 ∷ [])) tagged.0)).0 in
+    let long = eqb-true (length handle) 44 (both_true _ _ (not_false (length handle == 44 && same_bytes (take 4 handle) handle_tag) tagged.0)).0 in
     record {
       number = omega (arith, ap (λ (n : Key). length n.0) at.number_is, long, length-drop 24 handle);
       inode = ap (λ (n : Key). inode_at t n) at.number_is ∙ at.inode_is;

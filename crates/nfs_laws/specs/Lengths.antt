@@ -17,7 +17,8 @@ use Rattle.nfs_model.specs.declared.arguments.Args.TheVariants as call
 use Rattle.nfs_model.specs.declared.replies.Listed.{Listed}
 use Rattle.nfs_model.specs.Reading.{answer, mount_answer}
 use Rattle.nfs_model.specs.Changing.{Plan, Refuse, Nothing, Operations, plan, finish}
-use Rattle.nfs_model.specs.Results.{result}
+use Rattle.nfs_model.specs.Results.{result, longest_result}
+use Rattle.nfs_model.specs.Pages.{longest_page}
 use Rattle.nfs_laws.specs.Listings.{IsPage}
 
 -- a call for a page in that room
@@ -38,20 +39,20 @@ LinksAreShort t = (number : Key) (i : Inode) → inode_at t number ≡ Some i �
 abbrev pub PagesFit : Type 0
 PagesFit = (t : Tree) (view : View) (who : Identity) (args : Args) (count : ℕ) (verifier : List ℕ) (page : List Listed) (eof : Bool)
     → NamesAreKeys t → HasRoom count args → IsPage verifier page eof (answer t view who args)
-    → length (result (answer t view who args)) ≤ 4 + max 104 (min count 32768)
+    → length (result (answer t view who args)) ≤ 4 + max 104 (min count longest_page)
 
 -- What a reading procedure answers has at most 32,772 bytes from its status on.
 abbrev pub AnswersFit : Type 0
-AnswersFit = (t : Tree) (view : View) (who : Identity) (args : Args) → NamesAreKeys t → LinksAreShort t → length (result (answer t view who args)) ≤ 32772
+AnswersFit = (t : Tree) (view : View) (who : Identity) (args : Args) → NamesAreKeys t → LinksAreShort t → length (result (answer t view who args)) ≤ longest_result
 
 -- So has what MOUNT answers.
 abbrev pub MountsFit : Type 0
-MountsFit = (view : View) (args : Args) → length (result (mount_answer view args)) ≤ 32772
+MountsFit = (view : View) (args : Args) → length (result (mount_answer view args)) ≤ longest_result
 
 -- the reply of a plan that makes no record is that long at most
 abbrev pub IsShortPlan : Plan → Type 0
-IsShortPlan (Refuse reply) = length (result reply) ≤ 32772
-IsShortPlan (Nothing reply) = length (result reply) ≤ 32772
+IsShortPlan (Refuse reply) = length (result reply) ≤ longest_result
+IsShortPlan (Nothing reply) = length (result reply) ≤ longest_result
 IsShortPlan (Operations ops) = Unit {0}
 
 -- So has what a changing procedure answers, without a record or once its records stand.
@@ -60,7 +61,7 @@ PlansFit = (t : Tree) (view : View) (who : Identity) (args : Args) (now : Moment
 
 abbrev pub FinishesFit : Type 0
 FinishesFit = (before after : Tree) (view : View) (who : Identity) (args : Args) (now : Moment) (own : PubKey) (seq : ℕ) (ops : List Op)
-    → NumbersAreKeys before → plan before view who args now own seq ≡ Operations ops → length (result (finish before after view who args ops)) ≤ 32772
+    → NumbersAreKeys before → plan before view who args now own seq ≡ Operations ops → length (result (finish before after view who args ops)) ≤ longest_result
 
 -- Operations that fit make a tree whose names are so, and one of short links.
 abbrev pub RecordsMakeNames : Type 0

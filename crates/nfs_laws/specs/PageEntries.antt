@@ -11,7 +11,7 @@ use Rattle.nfs_model.specs.declared.replies.Fattr.{Fattr}
 use Rattle.nfs_model.specs.declared.replies.Listed.{Listed}
 use Rattle.nfs_model.specs.declared.replies.Reply.TheVariants as reply
 use Rattle.nfs_model.specs.Objects.{Object, object_of, handle_of, leading_number, attributes, attributes_at, may_read}
-use Rattle.nfs_model.specs.Pages.{cookie_verifier, plain_length, long_length}
+use Rattle.nfs_model.specs.Pages.{cookie_verifier, plain_length, long_length, longest_page}
 use Rattle.nfs_model.specs.Reading.{answer}
 use Rattle.nfs_laws.specs.Listings.{IsPageCall, IsPage}
 
@@ -76,8 +76,8 @@ pub record WasGiven (view : View) (number : Key) (names : List (List ℕ × Key)
 
 -- room for an entry of that name beside the directory's attributes (88), the verifier (8) and the two last marks (8)
 abbrev pub HasRoomFor : Args → List ℕ → Type 0
-HasRoomFor (call.ReadDir handle cookie verifier count) name = 104 + plain_length name ≤ min count 32768
-HasRoomFor (call.ReadDirPlus handle cookie verifier dircount maxcount) name = 104 + long_length name ≤ min maxcount 32768
+HasRoomFor (call.ReadDir handle cookie verifier count) name = 104 + plain_length name ≤ min count longest_page
+HasRoomFor (call.ReadDirPlus handle cookie verifier dircount maxcount) name = 104 + long_length name ≤ min maxcount longest_page
 HasRoomFor _ name = Unit {0}
 
 -- A directory that the caller may read answers by a page, where the cookie is 0 or the verifier was given with the same names,

@@ -6,7 +6,7 @@ use Rattle.ivy_base.specs.declared.key.PubKey.{PubKey}
 use Rattle.ivy_base.specs.declared.operation.Moment.{Moment}
 use Rattle.ivy_base.specs.declared.operation.Op.{Op}
 use Rattle.ivy_base.specs.Naming.{IsFileName}
-use Rattle.tree_model.specs.Tree.{Tree, Inode, inode_at}
+use Rattle.tree_model.specs.Tree.{Tree, Inode, inode_at, longest_file}
 use Rattle.tree_model.specs.Apply.{empty_tree, apply_all}
 use Rattle.log_model.specs.Closed.{IsClosed}
 use Rattle.log_model.specs.Laws.{NumbersAreKeys}
@@ -32,7 +32,7 @@ pub record InodeFits (i : Inode) : Type 0 where
   pub atime : IsMoment i.attributes.atime
   pub mtime : IsMoment i.attributes.mtime
   pub ctime : IsMoment i.attributes.ctime
-  pub few : length i.body ≤ 16777216
+  pub few : length i.body ≤ longest_file
 
 -- numbers are keys, names are those of files and may be counted, and each inode is within its bounds
 pub record TreeFits (t : Tree) : Type 0 where

@@ -21,7 +21,7 @@ use Rattle.nfs_model.specs.declared.replies.Tail.TheVariants as tail
 use Rattle.nfs_model.specs.declared.replies.Reply.{Reply}
 use Rattle.nfs_model.specs.declared.replies.Reply.TheVariants as reply
 use Rattle.nfs_model.specs.declared.replies.Wcc.{Wcc}
-use Rattle.nfs_model.specs.Objects.{handle_of, no_cache_data}
+use Rattle.nfs_model.specs.Objects.{handle_of, no_cache_data, handle_tag}
 use Rattle.nfs_model.specs.Reading.{answer}
 use Rattle.nfs_model.specs.Changing.{Plan, Refuse, Operations, plan, finish}
 use Rattle.nfs_model.specs.Replies.{IsReplyTo}
@@ -126,7 +126,7 @@ stale_view : looked_up tree (handle_of (record { members = own ∷ []; former = 
 unfolding own view tree root_handle looked_up name_of sha1 schedule first_words rounds hash_after compress digest_bytes
 stale_view = refl
 
-bad_handle : looked_up tree (73 ∷ 86 ∷ 89 ∷ 49 ∷ []) (100 ∷ []) ≡ reply.Refused status.BadHandle (tail.Attributes None)
+bad_handle : looked_up tree handle_tag (100 ∷ []) ≡ reply.Refused status.BadHandle (tail.Attributes None)
 unfolding own view tree root_handle looked_up name_of sha1 schedule first_words rounds hash_after compress digest_bytes
 bad_handle = refl
 

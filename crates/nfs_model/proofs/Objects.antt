@@ -10,13 +10,13 @@ use Rattle.log_model.specs.View.{View, view_name}
 use Rattle.nfs_model.specs.declared.replies.NfsStatus.{NfsStatus}
 use Rattle.nfs_model.specs.declared.replies.NfsStatus.TheVariants.{BadHandle, Stale}
 use Rattle.nfs_model.specs.Checks.{same_bytes}
-use Rattle.nfs_model.specs.Objects.{Object, handle_of, object_of, live_object}
+use Rattle.nfs_model.specs.Objects.{Object, handle_of, handle_tag, object_of, live_object}
 use Rattle.nfs_model.proofs.NameChecks.{same_bytes_itself}
 
 -- the definition with the view's name as a variable
 opened : Tree → List ℕ → List ℕ → Result Object NfsStatus
 opened t view handle =
-    if not (length handle == 44 && same_bytes (take 4 handle) (73 ∷ 86 ∷ 89 ∷ 49 ∷ [])) then Err BadHandle
+    if not (length handle == 44 && same_bytes (take 4 handle) handle_tag) then Err BadHandle
     else if not (same_bytes (take 20 (drop 4 handle)) view) then Err Stale
     else live_object t (record { 0 = drop 24 handle })
 
@@ -29,14 +29,14 @@ front_is v n e = ap (λ (k : ℕ). take k (v ++ n)) (sym e) ∙ take-append_seam
 rest_is : (v n : List ℕ) → length v ≡ 20 → drop 20 (v ++ n) ≡ n
 rest_is v n e = ap (λ (k : ℕ). drop k (v ++ n)) (sym e) ∙ drop-append_seam v n
 
-length_is : (v n : List ℕ) → length v ≡ 20 → length n ≡ 20 → length (73 ∷ 86 ∷ 89 ∷ 49 ∷ v ++ n) ≡ 44
+length_is : (v n : List ℕ) → length v ≡ 20 → length n ≡ 20 → length (handle_tag ++ v ++ n) ≡ 44
 length_is v n d e = omega (arith, length-append v n)
 
-opened_handle : (t : Tree) (v n : List ℕ) → length v ≡ 20 → length n ≡ 20 → opened t v (73 ∷ 86 ∷ 89 ∷ 49 ∷ v ++ n) ≡ live_object t (record { 0 = n })
+opened_handle : (t : Tree) (v n : List ℕ) → length v ≡ 20 → length n ≡ 20 → opened t v (handle_tag ++ v ++ n) ≡ live_object t (record { 0 = n })
 unfolding opened
 opened_handle t v n d e =
-    let h : List ℕ = 73 ∷ 86 ∷ 89 ∷ 49 ∷ v ++ n in
-    by_tests (length h == 44) (same_bytes (take 4 h) (73 ∷ 86 ∷ 89 ∷ 49 ∷ [])) (same_bytes (take 20 (drop 4 h)) v) _ _ _
+    let h : List ℕ = handle_tag ++ v ++ n in
+    by_tests (length h == 44) (same_bytes (take 4 h) handle_tag) (same_bytes (take 20 (drop 4 h)) v) _ _ _
     (eq-eqb (length h) 44 (length_is v n d e)) refl (ap (λ (front : List ℕ). same_bytes front v) (front_is v n d) ∙ same_bytes_itself v)
     ∙ ap (λ (rest : List ℕ). live_object t (record { 0 = rest })) (rest_is v n d)
 

@@ -27,6 +27,7 @@ use Rattle.nfs_model.specs.Results.{status_number, fattr, before, wcc, tail, wri
 use Rattle.nfs_model.specs.Replies.{IsFattr, IsBefore, IsWcc, IsTail, IsText, IsPlainEntry, IsPlusEntry, ReplyFits, tail_form, tail_form_of, result_form, result_form_of, IsReplyTo}
 use Rattle.nfs_model.specs.Laws.{RepliesReadOne, RepliesAreOne}
 use Rattle.nfs_model.proofs.OneArguments.{one_handle, one_verifier, same_made}
+use Rattle.tree_model.specs.Tree.{longest_file}
 
 -- ---- parts
 
@@ -380,7 +381,7 @@ same_reply a b h (reply.Space object) (reply.Space object2) r s p q f g e =
     (((tt, f), tt), tt) (((tt, g), tt), tt) e)
 same_reply a b h (reply.Limits object) (reply.Limits object2) r s p q f g e =
     same_made (λ (p : (((Unit {0} × Option Fattr) × Unit {0}) × Unit {0}) × Unit {0}). reply.Limits p.0.0.0.1)
-    ((always (word 0) ▷ one_post_attributes ▷ always (many word (8192 ∷ 8192 ∷ 512 ∷ 8192 ∷ 8192 ∷ 512 ∷ 8192 ∷ [])) ▷ always (double_word 16777216) ▷ always (many word (0 ∷ 1 ∷ 27 ∷ []))).one ((((tt, object), tt), tt), tt) ((((tt, object2), tt), tt), tt) r s
+    ((always (word 0) ▷ one_post_attributes ▷ always (many word (8192 ∷ 8192 ∷ 512 ∷ 8192 ∷ 8192 ∷ 512 ∷ 8192 ∷ [])) ▷ always (double_word longest_file) ▷ always (many word (0 ∷ 1 ∷ 27 ∷ []))).one ((((tt, object), tt), tt), tt) ((((tt, object2), tt), tt), tt) r s
     ((((tt, f), tt), tt), tt) ((((tt, g), tt), tt), tt) e)
 same_reply a b h (reply.Paths object) (reply.Paths object2) r s p q f g e =
     same_made (λ (p : (Unit {0} × Option Fattr) × Unit {0}). reply.Paths p.0.1)

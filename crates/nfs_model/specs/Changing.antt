@@ -10,7 +10,7 @@ use Rattle.ivy_base.specs.declared.operation.Op.{Op}
 use Rattle.ivy_base.specs.declared.operation.Op.TheVariants as op
 use Rattle.ivy_base.specs.Naming.{inode_number}
 use Rattle.std.specs.Option.{option_map_or}
-use Rattle.tree_model.specs.Tree.{Tree, Inode, entry, inode_at, directory_kind, file_kind, is_directory, is_file, is_empty_directory, is_inside, same_key, name_count}
+use Rattle.tree_model.specs.Tree.{Tree, Inode, entry, inode_at, directory_kind, file_kind, is_directory, is_file, is_empty_directory, is_inside, same_key, name_count, longest_file}
 use Rattle.tree_model.specs.Apply.{same_bool}
 use Rattle.nfs_model.specs.declared.arguments.How.{How}
 use Rattle.nfs_model.specs.declared.arguments.How.TheVariants.{Unchecked, Guarded, Exclusive}
@@ -84,7 +84,7 @@ is_server_time (Client m) = false
 
 -- a size above 16,777,216
 abbrev pub too_large : Option ℕ → Check
-too_large size = (option_map_or (nat_lt 16777216) size false, status.FBig)
+too_large size = (option_map_or (nat_lt longest_file) size false, status.FBig)
 
 -- the time that is asked for: none, the turn's moment, or the client's
 abbrev pub given_time : Moment → SetTime → Option Moment
@@ -271,7 +271,7 @@ plan_write t view who handle offset count bytes = about (object_of t view handle
     unless ((not (file_kind o.inode.kind), status.Inval)
     ∷ (not (may_write who o.inode || is_owner who o.inode), status.Acces)
     ∷ (not (count == length bytes), status.Inval)
-    ∷ (nat_lt 16777216 (offset + length (taken_part bytes)), status.FBig) ∷ [])
+    ∷ (nat_lt longest_file (offset + length (taken_part bytes)), status.FBig) ∷ [])
     (tail.Cache (cache_data t t view o.number))
     (if length bytes == 0 then Nothing (reply.Written (cache_data t t view o.number) 0)
     else Operations (op.Write o.number offset (taken_part bytes) ∷ [])))

@@ -19,9 +19,13 @@ pub record Object : Type 0 where
   pub number : Key
   pub inode : Inode
 
--- "IVY1", the view's name and the inode's number
+-- "IVY1", which a handle begins with
+abbrev pub handle_tag : List ℕ
+handle_tag = 73 ∷ 86 ∷ 89 ∷ 49 ∷ []
+
+-- the tag, the view's name and the inode's number
 abbrev pub handle_of : View → Key → List ℕ
-handle_of view number = 73 ∷ 86 ∷ 89 ∷ 49 ∷ (view_name view).0 ++ number.0
+handle_of view number = handle_tag ++ (view_name view).0 ++ number.0
 
 -- the inode of that number, where it is live
 abbrev pub live_object : Tree → Key → Result Object NfsStatus
@@ -33,7 +37,7 @@ live_object t number =
 -- the object of a handle: another length or tag is a bad handle, and another view or an object that is not live is stale
 abbrev pub object_of : Tree → View → List ℕ → Result Object NfsStatus
 object_of t view handle =
-    if not (length handle == 44 && same_bytes (take 4 handle) (73 ∷ 86 ∷ 89 ∷ 49 ∷ [])) then Err BadHandle
+    if not (length handle == 44 && same_bytes (take 4 handle) handle_tag) then Err BadHandle
     else if not (same_bytes (take 20 (drop 4 handle)) (view_name view).0) then Err Stale
     else live_object t (record { 0 = drop 24 handle })
 

@@ -52,9 +52,13 @@ at_least_one [] fit = fit
 at_least_one (e ∷ es) [] = e ∷ []
 at_least_one (e ∷ es) (f ∷ fs) = f ∷ fs
 
+-- the most bytes that a page of a directory is given, whatever is asked for
+abbrev pub longest_page : ℕ
+longest_page = 32768
+
 -- what is left beside attributes (88), verifier (8), and the end with its flag (8)
 abbrev pub room_for_entries : ℕ → ℕ
-room_for_entries count = min count 32768 - 104
+room_for_entries count = min count longest_page - 104
 
 -- the entries behind the cookie, which is the place of the last one that was given
 abbrev pub entries_from : Tree → Key → ℕ → List (ℕ × (List ℕ × Key))
@@ -63,7 +67,7 @@ entries_from t dir cookie = drop cookie (placed 0 (all_entries t dir))
 -- the first of the entries has no place; where no entry is left nothing is too small
 abbrev pub too_small : (List ℕ → ℕ) → ℕ → List (ℕ × (List ℕ × Key)) → Bool
 too_small size count [] = false
-too_small size count (e ∷ es) = nat_lt (min count 32768) (104 + size e.1.0)
+too_small size count (e ∷ es) = nat_lt (min count longest_page) (104 + size e.1.0)
 
 -- a cookie other than 0 is good with the verifier of the same listing alone
 abbrev pub page_checks : Tree → Identity → Object → ℕ → List ℕ → (List ℕ → ℕ) → ℕ → List Check

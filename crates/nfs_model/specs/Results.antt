@@ -13,6 +13,7 @@ use Rattle.nfs_model.specs.declared.replies.Tail.{Tail}
 use Rattle.nfs_model.specs.declared.replies.Tail.TheVariants as tails
 use Rattle.nfs_model.specs.declared.replies.Reply.{Reply}
 use Rattle.nfs_model.specs.declared.replies.Reply.TheVariants as reply
+use Rattle.tree_model.specs.Tree.{longest_file}
 
 -- nfsstat3 (2.6)
 abbrev pub status_number : NfsStatus → ℕ
@@ -76,6 +77,10 @@ listed_entry_plus e = listed_entry e ++ optional fattr e.attributes ++ optional 
 abbrev pub many : {A : Type 0} → (A → List ℕ) → List A → List ℕ
 many item xs = flat_map item xs
 
+-- the most bytes of a result: a page of a directory, and the status before it
+abbrev pub longest_result : ℕ
+longest_result = 32772
+
 -- a status, and what stands after it; FILE_SYNC is 2, and MNT gives the one flavour AUTH_SYS, 1
 abbrev pub result : Reply → List ℕ
 result reply.Nothing = []
@@ -94,7 +99,7 @@ result (reply.Committed w) = word 0 ++ wcc w ++ write_verifier
 result (reply.Directory dir verifier page eof) = word 0 ++ optional fattr dir ++ verifier ++ flat_map listed_entry page ++ word 0 ++ boolean eof
 result (reply.DirectoryPlus dir verifier page eof) = word 0 ++ optional fattr dir ++ verifier ++ flat_map listed_entry_plus page ++ word 0 ++ boolean eof
 result (reply.Space object) = word 0 ++ optional fattr object ++ many double_word (2 ^ 40 ∷ 2 ^ 40 ∷ 2 ^ 40 ∷ 2 ^ 32 ∷ 2 ^ 32 ∷ 2 ^ 32 ∷ []) ++ word 0
-result (reply.Limits object) = word 0 ++ optional fattr object ++ many word (8192 ∷ 8192 ∷ 512 ∷ 8192 ∷ 8192 ∷ 512 ∷ 8192 ∷ []) ++ double_word 16777216 ++ many word (0 ∷ 1 ∷ 27 ∷ [])
+result (reply.Limits object) = word 0 ++ optional fattr object ++ many word (8192 ∷ 8192 ∷ 512 ∷ 8192 ∷ 8192 ∷ 512 ∷ 8192 ∷ []) ++ double_word longest_file ++ many word (0 ∷ 1 ∷ 27 ∷ [])
 result (reply.Paths object) = word 0 ++ optional fattr object ++ many word (1000 ∷ 255 ∷ 1 ∷ 1 ∷ 0 ∷ 1 ∷ [])
 result (reply.Mounted handle) = word 0 ++ opaque handle ++ many word (1 ∷ 1 ∷ [])
 result reply.NoSuchPath = word 2

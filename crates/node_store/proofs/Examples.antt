@@ -7,7 +7,8 @@ use Rattle.ivy_base.specs.Naming.{key_cmp}
 use Rattle.dht_ids.specs.declared.ask.StoreFault.TheVariants.{NotJudged, Older}
 use Rattle.dht_ids.specs.declared.judge.Judged.{Judged}
 use Rattle.dht_ids.specs.declared.post.PostKind.TheVariants as post
-use Rattle.node_store.specs.Stores.{Blocks, content, head, bytes_held, bytes_at, without, number_at, head_fault, with_byte, post_of}
+use Rattle.dhash_model.specs.Stores.{Blocks, content, head, bytes_held, bytes_at, without, number_at, head_fault, with_byte}
+use Rattle.node_store.specs.Stores.{post_of}
 
 abbrev short : ℕ → Key
 short byte = record { 0 = byte ∷ [] }

@@ -6,7 +6,8 @@ use Rattle.std.specs.Ordering.{eq_by_cmp, is_eq}
 use Rattle.std.specs.FinMap.Entries.{find as value_at, put, find-put}
 use Rattle.ivy_base.specs.declared.key.Key.{Key}
 use Rattle.ivy_base.specs.Naming.{key_cmp}
-use Rattle.node_store.specs.Stores.{Block, Blocks, IsStore, bytes_at}
+use Rattle.dhash_model.specs.Stores.{Block, Blocks, bytes_at}
+use Rattle.node_store.specs.Stores.{IsStore}
 use Rattle.node_store.proofs.Maps.{keys_total}
 
 module _ (key : Key) (block : Block) (blocks : Blocks) where

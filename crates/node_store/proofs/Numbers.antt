@@ -5,10 +5,10 @@ use Rattle.std.proofs.lemmas.Bool.{lt-leb}
 use Rattle.dht_ids.specs.declared.ask.StoreFault.{StoreFault}
 use Rattle.dht_ids.specs.declared.ask.StoreFault.TheVariants.{Older}
 use Rattle.dht_ids.specs.declared.judge.Judged.{Judged}
-use Rattle.node_store.specs.declared.kind.Kind.{Kind}
-use Rattle.node_store.specs.declared.kind.Kind.TheVariants.{Content, Head}
+use Rattle.dhash_model.specs.declared.kind.Kind.{Kind}
+use Rattle.dhash_model.specs.declared.kind.Kind.TheVariants.{Content, Head}
+use Rattle.dhash_model.specs.Stores.{Block, number_of, older}
 use Rattle.node_store.specs.Numbers.{IsBelow}
-use Rattle.node_store.specs.Stores.{Block, number_of, older}
 
 -- a lower number is no older one
 pub not_older : (held : Option ℕ) (new : Judged) → IsBelow new.seq held → None ≡ older held (Some new)

@@ -17,7 +17,8 @@ use Rattle.ivy_base.specs.Naming.{key_cmp}
 use Rattle.dht_ids.specs.declared.ask.StoreFault.{StoreFault}
 use Rattle.dht_ids.specs.declared.ask.StoreFault.TheVariants.{WrongName}
 use Rattle.node_store.specs.declared.fault.PutFault.{PutFault}
-use Rattle.node_store.specs.Stores.{Block, Blocks, IsStore, Tells, bytes_held, capacity, spoiled, with_byte, without}
+use Rattle.dhash_model.specs.Stores.{Block, Blocks, bytes_held, capacity, spoiled, with_byte, without}
+use Rattle.node_store.specs.Stores.{IsStore, Tells}
 use Rattle.node_store.proofs.Maps.{is_key, find-lookup, put-set_value, without-remove_entry}
 use Rattle.node_store.proofs.Sums.{size, size_of, held_after_removal}
 

@@ -7,7 +7,7 @@ use Rattle.std.specs.Map.{lookup, keys_of, remove_entry}
 use Rattle.std.proofs.lemmas.Map.Entries.{sum_by-insert_entry, sum_by-remove_entry}
 use Rattle.ivy_base.specs.declared.key.Key.{Key}
 use Rattle.ivy_base.specs.Naming.{key_cmp}
-use Rattle.node_store.specs.Stores.{Block, Blocks, bytes_held}
+use Rattle.dhash_model.specs.Stores.{Block, Blocks, bytes_held}
 use Rattle.node_store.proofs.Maps.{keys_total, put-insert_entry}
 
 abbrev pub size : Block → ℕ

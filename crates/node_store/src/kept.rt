@@ -2,7 +2,7 @@
 
 ghost use Rattle.std.specs.Prelude.{◌≡◌, ◌<◌, ◌≤◌, length, IfOk, Some, MatchBool};
 
-use crate::kind::Kind;
+use dhash_model::Kind;
 use dht_ids::{Judge, Judged, Post, PostKind};
 use ivy_base::{Bytes, Key, Memory};
 use std::alloc::{AllocError, Global};
@@ -16,7 +16,7 @@ pub struct Kept {
 }
 
 impl Model for Kept {
-    ghost use Rattle.node_store.specs.Stores.{Block};
+    ghost use Rattle.dhash_model.specs.Stores.{Block};
 
     ghost Value = { Block };
 
@@ -24,7 +24,8 @@ impl Model for Kept {
 }
 
 impl Kept {
-    ghost use Rattle.node_store.specs.Stores.{number_of, spoiled, post_of};
+    ghost use Rattle.dhash_model.specs.Stores.{number_of, spoiled};
+    ghost use Rattle.node_store.specs.Stores.{post_of};
 
     /// A copy of the bytes, put so. The error is want of memory.
     pub fn copy_of(alloc: Global, kind: Kind, bytes: &[u8]) -> Result<Kept, AllocError>

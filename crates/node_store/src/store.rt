@@ -2,12 +2,12 @@
 
 ghost use Rattle.std.specs.Prelude.{◌≡◌, [], false, map, IfOk, OnOk, OnErr, Some, None, MatchBool, option_copied};
 ghost use Rattle.std.specs.FinMap.Entries.{put};
-ghost use Rattle.node_store.specs.Stores.{older as older_than};
+ghost use Rattle.dhash_model.specs.Stores.{older as older_than};
 ghost use Rattle.ivy_base.specs.Naming.{key_cmp};
 
 use crate::fault::PutFault;
 use crate::kept::Kept;
-use crate::kind::Kind;
+use dhash_model::Kind;
 use dht_ids::{Judge, Judged, Posts, StoreFault};
 use ivy_base::{Key, Memory, name_of};
 use std::alloc::Global;
@@ -28,7 +28,8 @@ pub struct Store {
 
 impl Model for Store {
     ghost use Rattle.std.specs.Prelude.{◌≡◌};
-    ghost use Rattle.node_store.specs.Stores.{Blocks, IsStore, bytes_held};
+    ghost use Rattle.dhash_model.specs.Stores.{Blocks, bytes_held};
+    ghost use Rattle.node_store.specs.Stores.{IsStore};
 
     ghost Value = { Blocks };
 
@@ -38,9 +39,10 @@ impl Model for Store {
 }
 
 impl Store {
-    ghost use Rattle.node_store.specs.declared.kind.Kind.{Kind};
+    ghost use Rattle.dhash_model.specs.declared.kind.Kind.{Kind};
+    ghost use Rattle.dhash_model.specs.Stores.{bytes_at, bytes_held, content, content_fault, full, head, head_fault, number_at, with_byte, without};
     ghost use Rattle.node_store.specs.Numbers.{IsBelow};
-    ghost use Rattle.node_store.specs.Stores.{IsStore, Tells, bytes_at, bytes_held, content, content_fault, full, head, head_fault, number_at, post_of, with_byte, without};
+    ghost use Rattle.node_store.specs.Stores.{IsStore, Tells, post_of};
 
     /// No blocks. It takes no memory.
     pub fn new(alloc: Global) -> Self

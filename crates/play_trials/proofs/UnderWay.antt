@@ -10,13 +10,14 @@ use Rattle.log_model.specs.Record.{Record}
 use Rattle.log_model.specs.Spelling.{IsMoment}
 use Rattle.log_model.specs.Vector.{Stamp}
 use Rattle.log_model.specs.View.{View}
-use Rattle.log_records.specs.Batches.{Batch, owner_of, owners_in}
+use Rattle.log_records.specs.Batches.{Batch, owners_in}
 use Rattle.dht_ids.specs.declared.ask.Answer.{Answer}
 use Rattle.dht_ids.specs.declared.ask.Ask.{Ask}
 use Rattle.dht_ids.specs.declared.peer.Peer.{Peer}
 use Rattle.dht_ids.specs.declared.post.Post.{Post}
 use Rattle.dhash_client.specs.GetHead.{Judges}
 use Rattle.log_model.specs.Signing.{Signing}
+use Rattle.log_model.specs.Fetched.{owner_of}
 use Rattle.agent_model.specs.Agent.{Agent}
 use Rattle.agent_model.specs.Standing.{Standing as ModelStanding, standing_in}
 use Rattle.session_model.specs.Courses.{Begins, anew, answered, ended, publishing_session}

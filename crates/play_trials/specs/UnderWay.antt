@@ -2,7 +2,7 @@
 use Rattle.std.specs.Prelude.{◌≡◌, ◌≢◌, true, false, Option, Some, None, IfSome, IsSomeAnd}
 use Rattle.ivy_base.specs.declared.operation.Moment.{Moment}
 use Rattle.dhash_client.specs.GetHead.{Judges}
-use Rattle.log_heads.specs.Signed.{hss_judged}
+use Rattle.dhash_model.specs.Signed.{hss_judged}
 use Rattle.log_heads.specs.declared.judge.HssJudge.{HssJudge}
 use Rattle.log_model.specs.Spelling.{IsMoment}
 use Rattle.log_model.specs.View.{View}

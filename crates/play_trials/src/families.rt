@@ -3,6 +3,7 @@
 use crate::text::Text;
 use crate::{sessions, trial};
 use std::alloc::Global;
+use std::sync::Wait;
 
 /// The trials of the families, and of which of them lines speak.
 #[derive(Drop)]
@@ -23,11 +24,11 @@ impl Trials {
     }
 
     /// Puts what is written for a line on the answer.
-    pub fn take(&mut self, answer: &mut Text, line: &str) {
+    pub fn take<R: Wait>(&mut self, rt: &R, answer: &mut Text, line: &str) {
         if line.starts_with("== ") && !self.scripts.has_begun() {
             self.begin(answer, line);
         } else if self.are_sessions {
-            self.sessions.take(answer, line);
+            self.sessions.take(rt, answer, line);
         } else {
             self.scripts.take(answer, line);
         }

@@ -78,17 +78,19 @@ use families::Trials;
 use std::alloc::Global;
 use std::io;
 use std::io::Write;
+use std::sync::Wait;
 use text::Text;
 
 /// Writes the answer to a line.
-fn write_answer<W: Write>(
+fn write_answer<R: Wait, W: Write>(
+    rt: &R,
     out: &mut W,
     trials: &mut Trials,
     alloc: Global,
     line: &str,
 ) -> io::Result<()> {
     let mut answer = Text::new(alloc);
-    trials.take(&mut answer, line);
+    trials.take(rt, &mut answer, line);
     out.write_all(answer.whole().unwrap_or(b"no answer\n".as_slice()))
 }
 
@@ -98,7 +100,7 @@ fn main(rt: HostRuntime) -> io::Result<()> {
     let mut trials = Trials::new(alloc);
     for line in rt.lines(alloc) {
         let line = line?;
-        write_answer(&mut out, &mut trials, alloc, line.as_str())?;
+        write_answer(&rt, &mut out, &mut trials, alloc, line.as_str())?;
     }
     Ok(())
 }

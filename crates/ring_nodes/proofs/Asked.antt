@@ -16,9 +16,10 @@ use Rattle.dht_ids.specs.declared.ask.Ask.TheVariants as ask
 use Rattle.dht_ids.specs.declared.ask.Heard.{Heard}
 use Rattle.dht_ids.specs.declared.peer.Peer.{Peer}
 use Rattle.dht_ids.specs.declared.post.Post.{Post}
-use Rattle.dhash_client.specs.Course.{Asking, CourseState, IsStage, Told, awaited_at, next_owner, told_all}
-use Rattle.dhash_client.specs.Machine.{outcome}
-use Rattle.dhash_client.specs.Puts.{IsEnoughPut, is_of_put, put_awaited, question_of}
+use Rattle.dhash_model.specs.Course.{Told, told_all, outcome}
+use Rattle.dhash_model.specs.Puts.{is_of_put}
+use Rattle.dhash_client.specs.Course.{Asking, CourseState, IsStage, awaited_at, next_owner}
+use Rattle.dhash_client.specs.Puts.{IsEnoughPut, put_awaited, question_of}
 use Rattle.session_laws.proofs.AskedLookups.{look_goes_on}
 use Rattle.dhash_repair.specs.Putting.{Putting, PuttingIsAfter, is_own_of, made_of, told_of}
 use Rattle.dhash_repair.specs.Repairing.{PutIsBehind, RepairIsAfter, RepairState, awaited_in, repair_awaited}

@@ -9,7 +9,8 @@ use Rattle.ring_model.specs.Members.{IsAmong, first}
 use Rattle.dht_ids.specs.declared.ask.Answer.{Answer}
 use Rattle.dht_ids.specs.declared.ask.Answer.TheVariants as answer
 use Rattle.dht_ids.specs.declared.peer.Peer.{Peer}
-use Rattle.chord_core.specs.State.{IsOfNear, stabilised}
+use Rattle.dhash_model.specs.State.{stabilised}
+use Rattle.chord_core.specs.State.{IsOfNear}
 use Rattle.world_model.specs.Nodes.{Node}
 use Rattle.world_model.specs.World.{peer_of}
 use Rattle.round_laws.specs.RingOf.{AreApart, KnowsOnly}

@@ -10,9 +10,9 @@ use Rattle.ring_model.proofs.Lists.{none_some, some_same}
 use Rattle.dht_ids.specs.Peers.{place}
 use Rattle.dht_ids.specs.declared.judge.Judged.{Judged}
 use Rattle.dht_ids.specs.declared.peer.Peer.{Peer}
-use Rattle.dhash_client.specs.Machine.{outcome}
-use Rattle.dhash_client.specs.declared.miss.Miss.{Miss}
-use Rattle.chord_core.specs.State.{with_links}
+use Rattle.dhash_model.specs.Course.{outcome}
+use Rattle.dhash_model.specs.declared.miss.Miss.{Miss}
+use Rattle.dhash_model.specs.State.{with_links}
 use Rattle.world_model.specs.Nodes.{Node}
 use Rattle.world_model.specs.Rounds.{FixesFinger, FixesFrom}
 use Rattle.world_model.specs.Rounds.FixesFrom.{done as no_more, next as then_fixes}

@@ -18,7 +18,7 @@ use Rattle.dht_ids.specs.declared.ask.Ask.TheVariants as ask
 use Rattle.dht_ids.specs.declared.ask.StoreFault.{StoreFault}
 use Rattle.dht_ids.specs.declared.judge.Judged.{Judged}
 use Rattle.dht_ids.specs.declared.peer.Peer.{Peer}
-use Rattle.node_store.specs.Stores.{Block, bytes_at, content, content_fault, head, head_fault}
+use Rattle.dhash_model.specs.Stores.{Block, bytes_at, content, content_fault, head, head_fault}
 use Rattle.world_model.specs.Nodes.{Node, answered, stored}
 use Rattle.world_model.specs.World.{peer_of}
 use Rattle.round_laws.specs.RingOf.{KnowsOnly}

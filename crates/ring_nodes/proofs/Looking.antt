@@ -16,9 +16,9 @@ use Rattle.dht_ids.specs.declared.ask.Ask.TheVariants as ask
 use Rattle.dht_ids.specs.declared.ask.Want.TheVariants as want
 use Rattle.dht_ids.specs.declared.judge.Judged.{Judged}
 use Rattle.dht_ids.specs.declared.peer.Peer.{Peer}
-use Rattle.dhash_client.specs.Course.{Told}
-use Rattle.dhash_client.specs.Machine.{FollowsAfter, IsWanted, State, Trail, fresh, outcome}
-use Rattle.dhash_client.specs.declared.miss.Miss.{Miss}
+use Rattle.dhash_model.specs.Course.{Told, outcome}
+use Rattle.dhash_model.specs.declared.miss.Miss.{Miss}
+use Rattle.dhash_client.specs.Machine.{FollowsAfter, IsWanted, State, Trail, fresh}
 use Rattle.dhash_client.proofs.Driven.{follows_both, is_look_up}
 use Rattle.session_laws.proofs.AskedLookups.{look_goes_on}
 use Rattle.world_model.specs.Fates.{FateOf, Fates, asking}

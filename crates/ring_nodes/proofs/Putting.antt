@@ -12,7 +12,8 @@ use Rattle.dht_ids.specs.declared.ask.StoreFault.{StoreFault}
 use Rattle.dht_ids.specs.declared.judge.Judged.{Judged}
 use Rattle.node_store.specs.declared.fault.PutFault.{PutFault}
 use Rattle.node_store.specs.declared.fault.PutFault.TheVariants as fault
-use Rattle.node_store.specs.Stores.{Block, Blocks, Tells, content, content_fault, head, head_fault}
+use Rattle.dhash_model.specs.Stores.{Block, Blocks, content, content_fault, head, head_fault}
+use Rattle.node_store.specs.Stores.{Tells}
 use Rattle.world_model.specs.Nodes.{Node, answered, stored}
 use Rattle.world_model.specs.World.{peer_of}
 use Rattle.ring_nodes.specs.Puts.{Told}

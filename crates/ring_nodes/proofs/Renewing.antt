@@ -12,7 +12,8 @@ use Rattle.dht_ids.specs.declared.ask.Ask.{Ask}
 use Rattle.dht_ids.specs.declared.ask.Ask.TheVariants as ask
 use Rattle.dht_ids.specs.declared.judge.Judged.{Judged}
 use Rattle.dht_ids.specs.declared.peer.Peer.{Peer}
-use Rattle.chord_core.specs.State.{IsOfNear, stabilised}
+use Rattle.dhash_model.specs.State.{stabilised}
+use Rattle.chord_core.specs.State.{IsOfNear}
 use Rattle.world_model.specs.Nodes.{Node}
 use Rattle.world_model.specs.Fates.{FateOf}
 use Rattle.world_model.specs.Fates.FateOf.{lost as was_lost, stopped as was_stopped, answers as was_answered}

@@ -17,18 +17,18 @@ use Rattle.dht_ids.specs.declared.judge.Judged.{Judged}
 use Rattle.dht_ids.specs.declared.peer.Peer.{Peer}
 use Rattle.dht_ids.specs.declared.post.Ack.{Ack}
 use Rattle.dht_ids.specs.declared.post.Post.{Post}
-use Rattle.dhash_client.specs.Course.{Told}
-use Rattle.dhash_client.specs.Machine.{outcome}
-use Rattle.dhash_client.specs.Puts.{holds, is_of_put}
-use Rattle.dhash_client.specs.declared.miss.Miss.TheVariants as miss
+use Rattle.dhash_model.specs.declared.miss.Miss.TheVariants as miss
+use Rattle.dhash_model.specs.Course.{Told, outcome}
+use Rattle.dhash_model.specs.Puts.{holds, is_of_put}
+use Rattle.dhash_model.specs.Stores.{Block, Blocks}
+use Rattle.dhash_model.specs.declared.kind.Kind.{Kind}
+use Rattle.dhash_model.specs.declared.kind.Kind.TheVariants.{Content, Head}
 use Rattle.dhash_repair.specs.Putting.{is_own}
 use Rattle.dhash_repair.specs.Repairing.{RepairGoesOn, RepairHasHeard, RepairIsAfter, RepairIsWanted, RepairState, IsSameRepair, repair_begun}
 use Rattle.dhash_repair.specs.Repairs.{Asked, IsPutFrom, IsRepair, is_node, may_go, of_others, put_question}
 use Rattle.dhash_repair.specs.Repairs.IsPutFrom.{no_route as nobody_put, of_owners as owners_put}
 use Rattle.dhash_repair.specs.Repairs.IsRepair.{none as none_held, keeps as keeps_one, drops as drops_one}
-use Rattle.node_store.specs.Stores.{Block, Blocks, post_of}
-use Rattle.node_store.specs.declared.kind.Kind.{Kind}
-use Rattle.node_store.specs.declared.kind.Kind.TheVariants.{Content, Head}
+use Rattle.node_store.specs.Stores.{post_of}
 use Rattle.world_model.specs.Fates.{FateOf, Fates, asking}
 use Rattle.world_model.specs.Fates.Fates.{none as no_asks, more as one_ask}
 use Rattle.world_model.specs.Rounds.{IsDropped, PutsAll, PutsAround, Repairs, asks_of_others, question_as}

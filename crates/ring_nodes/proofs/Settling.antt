@@ -8,8 +8,8 @@ use Rattle.ring_model.proofs.Lists.{among-cases}
 use Rattle.dht_ids.specs.NodeIds.{node_id_of}
 use Rattle.dht_ids.specs.declared.peer.Peer.{Peer}
 use Rattle.dht_ids.specs.Peers.{place}
-use Rattle.chord_core.specs.State.{State}
-use Rattle.chord_core.specs.Settled.{IsSettledNode}
+use Rattle.dhash_model.specs.State.{State}
+use Rattle.dhash_model.specs.Settled.{IsSettledNode}
 use Rattle.world_model.specs.Nodes.{Node}
 use Rattle.world_model.specs.Ring.{AreSettled, empty_node, first_peers, in_ring_order, is_known_id, peer_numbered}
 use Rattle.world_model.specs.Ring.AreSettled.{none as nobody, more as one_more}

@@ -9,7 +9,7 @@ use Rattle.ring_model.proofs.Lists.{all-among, all-both, all_weaker, among-left,
 use Rattle.dht_ids.specs.NodeIds.{node_id_of}
 use Rattle.dht_ids.specs.Peers.{place}
 use Rattle.dht_ids.specs.declared.peer.Peer.{Peer}
-use Rattle.chord_core.specs.State.{State}
+use Rattle.dhash_model.specs.State.{State}
 use Rattle.world_model.specs.Nodes.{Node}
 use Rattle.world_model.specs.World.{World, empty_world, peer_of}
 use Rattle.world_model.specs.Ring.{AreSettled, first_peers, in_ring_order, is_refused_ring}

@@ -8,7 +8,7 @@ use Rattle.ivy_base.specs.declared.key.Key.{Key}
 use Rattle.ivy_base.specs.declared.memory.Memory.{Memory}
 use Rattle.ivy_base.specs.Naming.{key_cmp}
 use Rattle.ring_model.proofs.Lists.{some_same, none_some}
-use Rattle.node_store.specs.Stores.{Block, Blocks, bytes_at, spoiled, with_byte}
+use Rattle.dhash_model.specs.Stores.{Block, Blocks, bytes_at, spoiled, with_byte}
 use Rattle.node_store.proofs.Held.{put_is_held}
 use Rattle.script_driver.specs.Run.{Goes, Refuses}
 use Rattle.world_model.specs.Nodes.{Node}

@@ -20,10 +20,11 @@ use Rattle.dht_ids.specs.declared.ask.Heard.{Heard}
 use Rattle.dht_ids.specs.declared.ask.Want.TheVariants as want
 use Rattle.dht_ids.specs.declared.judge.Judged.{Judged}
 use Rattle.dht_ids.specs.declared.peer.Peer.{Peer}
-use Rattle.dhash_client.specs.Course.{Asking, CourseState, IsCourse, IsStage, Told, awaited_at, next_owner, told_all}
-use Rattle.dhash_client.specs.Machine.{outcome}
-use Rattle.dhash_client.specs.Puts.{IsEnoughPut, EndsPut, IsSamePut, PutIsAfter, PutIsWanted, PutState, is_of_put, put_awaited, put_begun, question_of}
-use Rattle.dhash_client.specs.declared.miss.Miss.{Miss}
+use Rattle.dhash_model.specs.Course.{IsCourse, Told, told_all, outcome}
+use Rattle.dhash_model.specs.Puts.{EndsPut, is_of_put}
+use Rattle.dhash_model.specs.declared.miss.Miss.{Miss}
+use Rattle.dhash_client.specs.Course.{Asking, CourseState, IsStage, awaited_at, next_owner}
+use Rattle.dhash_client.specs.Puts.{IsEnoughPut, IsSamePut, PutIsAfter, PutIsWanted, PutState, put_awaited, put_begun, question_of}
 use Rattle.dhash_client.specs.declared.put.PutKind.TheVariants as what
 use Rattle.dhash_client.proofs.DrivenGets.{put_begins}
 use Rattle.session_laws.proofs.AskedLookups.{look_goes_on}

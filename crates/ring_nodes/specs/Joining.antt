@@ -4,8 +4,8 @@ use Rattle.ivy_base.specs.declared.key.Key.{Key}
 use Rattle.dht_ids.specs.NodeIds.{node_id_of}
 use Rattle.dht_ids.specs.declared.judge.Judged.{Judged}
 use Rattle.dht_ids.specs.declared.peer.Peer.{Peer}
-use Rattle.dhash_client.specs.Machine.{outcome}
-use Rattle.dhash_client.specs.declared.miss.Miss.{Miss}
+use Rattle.dhash_model.specs.Course.{outcome}
+use Rattle.dhash_model.specs.declared.miss.Miss.{Miss}
 use Rattle.round_laws.specs.RingOf.{KnowsOnly}
 use Rattle.script_driver.specs.Run.{Outcome, Goes, Refuses, Exceeds}
 use Rattle.world_model.specs.Nodes.{Node}

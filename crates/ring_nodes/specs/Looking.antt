@@ -7,7 +7,7 @@ use Rattle.dht_ids.specs.declared.judge.Judged.{Judged}
 use Rattle.dht_ids.specs.declared.peer.Peer.{Peer}
 use Rattle.dhash_client.specs.Machine.{HasHeard, State}
 use Rattle.dhash_client.specs.Puts.{PutHasHeard, PutState}
-use Rattle.dhash_client.specs.declared.miss.Miss.{Miss}
+use Rattle.dhash_model.specs.declared.miss.Miss.{Miss}
 use Rattle.world_model.specs.Fates.{FateOf, Puts}
 use Rattle.world_model.specs.World.{World}
 use Rattle.ring_nodes.specs.NodesState.{IsNodesOf, NamesOnly, NodesState, made_peers, with_nodes}

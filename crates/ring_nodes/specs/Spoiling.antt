@@ -1,7 +1,7 @@
 -- A byte of a block that a node holds is changed.
 use Rattle.std.specs.Prelude.{◌≡◌, ℕ, List, [], Option, Some, None}
 use Rattle.ivy_base.specs.declared.key.Key.{Key}
-use Rattle.node_store.specs.Stores.{bytes_at, with_byte}
+use Rattle.dhash_model.specs.Stores.{bytes_at, with_byte}
 use Rattle.script_driver.specs.Run.{Outcome, Goes, Refuses}
 use Rattle.world_model.specs.Nodes.{Node}
 use Rattle.world_model.specs.World.{World, meets}

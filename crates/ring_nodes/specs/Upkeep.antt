@@ -3,8 +3,8 @@ use Rattle.std.specs.Prelude.{◌≡◌, ℕ, List, fold, set, Some, None}
 use Rattle.ivy_base.specs.declared.key.Key.{Key}
 use Rattle.dht_ids.specs.declared.ask.Answer.{Answer}
 use Rattle.dht_ids.specs.declared.peer.Peer.{Peer}
-use Rattle.chord_core.specs.State.{stabilised, with_links}
-use Rattle.node_store.specs.Stores.{without}
+use Rattle.dhash_model.specs.State.{stabilised, with_links}
+use Rattle.dhash_model.specs.Stores.{without}
 use Rattle.world_model.specs.Nodes.{Node}
 use Rattle.world_model.specs.Rounds.{listing_now}
 use Rattle.world_model.specs.World.{World, with_node}

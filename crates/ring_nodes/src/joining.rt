@@ -1,7 +1,7 @@
 //! A node that joins.
 
 ghost use Rattle.std.specs.Prelude.{◌≡◌, ◌≤◌, IfOk, OnOk, OnErr};
-ghost use Rattle.chord_core.specs.State.{alone_node};
+ghost use Rattle.dhash_model.specs.State.{alone_node};
 ghost use Rattle.ring_model.specs.Members.{IsAmong};
 ghost use Rattle.world_model.specs.Ring.{empty_node, joined_node};
 
@@ -13,7 +13,7 @@ use ivy_base::{Key, Memory};
 use std::alloc::Global;
 
 /// How many nodes there may be.
-const MOST_NODES: usize = 256;
+pub const MOST_NODES: usize = 256;
 
 /// What became of a node that was to join.
 #[derive(Clone, Copy)]
@@ -63,7 +63,7 @@ impl RingNodes {
         match self.least_live() {
             Some(through) => self.join_through(alloc, judge, replicas, peer, &through),
             None => {
-                self.add(alone(alloc, peer, replicas)?)?;
+                self.add(RingNode::alone(alloc, peer, replicas)?)?;
                 Ok(Join::Joined)
             }
         }
@@ -107,25 +107,33 @@ impl RingNodes {
         ensures added { OnOk result (self.new ≡ with_node_more self.old (joined_node peer replicas owners.now)) }
         ensures unchanged { OnErr result (self.new ≡ self.old) }
     {
-        self.add(joined(alloc, peer, replicas, owners)?)
+        self.add(RingNode::joined(alloc, peer, replicas, owners)?)
     }
 }
 
-/// The node of a peer that knows of nobody. The error is want of memory.
-fn alone(alloc: Global, peer: Peer, replicas: u32) -> Result<RingNode, Memory>
-    requires { (1 ≤ replicas) × (replicas ≤ 8) }
-    ensures { IfOk result (λ node. node ≡ empty_node (alone_node peer replicas)) }
-{
-    let ring = Node::alone(alloc, peer, replicas)?;
-    Ok(RingNode::empty(alloc, peer, ring))
-}
+impl RingNode {
+    /// The live node of a peer that knows of nobody and holds nothing. r is 1 to 8. The error is want of memory.
+    pub fn alone(alloc: Global, peer: Peer, replicas: u32) -> Result<RingNode, Memory>
+        requires { (1 ≤ replicas) × (replicas ≤ 8) }
+        ensures { IfOk result (λ node. node ≡ empty_node (alone_node peer replicas)) }
+    {
+        let ring = Node::alone(alloc, peer, replicas)?;
+        Ok(RingNode::empty(alloc, peer, ring))
+    }
 
-/// The node of a peer that takes its list from these owners. The error is want of memory.
-fn joined(alloc: Global, peer: Peer, replicas: u32, owners: &Peers) -> Result<RingNode, Memory>
-    requires { (1 ≤ replicas) × (replicas ≤ 8) }
-    ensures { IfOk result (λ node. node ≡ joined_node peer replicas owners.now) }
-{
-    let mut ring = Node::alone(alloc, peer, replicas)?;
-    ring.adopt(alloc, owners)?;
-    Ok(RingNode::empty(alloc, peer, ring))
+    /// The live node of a peer that takes its list from these owners and holds nothing. r is 1 to 8. The error is want of
+    /// memory.
+    pub fn joined(
+        alloc: Global,
+        peer: Peer,
+        replicas: u32,
+        owners: &Peers,
+    ) -> Result<RingNode, Memory>
+        requires { (1 ≤ replicas) × (replicas ≤ 8) }
+        ensures { IfOk result (λ node. node ≡ joined_node peer replicas owners.now) }
+    {
+        let mut ring = Node::alone(alloc, peer, replicas)?;
+        ring.adopt(alloc, owners)?;
+        Ok(RingNode::empty(alloc, peer, ring))
+    }
 }

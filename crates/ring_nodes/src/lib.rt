@@ -16,6 +16,10 @@
 //! alone that were made. No call but `settle` and `join` changes which peers there are, and each error leaves everything as
 //! it was, but for asks that a look-up, a put or a join made.
 //!
+//! A [`RingNode`] is one node by itself, for those that keep nodes in another way: [`RingNode::answer`] is all that an ask does to
+//! it, [`settled_nodes`], [`RingNode::alone`] and [`RingNode::joined`] make nodes, [`in_order`] and [`from_key`] put peers in the
+//! order of their places, and [`put_numbered`] puts one where it belongs by its number.
+//!
 //! [`round`] makes a whole round over the live nodes (`specs/Rounds.antt` of `world_model`). Its four parts go over the live
 //! peers in the order of their places as the round began: [`forget_silent`], [`renew_lists`], [`fix_fingers`] and
 //! [`move_blocks`]. Each asks nodes alone that were made, and changes who was made in nothing. Where memory is short a part may
@@ -46,8 +50,11 @@ mod whole_round;
 
 pub use fingers::fix_fingers;
 pub use forgetting::forget_silent;
-pub use joining::Join;
-pub use nodes::RingNodes;
+pub use joining::{Join, MOST_NODES};
+pub use node::RingNode;
+pub use nodes::{RingNodes, put_numbered};
+pub use order::{from_key, in_order};
 pub use repairing::move_blocks;
+pub use settle::settled_nodes;
 pub use stabilising::renew_lists;
 pub use whole_round::round;

@@ -1,15 +1,15 @@
 //! A node in memory.
 
 ghost use Rattle.std.specs.Prelude.{◌≡◌, ◌<◌, false, fold, map, Some, IfOk, OnOk, OnErr};
-ghost use Rattle.node_store.specs.Stores.{without};
+ghost use Rattle.dhash_model.specs.Stores.{without};
 ghost use Rattle.std.specs.Ordering.{eq_by_cmp};
-ghost use Rattle.ivy_base.specs.Naming.{key_cmp};
+ghost use Rattle.ivy_base.specs.Naming.{key_cmp, name};
 ghost use Rattle.ring_model.specs.Circle.{identifier_bits};
 ghost use Rattle.ring_nodes.specs.Puts.{Told};
 
 use chord_core::Node;
-use dht_ids::{Answer, Ask, Judge, Peer, Posts};
-use ivy_base::{Bytes, Key, Memory};
+use dht_ids::{Ack, Answer, Ask, Judge, Peer, Posts};
+use ivy_base::{Bytes, Key, Memory, name_of};
 use node_store::{PutFault, Store};
 use std::alloc::Global;
 use std::marker::Model;
@@ -23,7 +23,7 @@ pub(crate) fn is_id(a: &Key, b: &Key) -> bool
 
 /// A node: what it keeps of the ring, whether it lives, and the blocks that it holds.
 #[derive(Drop)]
-pub(crate) struct RingNode {
+pub struct RingNode {
     peer: Peer,
     ring: Node,
     is_live: bool,
@@ -44,7 +44,8 @@ impl Model for RingNode {
 impl RingNode {
     ghost use Rattle.std.specs.Option.{option_map_or};
     ghost use Rattle.dht_ids.specs.declared.ask.Answer.TheVariants as answer;
-    ghost use Rattle.node_store.specs.Stores.{bytes_at, post_of};
+    ghost use Rattle.dhash_model.specs.Stores.{bytes_at};
+    ghost use Rattle.node_store.specs.Stores.{post_of};
     ghost use Rattle.world_model.specs.Nodes.{answered};
     ghost use Rattle.world_model.specs.World.{peer_of};
     ghost use Rattle.world_model.specs.Ring.{empty_node};
@@ -68,7 +69,7 @@ impl RingNode {
     }
 
     /// The node as others know it.
-    pub(crate) fn peer(&self) -> Peer
+    pub fn peer(&self) -> Peer
         ensures { result ≡ peer_of self.now }
     {
         self.peer
@@ -90,7 +91,7 @@ impl RingNode {
     }
 
     /// What the live node answers. The error is want of memory, and the node is as before then.
-    pub(crate) fn answer<J: Judge>(
+    pub fn answer<J: Judge>(
         &mut self,
         alloc: Global,
         judge: &J,
@@ -152,21 +153,21 @@ impl RingNode {
     }
 
     /// The predecessor that the node knows.
-    pub(crate) fn before(&self) -> Option<Peer>
+    pub fn before(&self) -> Option<Peer>
         ensures { result ≡ self.now.ring.links.before }
     {
         self.ring.before()
     }
 
     /// The first entry of the node's list.
-    pub(crate) fn first(&self) -> Option<Peer>
+    pub fn first(&self) -> Option<Peer>
         ensures { result ≡ first self.now.ring.links.list }
     {
         self.ring.list().as_slice().first().copied()
     }
 
     /// Forgets the predecessor.
-    pub(crate) fn forget(&mut self)
+    pub fn forget(&mut self)
         ensures { self.new ≡ forgotten self.old }
     {
         self.ring.forget();
@@ -174,7 +175,7 @@ impl RingNode {
 
     /// Renews the list by what its first entry answered to Near. The error is want of memory, and the node is as before
     /// then.
-    pub(crate) fn renew(&mut self, alloc: Global, heard: &Answer) -> Result<(), Memory>
+    pub fn renew(&mut self, alloc: Global, heard: &Answer) -> Result<(), Memory>
         requires { IsOfNear heard.now }
         ensures renewed { OnOk result (self.new ≡ renewed_by heard.now self.old) }
         ensures unchanged { OnErr result (self.new ≡ self.old) }
@@ -183,7 +184,7 @@ impl RingNode {
     }
 
     /// Makes a peer the finger of that index, 0 to 159.
-    pub(crate) fn fix_finger(&mut self, index: u32, owner: Peer)
+    pub fn fix_finger(&mut self, index: u32, owner: Peer)
         requires { index < identifier_bits }
         ensures { self.new ≡ fingered index owner self.old }
     {
@@ -191,17 +192,27 @@ impl RingNode {
     }
 
     /// Copies of the blocks that the node holds, whether or not it lives, their keys ascending. The error is want of memory.
-    pub(crate) fn posts(&self, alloc: Global) -> Result<Posts, Memory>
+    pub fn posts(&self, alloc: Global) -> Result<Posts, Memory>
         ensures { IfOk result (λ posts. posts ≡ map post_of self.now.blocks) }
     {
         self.store.held(alloc)
     }
 
     /// Drops the blocks of these keys.
-    pub(crate) fn drop_blocks(&mut self, keys: &[Key])
+    pub fn drop_blocks(&mut self, keys: &[Key])
         ensures { self.new ≡ without_blocks keys.now self.old }
     {
         drop_all(&mut self.store, keys);
+    }
+
+    /// Whether the node holds bytes of that name under that key.
+    pub fn holds(&self, ack: &Ack) -> bool
+        ensures { result ≡ option_map_or (λ bytes. eq_by_cmp key_cmp (name bytes) ack.now.name) (bytes_at ack.now.key self.now.blocks) false }
+    {
+        match self.store.get(&ack.key) {
+            Some(bytes) => is_id(&name_of(bytes), &ack.name),
+            None => false,
+        }
     }
 
     /// What the node answers to a get. The error is want of memory.

@@ -11,7 +11,7 @@ ghost use Rattle.world_model.specs.World.{World, entries, peer_of, with_numbered
 
 use crate::node::{RingNode, is_id};
 use crate::order::{from_key, lesser, put_in_order};
-use crate::settle;
+use crate::settle::settled_nodes;
 use dht_ids::{Answer, Ask, Judge, Peer, Peers, Posts};
 use ivy_base::{Bytes, Key, Memory};
 use std::alloc::Global;
@@ -82,8 +82,7 @@ impl RingNodes {
         ensures asked { self.new.asked ≡ self.old.asked }
         ensures lost { self.new.lost ≡ self.old.lost }
     {
-        let members = settle::first(alloc, count)?;
-        let nodes = settle::settled(alloc, replicas, &members)?;
+        let nodes = settled_nodes(alloc, count, replicas)?;
         self.nodes = nodes;
         Ok(())
     }
@@ -405,8 +404,8 @@ fn node_numbered(nodes: &[RingNode], number: u32) -> Option<&RingNode>
     nodes.iter().find(|node| node.peer().number == number)
 }
 
-/// Puts a peer where it belongs by its number, behind those of its number.
-fn put_numbered(peers: &mut Vec<Peer>, peer: Peer) -> Result<(), Memory>
+/// Puts a peer where it belongs by its number, behind those of its number. The error is want of memory.
+pub fn put_numbered(peers: &mut Vec<Peer>, peer: Peer) -> Result<(), Memory>
     ensures { OnOk result (peers.new.items ≡ with_numbered peers.old.items peer) }
 {
     let place = first_above(peers, peer.number).unwrap_or(peers.len());

@@ -5,7 +5,7 @@ ghost use Rattle.ring_nodes.specs.Joining.{lesser_of};
 ghost use Rattle.dht_ids.specs.Peers.{place};
 ghost use Rattle.ring_model.specs.Circle.{number};
 ghost use Rattle.ring_model.specs.Members.{from_place};
-ghost use Rattle.world_model.specs.Ring.{with_peer};
+ghost use Rattle.world_model.specs.Ring.{in_ring_order, with_peer};
 
 use dht_ids::{Peer, order};
 use ivy_base::{Key, Memory};
@@ -35,8 +35,20 @@ fn first_behind(peers: &[Peer], key: &Key) -> Option<usize>
     peers.iter().position(|peer| is_before(key, &peer.id))
 }
 
-/// The peers at the key or behind it, and then those before it. The error is want of memory.
-pub(crate) fn from_key(alloc: Global, live: &[Peer], key: &Key) -> Result<Vec<Peer>, Memory>
+/// The peers in the order of their places. The error is want of memory.
+pub fn in_order(alloc: Global, peers: &[Peer]) -> Result<Vec<Peer>, Memory>
+    ensures { IfOk result (λ ordered. ordered.items ≡ in_ring_order peers.now) }
+{
+    let mut ordered = Vec::with_capacity(alloc, peers.len())?;
+    'peers: for peer in peers {
+        put_in_order(&mut ordered, *peer)?;
+    }
+    Ok(ordered)
+}
+
+/// Of peers in the order of their places those at the key or behind it, and then those before it. The error is want of
+/// memory.
+pub fn from_key(alloc: Global, live: &[Peer], key: &Key) -> Result<Vec<Peer>, Memory>
     ensures { IfOk result (λ peers. peers.items ≡ from_place place live.now (number key.now)) }
 {
     let mut peers = Vec::with_capacity(alloc, live.len())?;

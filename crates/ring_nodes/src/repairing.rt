@@ -3,7 +3,8 @@
 ghost use Rattle.std.specs.Prelude.{◌≡◌, ◌≢◌, ◌<◌, map, None, IfOk};
 ghost use Rattle.dhash_repair.specs.Repairing.{RepairHasHeard, repair_awaited, repair_left};
 ghost use Rattle.ring_model.specs.Members.{IsAmong};
-ghost use Rattle.node_store.specs.Stores.{Blocks, post_of};
+ghost use Rattle.dhash_model.specs.Stores.{Blocks};
+ghost use Rattle.node_store.specs.Stores.{post_of};
 ghost use Rattle.world_model.specs.Rounds.{EachDoes, PutsAll, Repairs};
 ghost use Rattle.world_model.specs.World.{World};
 ghost use Rattle.ring_nodes.specs.Looking.{IsHeard};

@@ -4,7 +4,7 @@ ghost use Rattle.std.specs.Prelude.{◌≡◌, ◌≤◌, [], ◌∷◌, ◌++�
 ghost use Rattle.std.specs.List.{list_any};
 ghost use Rattle.std.specs.Ordering.{eq_by_cmp};
 ghost use Rattle.ivy_base.specs.Naming.{key_cmp};
-ghost use Rattle.chord_core.specs.Settled.{IsSettledNode};
+ghost use Rattle.dhash_model.specs.Settled.{IsSettledNode};
 ghost use Rattle.world_model.specs.Ring.{AreSettled, empty_node, first_peers, in_ring_order, is_known_id, peer_numbered};
 ghost use Rattle.round_laws.specs.RingOf.{AreApart};
 
@@ -33,7 +33,7 @@ fn add(peers: &mut Vec<Peer>, number: u32) -> Result<(), Memory>
 }
 
 /// The peers of the first numbers; one whose identifier stands already is left out. The error is want of memory.
-pub(crate) fn first(alloc: Global, count: u32) -> Result<Peers, Memory>
+fn first(alloc: Global, count: u32) -> Result<Peers, Memory>
     ensures { IfOk result (λ peers. peers ≡ first_peers count) }
 {
     let mut peers = Vec::with_capacity(alloc, count as usize)?;
@@ -56,11 +56,7 @@ fn member(alloc: Global, me: Peer, replicas: u32, members: &Peers) -> Result<Rin
 
 /// The nodes of the settled ring of these members, no two of which stand at one place. r is 1 to 8. The error is want of
 /// memory.
-pub(crate) fn settled(
-    alloc: Global,
-    replicas: u32,
-    members: &Peers,
-) -> Result<Vec<RingNode>, Memory>
+fn settled(alloc: Global, replicas: u32, members: &Peers) -> Result<Vec<RingNode>, Memory>
     requires few { (1 ≤ replicas) × (replicas ≤ 8) }
     requires apart { AreApart members.now }
     ensures { IfOk result (λ nodes. AreSettled (in_ring_order members.now) replicas members.now nodes.items) }
@@ -71,4 +67,14 @@ pub(crate) fn settled(
         nodes.push(member(alloc, *peer, replicas, members)?)?;
     }
     Ok(nodes)
+}
+
+/// The nodes of the settled ring of the first `count` numbers, in the order of their numbers; a number whose identifier stands
+/// already is left out. r is 1 to 8. The error is want of memory.
+pub fn settled_nodes(alloc: Global, count: u32, replicas: u32) -> Result<Vec<RingNode>, Memory>
+    requires { (1 ≤ replicas) × (replicas ≤ 8) }
+    ensures { IfOk result (λ nodes. AreSettled (in_ring_order (first_peers count)) replicas (first_peers count) nodes.items) }
+{
+    let members = first(alloc, count)?;
+    settled(alloc, replicas, &members)
 }

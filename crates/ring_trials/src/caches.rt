@@ -1,7 +1,7 @@
 //! What a cache of blocks keeps. A block is two bytes, the big-endian form of a number.
 
 ghost use Rattle.std.specs.Prelude.{◌≡◌, is_some};
-ghost use Rattle.block_cache.specs.Blocks.{block_of, moved_to_front};
+ghost use Rattle.dhash_model.specs.Cache.{block_of, moved_to_front};
 
 use crate::line::Line;
 use block_cache::BlockCache;

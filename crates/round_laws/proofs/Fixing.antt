@@ -21,7 +21,7 @@ use Rattle.dht_ids.specs.declared.ask.Ask.TheVariants as ask
 use Rattle.dht_ids.specs.declared.judge.Judged.{Judged}
 use Rattle.dht_ids.specs.declared.peer.Peer.{Peer}
 use Rattle.dht_ids.specs.Peers.{place}
-use Rattle.dhash_client.specs.Course.{Told}
+use Rattle.dhash_model.specs.Course.{Told}
 use Rattle.world_model.specs.World.{World}
 use Rattle.world_model.specs.Fates.{FateOf, Fates, asking}
 use Rattle.world_model.specs.Fates.Fates.{none as no_asks, more as one_ask}

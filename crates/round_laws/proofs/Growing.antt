@@ -7,8 +7,8 @@ use Rattle.dht_ids.specs.declared.ask.Ask.{Ask}
 use Rattle.dht_ids.specs.declared.ask.Ask.TheVariants as ask
 use Rattle.dht_ids.specs.declared.judge.Judged.{Judged}
 use Rattle.dht_ids.specs.declared.peer.Peer.{Peer}
-use Rattle.node_store.specs.Stores.{Block, Blocks}
-use Rattle.chord_core.specs.State.{stabilised}
+use Rattle.dhash_model.specs.Stores.{Block, Blocks}
+use Rattle.dhash_model.specs.State.{stabilised}
 use Rattle.world_model.specs.World.{World, with_node}
 use Rattle.world_model.specs.Fates.{FateOf, Fates}
 use Rattle.world_model.specs.Fates.FateOf.{lost as was_lost, stopped as was_stopped, answers as was_answered}

@@ -15,18 +15,18 @@ use Rattle.dht_ids.specs.declared.ask.Ask.TheVariants as ask
 use Rattle.dht_ids.specs.declared.ask.StoreFault.{StoreFault}
 use Rattle.dht_ids.specs.declared.judge.Judged.{Judged}
 use Rattle.dht_ids.specs.declared.peer.Peer.{Peer}
-use Rattle.dhash_client.specs.Course.{Told}
-use Rattle.dhash_client.specs.Puts.{holds}
-use Rattle.node_store.specs.Stores.{Block, Blocks, content, content_fault, head, head_fault, without}
-use Rattle.node_store.specs.declared.kind.Kind.{Kind}
-use Rattle.node_store.specs.declared.kind.Kind.TheVariants.{Content, Head}
+use Rattle.dhash_model.specs.Course.{Told}
+use Rattle.dhash_model.specs.Puts.{holds}
+use Rattle.dhash_model.specs.Stores.{Block, Blocks, content, content_fault, head, head_fault, without}
+use Rattle.dhash_model.specs.declared.kind.Kind.{Kind}
+use Rattle.dhash_model.specs.declared.kind.Kind.TheVariants.{Content, Head}
 use Rattle.node_store.proofs.Maps.{keys_total}
 use Rattle.world_model.specs.Nodes.{Node, answered, stored}
 use Rattle.world_model.specs.World.{World, node_at, peer_of, with_node}
 use Rattle.world_model.specs.Fates.{Fates, asking, counted}
 use Rattle.world_model.specs.Rounds.{question_as}
-use Rattle.round_laws.specs.RingOf.{node_of, own_node}
-use Rattle.round_laws.specs.Holding.{held_in, rank, rank_in}
+use Rattle.world_model.specs.RingOf.{node_of, own_node}
+use Rattle.world_model.specs.Holding.{held_in, rank, rank_in}
 use Rattle.round_laws.proofs.Nodes.{Shape, at, at_id, at_itself, at_other, at_same, made_by, not_tied, replaced, same_id, same_or_not, same_peer, ties}
 use Rattle.round_laws.proofs.Standing.{Fated, IsBase, IsWithin, fated, peer_or_not, stands, still_asked}
 use Rattle.round_laws.proofs.Standing.Fated.{silence, heard}

@@ -15,14 +15,15 @@ use Rattle.dht_ids.specs.NodeIds.{node_id_of}
 use Rattle.dht_ids.specs.declared.judge.Judged.{Judged}
 use Rattle.dht_ids.specs.declared.peer.Peer.{Peer}
 use Rattle.dht_ids.specs.Peers.{place}
-use Rattle.chord_core.specs.State.{alone_node}
+use Rattle.dhash_model.specs.State.{alone_node}
 use Rattle.script_driver.specs.Run.{Outcome, Goes, Ends, Refuses, Exceeds}
 use Rattle.world_model.specs.Nodes.{Node}
 use Rattle.world_model.specs.World.{World, live_peers, node_at, peer_of}
 use Rattle.world_model.specs.Ring.{FindsNobody, JoinLine, LooksUp, empty_node, failed_join_text, in_ring_order, is_known_id, joined_node, least, live_in_order, peer_numbered, with_new_node}
 use Rattle.world_model.specs.Ring.JoinLine.{before_ring, known as is_met, exceeds, alone, joins, fails}
+use Rattle.world_model.specs.RingOf.{lives_in}
 use Rattle.round_laws.specs.Laws.{JoinLineJoins}
-use Rattle.round_laws.specs.RingOf.{AreApart, AreNamed, AreNodes, IsSettledIn, KnowsOnly, LosesNone, links_in, lives_in}
+use Rattle.round_laws.specs.RingOf.{AreApart, AreNamed, AreNodes, IsSettledIn, KnowsOnly, LosesNone, links_in}
 use Rattle.round_laws.proofs.Nodes.{at, at_here, at_later, links_at, lives_by, lives_shape, made_by, made_shape, order_by, order_shape, same_or_not, shape}
 use Rattle.round_laws.proofs.Order.{among_fold, lives_made, order_lives, same_lists}
 use Rattle.round_laws.proofs.Standing.{IsBase, lives_are, node_made, stands}

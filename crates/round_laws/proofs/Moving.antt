@@ -23,8 +23,8 @@ use Rattle.dht_ids.specs.declared.ask.Ask.TheVariants as ask
 use Rattle.dht_ids.specs.declared.judge.Judged.{Judged}
 use Rattle.dht_ids.specs.declared.peer.Peer.{Peer}
 use Rattle.dht_ids.specs.Peers.{place}
-use Rattle.dhash_client.specs.Course.{Told}
-use Rattle.node_store.specs.Stores.{Block, Blocks}
+use Rattle.dhash_model.specs.Course.{Told}
+use Rattle.dhash_model.specs.Stores.{Block, Blocks}
 use Rattle.world_model.specs.Nodes.{Node}
 use Rattle.world_model.specs.World.{World, node_at}
 use Rattle.world_model.specs.Fates.{asking}
@@ -33,8 +33,10 @@ use Rattle.world_model.specs.Rounds.{EachDoes, PutsAll, PutsAround, Repairs, is_
 use Rattle.world_model.specs.Rounds.EachDoes.{done, next as then_does}
 use Rattle.world_model.specs.Rounds.PutsAround.{no_route, puts}
 use Rattle.world_model.specs.Rounds.PutsAll.{done as all_put, keeps, drops}
-use Rattle.round_laws.specs.RingOf.{links_in, own_node}
-use Rattle.round_laws.specs.Holding.{AllTaken, EachTaken, IsTaken, Tells, held_in, rank, rank_in}
+use Rattle.world_model.specs.RingOf.{own_node}
+use Rattle.world_model.specs.Holding.{held_in, rank, rank_in}
+use Rattle.round_laws.specs.RingOf.{links_in}
+use Rattle.round_laws.specs.Holding.{AllTaken, EachTaken, IsTaken, Tells}
 use Rattle.round_laws.proofs.Nodes.{Shape, id_itself, lives_by, made_by, not_tied, order_by, same_or_not, same_place, ties}
 use Rattle.round_laws.proofs.Order.{lives_made}
 use Rattle.round_laws.proofs.Standing.{IsBase, IsWithin, node_made, peer_or_not, stands}

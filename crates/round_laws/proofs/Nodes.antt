@@ -19,7 +19,8 @@ use Rattle.dht_ids.specs.Peers.{place}
 use Rattle.world_model.specs.Nodes.{Node}
 use Rattle.world_model.specs.World.{World, node_at, peer_of, with_node}
 use Rattle.world_model.specs.Ring.{in_ring_order, live_in_order}
-use Rattle.round_laws.specs.RingOf.{AreApart, links_in, lives_in, no_links, own_node}
+use Rattle.world_model.specs.RingOf.{lives_in, own_node}
+use Rattle.round_laws.specs.RingOf.{AreApart, links_in, no_links}
 
 -- ---- identifiers and peers
 

@@ -13,8 +13,8 @@ use Rattle.dht_ids.specs.declared.ask.Answer.{Answer}
 use Rattle.dht_ids.specs.declared.ask.Answer.TheVariants as answer
 use Rattle.dht_ids.specs.declared.peer.Peer.{Peer}
 use Rattle.dht_ids.specs.Peers.{place}
-use Rattle.dhash_client.specs.Course.{Told}
-use Rattle.dhash_client.specs.Puts.{holds, is_of_put}
+use Rattle.dhash_model.specs.Course.{Told}
+use Rattle.dhash_model.specs.Puts.{holds, is_of_put}
 use Rattle.world_model.specs.Rounds.{IsDropped}
 
 -- ---- lists in which each stands once

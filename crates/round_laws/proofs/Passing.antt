@@ -15,7 +15,7 @@ use Rattle.dht_ids.specs.declared.ask.Ask.TheVariants as ask
 use Rattle.dht_ids.specs.declared.judge.Judged.{Judged}
 use Rattle.dht_ids.specs.declared.peer.Peer.{Peer}
 use Rattle.dht_ids.specs.Peers.{place}
-use Rattle.chord_core.specs.State.{State, stabilised}
+use Rattle.dhash_model.specs.State.{State, stabilised}
 use Rattle.world_model.specs.Nodes.{Node}
 use Rattle.world_model.specs.World.{World, node_at, with_node}
 use Rattle.world_model.specs.Fates.{counted}

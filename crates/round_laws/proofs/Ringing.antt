@@ -17,15 +17,17 @@ use Rattle.dht_ids.specs.NodeIds.{node_id_of}
 use Rattle.dht_ids.specs.declared.peer.Peer.{Peer}
 use Rattle.dht_ids.specs.Peers.{place}
 use Rattle.dht_ids.proofs.Numbers.{AreBytes, be_number_below}
-use Rattle.chord_core.specs.Settled.{IsSettledNode}
+use Rattle.dhash_model.specs.Settled.{IsSettledNode}
 use Rattle.script_driver.specs.Run.{Outcome, Goes, Ends, Refuses, Exceeds}
 use Rattle.world_model.specs.Nodes.{Node}
 use Rattle.world_model.specs.World.{World, node_at, peer_of}
 use Rattle.world_model.specs.Ring.{AreSettled, RingLine, first_peers, in_ring_order, is_known_id, live_in_order, peer_numbered}
 use Rattle.world_model.specs.Ring.AreSettled.{none as nobody, more as one_more}
 use Rattle.world_model.specs.Ring.RingLine.{refused, exceeds, makes}
-use Rattle.round_laws.specs.RingOf.{AreApart, AreNodes, IsSettledIn, KnowsOnly, links_in, own_node}
-use Rattle.round_laws.specs.Holding.{AreStores, held_in}
+use Rattle.world_model.specs.RingOf.{own_node}
+use Rattle.world_model.specs.Holding.{held_in}
+use Rattle.round_laws.specs.RingOf.{AreApart, AreNodes, IsSettledIn, KnowsOnly, links_in}
+use Rattle.round_laws.specs.Holding.{AreStores}
 use Rattle.round_laws.specs.Laws.{RingLineSettles}
 use Rattle.round_laws.proofs.Nodes.{at_among, links_at, ties}
 use Rattle.round_laws.proofs.Order.{fold_among}

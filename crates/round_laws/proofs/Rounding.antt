@@ -17,7 +17,8 @@ use Rattle.world_model.specs.Nodes.{Node}
 use Rattle.world_model.specs.World.{World, peer_of}
 use Rattle.world_model.specs.Ring.{live_in_order}
 use Rattle.world_model.specs.Rounds.{IsRoundOf}
-use Rattle.round_laws.specs.RingOf.{AreApart, AreNodes, BeforesLive, IsSettledIn, KnowsOnly, links_in, lives_in}
+use Rattle.world_model.specs.RingOf.{lives_in}
+use Rattle.round_laws.specs.RingOf.{AreApart, AreNodes, BeforesLive, IsSettledIn, KnowsOnly, links_in}
 use Rattle.round_laws.specs.Laws.{FingersAreFixed, FirstPartForgets, PassesArePasses, RoundIsRound, RoundLeavesTheRest, RoundLeavesWhoLives, RoundMendsJoin, RoundMendsStops}
 use Rattle.round_laws.proofs.Nodes.{Shape, at, at_among, at_here, at_later, lives_by, made_by, made_shape, order_by, order_shape, same_place, shape}
 use Rattle.round_laws.proofs.Order.{lives_made, lives_order, order_ascends, order_lives, same_lists}

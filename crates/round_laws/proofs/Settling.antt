@@ -15,12 +15,14 @@ use Rattle.ring_model.specs.Ring.{Links, IsSettledRing}
 use Rattle.ring_model.proofs.Lists.{all-among}
 use Rattle.dht_ids.specs.declared.peer.Peer.{Peer}
 use Rattle.dht_ids.specs.Peers.{place}
-use Rattle.node_store.specs.Stores.{Block, Blocks}
+use Rattle.dhash_model.specs.Stores.{Block, Blocks}
 use Rattle.world_model.specs.Nodes.{Node}
 use Rattle.world_model.specs.World.{World}
 use Rattle.world_model.specs.Ring.{live_in_order}
-use Rattle.round_laws.specs.RingOf.{IsSettledIn, links_in, lives_in}
-use Rattle.round_laws.specs.Holding.{AreStores, Tells, rank, rank_in}
+use Rattle.world_model.specs.RingOf.{lives_in}
+use Rattle.world_model.specs.Holding.{rank, rank_in}
+use Rattle.round_laws.specs.RingOf.{IsSettledIn, links_in}
+use Rattle.round_laws.specs.Holding.{AreStores, Tells}
 use Rattle.round_laws.specs.Laws.{BlocksMove, RoundMovesBlocks}
 use Rattle.round_laws.proofs.Nodes.{at_among, lives_by, made_by, order_by, order_shape, shape}
 use Rattle.round_laws.proofs.Order.{order_lives}

@@ -12,12 +12,13 @@ use Rattle.dht_ids.specs.declared.ask.Answer.TheVariants.{Silent}
 use Rattle.dht_ids.specs.declared.ask.Ask.{Ask}
 use Rattle.dht_ids.specs.declared.judge.Judged.{Judged}
 use Rattle.dht_ids.specs.declared.peer.Peer.{Peer}
-use Rattle.chord_core.specs.State.{State, with_links}
+use Rattle.dhash_model.specs.State.{State, with_links}
 use Rattle.world_model.specs.Nodes.{Node, answered}
 use Rattle.world_model.specs.World.{World, node_at, peer_of, with_node}
 use Rattle.world_model.specs.Fates.{FateOf, counted}
 use Rattle.world_model.specs.Fates.FateOf.{lost as was_lost, stopped as was_stopped, answers as was_answered}
-use Rattle.round_laws.specs.RingOf.{AreApart, KnowsOnly, links_in, lives_in, no_links, own_node}
+use Rattle.world_model.specs.RingOf.{lives_in, own_node}
+use Rattle.round_laws.specs.RingOf.{AreApart, KnowsOnly, links_in, no_links}
 use Rattle.round_laws.proofs.Nodes.{Shape, at, at_among, at_id, at_made, at_other, at_same, links_at, links_other, lives_by, lives_shape, made_by, made_shape, replaced, same_or_not, same_peer, shape, mapped_kept}
 
 pub peer_or_not : (p q : Peer) → (p ≡ q) ⊎ (p ≡ q → ⊥)

@@ -11,12 +11,13 @@ use Rattle.round_laws.proofs.Order.{same_lists}
 use Rattle.ring_model.specs.Change.{AreFewStops}
 use Rattle.dht_ids.specs.declared.peer.Peer.{Peer}
 use Rattle.dht_ids.specs.Peers.{place}
-use Rattle.chord_core.specs.State.{State}
+use Rattle.dhash_model.specs.State.{State}
 use Rattle.script_driver.specs.Run.{Outcome, Goes, Ends, Refuses, Exceeds}
 use Rattle.world_model.specs.Nodes.{Node}
 use Rattle.world_model.specs.World.{World, node_at, peer_of, with_node}
 use Rattle.world_model.specs.Ring.{live_in_order, stop_line}
-use Rattle.round_laws.specs.RingOf.{AreApart, AreNodes, KnowsOnly, Stop, links_in, lives_in}
+use Rattle.world_model.specs.RingOf.{lives_in}
+use Rattle.round_laws.specs.RingOf.{AreApart, AreNodes, KnowsOnly, Stop, links_in}
 use Rattle.round_laws.specs.RingOf.Stop.{none as nobody, one_more as stopped_more}
 use Rattle.round_laws.specs.Laws.{RoundMendsSince, RoundMendsStopLines, StopLineStops, StopLinesLeaveCovered}
 use Rattle.round_laws.proofs.Nodes.{mapped_kept}

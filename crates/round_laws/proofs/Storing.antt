@@ -11,14 +11,14 @@ use Rattle.dht_ids.specs.declared.ask.Answer.TheVariants as answer
 use Rattle.dht_ids.specs.declared.ask.StoreFault.{StoreFault}
 use Rattle.dht_ids.specs.declared.ask.StoreFault.TheVariants.{WrongName, Older, Full}
 use Rattle.dht_ids.specs.declared.judge.Judged.{Judged}
-use Rattle.dhash_client.specs.Puts.{holds}
-use Rattle.node_store.specs.Stores.{Block, Blocks, content, content_fault, full, head, head_fault, not_judged, number_at, number_of, older}
-use Rattle.node_store.specs.declared.kind.Kind.{Kind}
-use Rattle.node_store.specs.declared.kind.Kind.TheVariants.{Content, Head}
+use Rattle.dhash_model.specs.Puts.{holds}
+use Rattle.dhash_model.specs.Stores.{Block, Blocks, content, content_fault, full, head, head_fault, not_judged, number_at, number_of, older}
+use Rattle.dhash_model.specs.declared.kind.Kind.{Kind}
+use Rattle.dhash_model.specs.declared.kind.Kind.TheVariants.{Content, Head}
 use Rattle.node_store.proofs.Maps.{keys_total}
 use Rattle.world_model.specs.Nodes.{Node, answered, stored}
 use Rattle.world_model.specs.Rounds.{question_as}
-use Rattle.round_laws.specs.Holding.{rank}
+use Rattle.world_model.specs.Holding.{rank}
 use Rattle.round_laws.proofs.Nodes.{id_itself, not_tied}
 
 abbrev pub under : Key → Node → Option Block

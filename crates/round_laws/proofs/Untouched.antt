@@ -9,11 +9,11 @@ use Rattle.dht_ids.specs.declared.ask.Ask.{Ask}
 use Rattle.dht_ids.specs.declared.ask.Ask.TheVariants as ask
 use Rattle.dht_ids.specs.declared.judge.Judged.{Judged}
 use Rattle.dht_ids.specs.declared.peer.Peer.{Peer}
-use Rattle.dhash_client.specs.Course.{Told}
+use Rattle.dhash_model.specs.Course.{Told}
 use Rattle.ring_model.specs.Round.{with_finger}
 use Rattle.ring_model.proofs.Lists.{none_some, some_same}
-use Rattle.chord_core.specs.State.{stabilised, with_links}
-use Rattle.node_store.specs.Stores.{Block, Blocks}
+use Rattle.dhash_model.specs.State.{stabilised, with_links}
+use Rattle.dhash_model.specs.Stores.{Block, Blocks}
 use Rattle.world_model.specs.Nodes.{Node, answered}
 use Rattle.world_model.specs.World.{World, node_at, peer_of, with_node}
 use Rattle.world_model.specs.Fates.{FateOf, Fates, asking, counted}
@@ -25,8 +25,8 @@ use Rattle.world_model.specs.Rounds.Forgets.{has_none, keeps, forgets}
 use Rattle.world_model.specs.Rounds.Notifies.{nobody, notifies}
 use Rattle.world_model.specs.Rounds.Stabilises.{alone, drops, hears}
 use Rattle.world_model.specs.Rounds.FixesFrom.{done as no_more, next as then_fixes}
-use Rattle.round_laws.specs.RingOf.{own_node}
-use Rattle.round_laws.specs.Holding.{held_in}
+use Rattle.world_model.specs.RingOf.{own_node}
+use Rattle.world_model.specs.Holding.{held_in}
 use Rattle.round_laws.proofs.Nodes.{at, at_id, at_other, at_same, replaced, same_or_not}
 use Rattle.round_laws.proofs.Fixing.{fates_first, fates_none}
 

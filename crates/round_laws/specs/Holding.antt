@@ -1,33 +1,21 @@
 -- What the nodes of a world hold, and when each put of the fourth part of a round is taken.
-use Rattle.std.specs.Prelude.{◌≡◌, ◌↔◌, ℕ, Bool, true, List, Option, Some, ⊤, option_map, option_and_then}
+use Rattle.std.specs.Prelude.{◌≡◌, ◌↔◌, ℕ, Bool, true, List, Option, Some, ⊤}
 use Rattle.std.specs.List.{AllByRecursion}
 use Rattle.std.specs.List.Sorted.{IsStrictlySortedBy}
 use Rattle.std.specs.Map.{keys_of}
-use Rattle.std.specs.Option.{option_map_or}
-use Rattle.std.specs.FinMap.Entries.{find as value_at}
 use Rattle.ivy_base.specs.declared.key.Key.{Key}
 use Rattle.ivy_base.specs.Naming.{key_cmp}
 use Rattle.ring_model.specs.Members.{IsAmong}
 use Rattle.dht_ids.specs.declared.judge.Judged.{Judged}
 use Rattle.dht_ids.specs.declared.peer.Peer.{Peer}
-use Rattle.dhash_client.specs.Puts.{holds}
-use Rattle.node_store.specs.Stores.{Block, Blocks, number_of}
+use Rattle.dhash_model.specs.Puts.{holds}
+use Rattle.dhash_model.specs.Stores.{Block, Blocks}
 use Rattle.world_model.specs.World.{World}
 use Rattle.world_model.specs.Rounds.{EachDoes, PutsAll, PutsAround, Repairs}
 use Rattle.world_model.specs.Rounds.EachDoes.{done, next}
 use Rattle.world_model.specs.Rounds.PutsAround.{no_route, puts}
 use Rattle.world_model.specs.Rounds.PutsAll.{done as all_put, keeps, drops}
-use Rattle.round_laws.specs.RingOf.{node_of}
-
-abbrev pub held_in : World → Key → Peer → Option Block
-held_in w key p = option_and_then (λ n. value_at key_cmp key n.blocks) (node_of w p)
-
--- the rank of a block under a key: its number where it is a head, and 0 for content
-abbrev pub rank : (Key → List ℕ → Option Judged) → Key → Block → ℕ
-rank judged key block = option_map_or (λ seq. seq) (number_of (judged key) block) 0
-
-abbrev pub rank_in : (Key → List ℕ → Option Judged) → World → Key → Peer → Option ℕ
-rank_in judged w key p = option_map (rank judged key) (held_in w key p)
+use Rattle.world_model.specs.Holding.{held_in}
 
 -- each node holds its blocks by ascending keys, and under one key all nodes hold content or all hold heads
 pub record AreStores (w : World) : Type 0 where

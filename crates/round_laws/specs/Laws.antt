@@ -15,8 +15,10 @@ use Rattle.world_model.specs.Nodes.{Node}
 use Rattle.world_model.specs.World.{World, peer_of}
 use Rattle.world_model.specs.Ring.{JoinLine, RingLine, live_in_order, peer_numbered, stop_line}
 use Rattle.world_model.specs.Rounds.{EachDoes, ManyDo, Forgets, Stabilises, FixesFrom, IsRoundOf, Repairs}
-use Rattle.round_laws.specs.Holding.{AreStores, EachTaken, Tells, rank_in}
-use Rattle.round_laws.specs.RingOf.{AreNamed, AreNodes, BeforesLive, IsCoveredIn, IsSettledIn, LosesNone, Stop, links_in, lives_in}
+use Rattle.world_model.specs.Holding.{rank_in}
+use Rattle.world_model.specs.RingOf.{lives_in}
+use Rattle.round_laws.specs.Holding.{AreStores, EachTaken, Tells}
+use Rattle.round_laws.specs.RingOf.{AreNamed, AreNodes, BeforesLive, IsCoveredIn, IsSettledIn, LosesNone, Stop, links_in}
 
 -- ---- whatever is lost
 

@@ -1,5 +1,5 @@
 -- The ring of a world: who lives and what each node knows, as the definitions of rings take them, and what holds of the nodes of each world of a script.
-use Rattle.std.specs.Prelude.{◌≡◌, ℕ, suc, ◌<◌, ◌≤◌, nat_eq, Bool, true, false, List, [], ◌∷◌, map, Contains, Option, Some, None, IfSome, ⊤, if◌then◌else◌}
+use Rattle.std.specs.Prelude.{◌≡◌, ℕ, suc, ◌<◌, ◌≤◌, true, List, [], ◌∷◌, map, Contains, Some, None, IfSome, ⊤}
 use Rattle.std.specs.List.{AllByRecursion}
 use Rattle.std.specs.Option.{option_map_or}
 use Rattle.ring_model.specs.Circle.{identifier_bits}
@@ -9,17 +9,10 @@ use Rattle.dht_ids.specs.declared.peer.Peer.{Peer}
 use Rattle.dht_ids.specs.NodeIds.{node_id_of}
 use Rattle.dht_ids.specs.Peers.{place}
 use Rattle.world_model.specs.Nodes.{Node}
-use Rattle.world_model.specs.World.{World, node_at, peer_of}
+use Rattle.world_model.specs.World.{World, peer_of}
 use Rattle.script_driver.specs.Run.{Goes}
 use Rattle.world_model.specs.Ring.{live_in_order, stop_line}
-
--- the node that the peer itself is: a peer of its identifier and another number has none
-abbrev pub own_node : Peer → Option Node → Option Node
-own_node p None = None
-own_node p (Some n) = if nat_eq (peer_of n).number p.number then Some n else None
-
-abbrev pub node_of : World → Peer → Option Node
-node_of w p = own_node p (node_at w p.id)
+use Rattle.world_model.specs.RingOf.{node_of, lives_in}
 
 abbrev pub no_links : Links Peer
 no_links = record { list = []; before = None; fingers = [] }
@@ -27,9 +20,6 @@ no_links = record { list = []; before = None; fingers = [] }
 -- what each peer knows of others
 abbrev pub links_in : World → Peer → Links Peer
 links_in w p = option_map_or (λ n. n.ring.links) (node_of w p) no_links
-
-abbrev pub lives_in : World → Peer → Bool
-lives_in w p = option_map_or (λ n. n.is_live) (node_of w p) false
 
 -- the ring of the live nodes is settled
 abbrev pub IsSettledIn : World → ℕ → Type 0

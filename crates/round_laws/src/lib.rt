@@ -8,8 +8,9 @@
 //! ([`rounds_settle`]), and where each put is taken it moves each key's blocks to the owners ([`rounds_move_blocks`]).
 //! The lines round it: that which makes a ring makes a settled one ([`ring_lines_settle`]), at a join one node joins
 //! ([`join_lines_join`]), and after few stops the ring is covered ([`stop_lines_stop`]).
-//! Definitions: `specs/RingOf.antt` (the ring of a world, and what holds of its nodes), `specs/Holding.antt` (what nodes
-//! hold, and when puts are taken); the laws: `specs/Laws.antt`.
+//! Definitions: `specs/RingOf.antt` (the ring of a world, and what holds of its nodes), `specs/Holding.antt` (what holds
+//! of their blocks, and when puts are taken); the laws: `specs/Laws.antt`. Who lives and what nodes hold are words of
+//! `world_model`.
 #![tactic(auto)]
 
 ghost use Rattle.round_laws.specs.Laws.{BlocksMove, FingersAreFixed, FirstPartForgets, JoinLineJoins, PassesArePasses, RingLineSettles, RoundIsRound, RoundLeavesTheRest, RoundLeavesWhoLives, RoundMendsJoin, RoundMendsSince, RoundMendsStopLines, RoundMendsStops, RoundMovesBlocks, StopLineStops, StopLinesLeaveCovered};

@@ -24,3 +24,4 @@ mod stream;
 pub use call::{Call, Caller, Heading, read_call};
 pub use frames::{Cut, FrameFault, FrameReader, frames_are_one};
 pub use reply::{LONGEST_HEAD, ReplyHead, heads_are_fronts, write_head};
+pub use stream::LONGEST_MESSAGE;

@@ -10,7 +10,7 @@ use std::collections::VecDeque;
 use std::mem;
 
 /// The most bytes of a message.
-const LONGEST_MESSAGE: usize = 65_536;
+pub const LONGEST_MESSAGE: usize = 65_536;
 
 /// The bit of a header that marks a message's last fragment.
 const LAST: u32 = 0x8000_0000;

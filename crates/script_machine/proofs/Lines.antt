@@ -3,7 +3,7 @@ use Rattle.std.proofs.Common.{◌≡◌, ℕ, true, false, List, [], ◌∷◌, 
 use Rattle.std.specs.Prelude.{find, is_some, not, option_map}
 use Rattle.std.specs.List.{position, remove}
 use Rattle.std.specs.Str.{bytes_eq}
-use Rattle.log_heads.specs.Signed.{hss_judged}
+use Rattle.dhash_model.specs.Signed.{hss_judged}
 use Rattle.ring_nodes.proofs.Places.{found_at, none_found}
 use Rattle.script_driver.specs.Run.{Outcome, Goes, Refuses}
 use Rattle.script_model.specs.declared.command.Piece.{Piece}

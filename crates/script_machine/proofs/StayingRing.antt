@@ -6,7 +6,7 @@ use Rattle.dht_ids.specs.declared.ask.Answer.{Answer}
 use Rattle.dht_ids.specs.declared.ask.Ask.{Ask}
 use Rattle.dht_ids.specs.declared.judge.Judged.{Judged}
 use Rattle.dht_ids.specs.declared.peer.Peer.{Peer}
-use Rattle.node_store.specs.Stores.{Blocks, with_byte}
+use Rattle.dhash_model.specs.Stores.{Blocks, with_byte}
 use Rattle.round_laws.proofs.Rounding.{leaves_the_rest}
 use Rattle.script_driver.specs.Run.{Outcome, Goes, Ends, Refuses, Exceeds}
 use Rattle.script_model.specs.declared.command.KeyWord.{KeyWord}

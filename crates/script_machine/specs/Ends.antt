@@ -1,7 +1,7 @@
 -- How a participant's session in code ends; lines that show nothing, and which sessions they leave open.
 use Rattle.std.specs.Prelude.{◌≡◌, ℕ, Bool, true, false, not, List, [], ◌∷◌, filter, Some, if◌then◌else◌}
 use Rattle.std.specs.Str.{bytes_eq}
-use Rattle.log_heads.specs.Signed.{hss_judged}
+use Rattle.dhash_model.specs.Signed.{hss_judged}
 use Rattle.script_driver.specs.declared.machine.Taken.{Taken}
 use Rattle.script_driver.specs.declared.machine.Taken.TheVariants as taken
 use Rattle.session_model.specs.Sessions.{Over, Said}

@@ -2,7 +2,7 @@
 
 ghost use Rattle.std.specs.Prelude.{◌≡◌, ◌++◌, [], ◌∷◌, position, IfOk, OnOk};
 ghost use Rattle.std.specs.Str.{bytes_eq};
-ghost use Rattle.log_heads.specs.Signed.{hss_judged};
+ghost use Rattle.dhash_model.specs.Signed.{hss_judged};
 ghost use Rattle.world_model.specs.Calls.{AsLine, FinishLine, OpenLine, StepLine, is_step_count, sending_of};
 ghost use Rattle.world_model.specs.World.{session_named};
 ghost use Rattle.script_world.specs.Running.{HasSceneIn};

@@ -1,7 +1,7 @@
 //! How a script's world takes a line.
 
 ghost use Rattle.std.specs.Prelude.{◌≡◌, ◌≢◌, [], IfOk, Some, None};
-ghost use Rattle.log_heads.specs.Signed.{hss_judged};
+ghost use Rattle.dhash_model.specs.Signed.{hss_judged};
 ghost use Rattle.script_model.specs.declared.command.Command.TheVariants as command;
 ghost use Rattle.world_model.specs.Logs.{Played};
 ghost use Rattle.world_model.specs.Step.{Does, MayDo, MayDoFirst};

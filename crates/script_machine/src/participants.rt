@@ -2,8 +2,8 @@
 
 ghost use Rattle.std.specs.Prelude.{◌≡◌, not, filter, IfOk};
 ghost use Rattle.std.specs.Str.{bytes_eq};
-ghost use Rattle.hss_keys.specs.Saved.{AreLevels};
-ghost use Rattle.log_heads.specs.Signed.{hss_judged};
+ghost use Rattle.hash_signature_model.specs.Saved.{AreLevels};
+ghost use Rattle.dhash_model.specs.Signed.{hss_judged};
 ghost use Rattle.world_model.specs.Logs.{LogLine, RestartLine, use_line};
 ghost use Rattle.world_model.specs.World.{participant};
 ghost use Rattle.script_machine.specs.Ends.{left_open, shows_nothing};

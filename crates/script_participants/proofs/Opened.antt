@@ -4,7 +4,7 @@ use Rattle.ivy_base.specs.declared.key.Key.{Key}
 use Rattle.dht_ids.specs.declared.post.Post.{Post}
 use Rattle.session_model.specs.Sessions.{Cache}
 use Rattle.ivy_base.specs.declared.operation.Moment.{Moment}
-use Rattle.hss_keys.specs.Signer.{Signer}
+use Rattle.hash_signature_model.specs.Signer.{Signer}
 use Rattle.ivy_io.specs.Keepers.{after_save}
 use Rattle.ivy_agent.specs.Holders.{Holder}
 use Rattle.world_model.specs.Agents.{Agent, opened}

@@ -2,8 +2,8 @@
 use Rattle.std.proofs.Common.{◌≡◌, ℕ, List, Option, Some, None, Result, Ok, Err, sym, subst, ◌∙◌}
 use Rattle.std.specs.Prelude.{IfOk}
 use Rattle.ivy_base.specs.declared.memory.Memory.{Memory}
-use Rattle.hss_keys.specs.Saved.{IsSigner}
-use Rattle.hss_keys.specs.Signer.{Signer}
+use Rattle.hash_signature_model.specs.Saved.{IsSigner}
+use Rattle.hash_signature_model.specs.Signer.{Signer}
 use Rattle.agent_saves.proofs.HssSaves.{counted}
 use Rattle.ivy_agent.specs.Holders.{Holder}
 use Rattle.ivy_agent.specs.Restarting.{AreNobodys, StartsAgain}

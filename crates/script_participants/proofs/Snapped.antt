@@ -2,8 +2,8 @@
 use Rattle.std.proofs.Common.{◌≡◌, ℕ, Bool, true, false, cond, List, Option, Some, None, Result, Ok, Err, refl, sym, ap, subst, ◌∙◌}
 use Rattle.std.specs.Prelude.{IfSome, option_map}
 use Rattle.ivy_base.specs.declared.key.Key.{Key}
-use Rattle.hss_keys.specs.Saved.{IsSigner}
-use Rattle.hss_keys.specs.Signer.{Signer}
+use Rattle.hash_signature_model.specs.Saved.{IsSigner}
+use Rattle.hash_signature_model.specs.Signer.{Signer}
 use Rattle.log_model.specs.View.{View}
 use Rattle.snapshot_model.specs.Spelling.{root_name, snapshot_blocks}
 use Rattle.agent_model.specs.Agent.{failed, kept_of}

@@ -2,8 +2,8 @@
 use Rattle.std.proofs.Common.{◌≡◌, ℕ, Bool, false, Option, Some, None, Result, Ok, Err, refl, sym, ap, subst, ◌∙◌}
 use Rattle.std.specs.Prelude.{IfSome, option_map}
 use Rattle.ivy_base.specs.declared.operation.Moment.{Moment}
-use Rattle.hss_keys.specs.Saved.{IsSigner}
-use Rattle.hss_keys.specs.Signer.{Signer}
+use Rattle.hash_signature_model.specs.Saved.{IsSigner}
+use Rattle.hash_signature_model.specs.Signer.{Signer}
 use Rattle.log_model.specs.View.{View}
 use Rattle.turn_model.specs.Turn.{Asked}
 use Rattle.agent_model.specs.Standing.{Refresh}

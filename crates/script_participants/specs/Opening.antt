@@ -1,7 +1,7 @@
 -- An agent that opens its log.
 use Rattle.std.specs.Prelude.{◌≡◌, Some}
 use Rattle.ivy_base.specs.declared.operation.Moment.{Moment}
-use Rattle.hss_keys.specs.Signer.{Signer}
+use Rattle.hash_signature_model.specs.Signer.{Signer}
 use Rattle.agent_model.specs.Agent.{kept_of}
 use Rattle.world_model.specs.Agents.{Agent, opened}
 use Rattle.world_model.specs.Keepers.{Keeper, asked_to_save, fresh_keeper}

@@ -2,7 +2,7 @@
 
 ghost use Rattle.std.specs.Prelude.{◌≡◌, ◌≢◌, ◌≤◌, ◌+◌, ◌==◌, length, find, option_map, None, IfOk, OnOk, OnErr, IfSome, IsSomeAnd};
 ghost use Rattle.std.specs.Borrow.{sem};
-ghost use Rattle.hss_keys.specs.Signer.{left_of};
+ghost use Rattle.hash_signature_model.specs.Signer.{left_of};
 ghost use Rattle.log_fetch.specs.Standings.{asked_of, refresh_of, standing_of};
 ghost use Rattle.log_records.specs.Records.{records_of};
 ghost use Rattle.agent_model.specs.Others.{settled};
@@ -15,6 +15,7 @@ ghost use Rattle.world_model.specs.Keepers.{with_fault};
 ghost use Rattle.world_model.specs.Logs.{newcomer};
 ghost use Rattle.world_model.specs.World.{Participant as Seen};
 ghost use Rattle.script_participants.specs.Opening.{IsOpened};
+ghost use Rattle.nfs_model.specs.Results.{longest_result};
 
 mod restarting;
 mod snapping;
@@ -225,7 +226,7 @@ impl Participant {
         requires call { IsCall (asked_of asked.now) now }
         ensures turn { IfSome self.old.agent.view (λ view. TakesTurn view (refresh_of refresh) (asked_of asked.now) now self.old result self.new) }
         ensures steps { IfOk result (λ turned. steps.new ≡ steps.old + turned.applied) }
-        ensures short { IfOk result (λ turned. length turned.reply ≤ 32772) }
+        ensures short { IfOk result (λ turned. length turned.reply ≤ longest_result) }
     {
         match self.agent.turn(alloc, refresh, asked, now, steps) {
             Ok(turned) => {

@@ -15,7 +15,7 @@ ghost use Rattle.world_model.specs.World.{World, Participant as Seen, name_of_ow
 use crate::participant::Participant;
 use crate::text::counted_line;
 use ivy_base::{Bytes, Memory, PubKey};
-use log_records::Record;
+use log_records::{MOST_WEIGHED, Record};
 use std::alloc::Global;
 use std::marker::Model;
 
@@ -138,7 +138,7 @@ impl Participants {
     fn put_record(&self, alloc: Global, text: &mut Vec<u8>, one: &Record) -> Result<(), Memory>
         ensures { OnOk result (text.new.items ≡ text.old.items ++ line_of self.now (record_of one.now)) }
     {
-        if one.vector.len() > MOST_CITED {
+        if one.vector.len() > MOST_WEIGHED {
             return Err(Memory);
         }
         let weight = one.rank().weight;
@@ -151,9 +151,6 @@ impl Participants {
         Ok(())
     }
 }
-
-/// The most entries of a vector whose weight is asked for. A record cites 32 logs at most.
-const MOST_CITED: usize = 2_147_483_648;
 
 /// Whether the keys are one.
 fn is_same(a: &PubKey, b: &PubKey) -> bool

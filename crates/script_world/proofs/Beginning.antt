@@ -4,7 +4,7 @@ use Rattle.std.specs.Prelude.{is_some, option_map}
 use Rattle.std.proofs.lemmas.List.{map_push}
 use Rattle.ivy_base.specs.declared.key.Key.{Key}
 use Rattle.hash_signature_model.specs.declared.set.Set.{Set}
-use Rattle.hss_keys.specs.Signer.{Signer, left_of}
+use Rattle.hash_signature_model.specs.Signer.{Signer, left_of}
 use Rattle.hss_keys.proofs.Signing.{capacity_some}
 use Rattle.dht_ids.specs.declared.judge.Judged.{Judged}
 use Rattle.dht_ids.specs.declared.post.Post.{Post}

@@ -4,7 +4,7 @@ use Rattle.std.specs.Prelude.{OnErr, OnOk, Result, Ok, Err}
 use Rattle.std.specs.List.{position}
 use Rattle.std.specs.Str.{bytes_eq}
 use Rattle.ivy_base.specs.declared.memory.Memory.{Memory}
-use Rattle.log_heads.specs.Signed.{hss_judged}
+use Rattle.dhash_model.specs.Signed.{hss_judged}
 use Rattle.ring_nodes.specs.NodesState.{NodesState, with_nodes}
 use Rattle.ring_nodes.proofs.Places.{none_found}
 use Rattle.session_steps.specs.MetState.{MetState}

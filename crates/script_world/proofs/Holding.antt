@@ -8,7 +8,8 @@ use Rattle.hex.specs.Hex.{encode_lower}
 use Rattle.ivy_base.specs.declared.key.Key.{Key}
 use Rattle.dht_ids.specs.declared.peer.Peer.{Peer}
 use Rattle.dht_ids.specs.declared.post.Post.{Post}
-use Rattle.node_store.specs.Stores.{Block, Blocks, post_of}
+use Rattle.dhash_model.specs.Stores.{Block, Blocks}
+use Rattle.node_store.specs.Stores.{post_of}
 use Rattle.ring_model.proofs.Lists.{none_some, some_same}
 use Rattle.script_driver.specs.Run.{Goes, Refuses}
 use Rattle.world_model.specs.Faults.{holds_by, holds_text}

@@ -9,7 +9,7 @@ use Rattle.ivy_base.specs.declared.memory.Memory.{Memory}
 use Rattle.log_model.specs.View.{View, have_own_head_keys, most_former, most_members, view_block, view_name}
 use Rattle.dht_ids.specs.declared.ask.Ask.TheVariants as ask
 use Rattle.dht_ids.specs.declared.judge.Judged.{Judged}
-use Rattle.dhash_client.specs.declared.miss.Miss.{Miss}
+use Rattle.dhash_model.specs.declared.miss.Miss.{Miss}
 use Rattle.script_driver.specs.Run.{Outcome, Goes, Refuses, Exceeds}
 use Rattle.script_model.specs.Words.{◌>>=◌}
 use Rattle.world_model.specs.Agents.{own}

@@ -3,7 +3,7 @@ use Rattle.std.proofs.Common.{◌≡◌, ◌≢◌, inr, ℕ, List, [], refl, sy
 use Rattle.std.specs.Prelude.{IfOk, option_map, Result, Ok, Err}
 use Rattle.std.specs.List.{AllByRecursion, find}
 use Rattle.std.specs.Str.{bytes_eq}
-use Rattle.log_heads.specs.Signed.{hss_judged}
+use Rattle.dhash_model.specs.Signed.{hss_judged}
 use Rattle.log_model.proofs.Lists.{each}
 use Rattle.session_model.specs.Sessions.{in_publishing_order}
 use Rattle.ivy_base.specs.declared.memory.Memory.{Memory}

@@ -1,7 +1,7 @@
 -- Sessions that begin, go on and end in worlds that have these parts.
 use Rattle.std.specs.Prelude.{◌≡◌, ◌≢◌, ℕ, List, [], Option, Some, None, IfSome, IsSomeAnd, IsTrue, is_some}
 use Rattle.std.specs.List.{AllByRecursion}
-use Rattle.log_heads.specs.Signed.{hss_judged}
+use Rattle.dhash_model.specs.Signed.{hss_judged}
 use Rattle.script_model.specs.Messages.{Given}
 use Rattle.session_model.specs.Sessions.{Said, Session}
 use Rattle.world_model.specs.Calls.{BeginsWith, Sending, replied}

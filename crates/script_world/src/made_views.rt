@@ -1,20 +1,14 @@
 //! Views of keys in any order.
 
 ghost use Rattle.std.specs.Prelude.{◌≡◌, ◌≢◌, ◌≤◌, ◌++◌, [], true, length, IfOk};
-ghost use Rattle.log_model.specs.View.{have_own_head_keys};
+ghost use Rattle.log_model.specs.View.{have_own_head_keys, most_former, most_members};
 ghost use Rattle.world_model.specs.Logs.{in_key_order};
 ghost use Rattle.script_world.specs.Made.{IsMade, view_of_keys};
 
 use ivy_base::{Memory, PubKey, head_key};
 use std::alloc::Global;
 use std::collections::BTreeSet;
-use view_blocks::{View, ViewFault};
-
-/// The most members that a view has.
-const MOST_MEMBERS: usize = 16;
-
-/// The most former logs that a view has.
-const MOST_FORMER: usize = 16;
+use view_blocks::{MOST_FORMER, MOST_MEMBERS, View, ViewFault};
 
 /// What comes of a line that makes a view.
 #[derive(Drop)]
@@ -57,8 +51,8 @@ fn have_own_heads(alloc: Global, members: &[PubKey], former: &[PubKey]) -> Resul
 /// The view of these keys, which are put in order. The error is want of memory.
 fn view_in_order(alloc: Global, members: Vec<PubKey>, former: Vec<PubKey>) -> Result<View, Memory>
     requires some { members.items ≢ [] }
-    requires few { length members.items ≤ MOST_MEMBERS }
-    requires few_former { length former.items ≤ MOST_FORMER }
+    requires few { length members.items ≤ most_members }
+    requires few_former { length former.items ≤ most_former }
     requires own { have_own_head_keys (members.items ++ former.items) ≡ true }
     ensures { IfOk result (λ view. view ≡ view_of_keys members.items former.items) }
 {

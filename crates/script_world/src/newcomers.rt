@@ -1,7 +1,7 @@
 //! Logs that begin.
 
 ghost use Rattle.std.specs.Prelude.{◌≡◌, IfOk};
-ghost use Rattle.hss_keys.specs.Saved.{AreLevels};
+ghost use Rattle.hash_signature_model.specs.Saved.{AreLevels};
 
 use crate::parts::Parts;
 use hash_signature_model::Set;

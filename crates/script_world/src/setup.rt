@@ -12,7 +12,7 @@ use script_participants::EnterEnd;
 use std::alloc::Global;
 
 /// The most nodes that a ring has.
-const MOST_NODES: u64 = 256;
+const MOST_NODES: u64 = ring_nodes::MOST_NODES as u64;
 /// The most owners that a key has.
 const MOST_REPLICAS: u64 = 8;
 /// Nanoseconds of a second.

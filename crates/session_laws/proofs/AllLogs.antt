@@ -19,7 +19,7 @@ use Rattle.std.specs.List.{AllByRecursion}
 use Rattle.ivy_base.specs.Naming.{NamesTellApart}
 use Rattle.log_model.specs.View.{IsView}
 use Rattle.log_model.specs.Vector.{seq_of}
-use Rattle.log_records.specs.Batches.{HasRecord}
+use Rattle.log_model.specs.Fetched.{HasRecord}
 use Rattle.causal_order.specs.AtHand.{above}
 use Rattle.agent_model.specs.Standing.{go_on_from}
 use Rattle.session_model.specs.Brought.{Brought}
@@ -56,7 +56,7 @@ fetched_is_brought met s start knew brought notes chains basis apart well is_kno
       once = λ c d w v e.
           let p = each (HasPart s start brought chains) s.view.members c.owner all_parts (chains_owned s start fetches c w) in
           one_at_most s start c.owner p.end c d (p.just c w refl) (p.just d v (sym e));
-      each = each_from (BringsOf (heads_at brought) met s.view s knew (record { started = start; chains = chains; basis = basis })) s.view.members (λ owner member.
+      each = each_from (BringsOf (record { heads = heads_at brought; met = met; standing = s; knew = knew }) s.view (record { started = start; chains = chains; basis = basis })) s.view.members (λ owner member.
           let p = each (HasPart s start brought chains) s.view.members owner all_parts member in
           log_brought met apart s start knew owner (log_known met s knew owner member is_known stand)
           (starts_in s start knew owner member from (stamp_at start (head_key_of owner)) refl)

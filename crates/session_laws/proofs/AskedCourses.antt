@@ -14,11 +14,12 @@ use Rattle.ring_model.specs.Gets.{AreAsks, AreFirsts, answered_in}
 use Rattle.ring_model.specs.Lookup.{IsLookup}
 use Rattle.ring_model.proofs.Lists.{nil_cons, none_some, some_same}
 use Rattle.dht_ids.specs.Asked.{routes, told}
-use Rattle.dhash_client.specs.Machine.{State, FollowsAfter, fresh, outcome}
-use Rattle.dhash_client.specs.Course.{Told, Asking, CourseState, HasAsked, IsCourse, IsStage, awaited_at, next_owner, told_all}
-use Rattle.dhash_client.specs.Course.IsCourse.{no_route, of_owners}
-use Rattle.dhash_client.specs.declared.miss.Miss.{Miss}
-use Rattle.dhash_client.specs.declared.miss.Miss.TheVariants as miss
+use Rattle.dhash_client.specs.Machine.{State, FollowsAfter, fresh}
+use Rattle.dhash_client.specs.Course.{Asking, CourseState, HasAsked, IsStage, awaited_at, next_owner}
+use Rattle.dhash_model.specs.declared.miss.Miss.TheVariants as miss
+use Rattle.dhash_model.specs.Course.{outcome, Told, IsCourse, told_all}
+use Rattle.dhash_model.specs.Course.IsCourse.{no_route, of_owners}
+use Rattle.dhash_model.specs.declared.miss.Miss.{Miss}
 use Rattle.dhash_client.proofs.Courses.{owner_first}
 use Rattle.session_model.specs.Asking.{AsksNext}
 use Rattle.session_laws.proofs.AskedPlans.{Plan, ended, Entries, entry, Follows, IsPlanned, IsToldBy, some_follows, told_between}

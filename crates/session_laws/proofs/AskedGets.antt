@@ -13,10 +13,11 @@ use Rattle.dht_ids.specs.declared.peer.Peer.{Peer}
 use Rattle.ring_model.specs.Members.{IsAmong}
 use Rattle.ring_model.specs.Gets.{AreAsks, Got, Right, Damaged, Missing, nodes, answered_in, given, first_giver, judged, HasBlock, EndsBlock, EndsHeads}
 use Rattle.ring_model.proofs.Lists.{nil_cons}
-use Rattle.dhash_client.specs.Course.{Told, result_of}
-use Rattle.dhash_client.specs.GetBlock.{is_of_get, block_in, EndsGet, IsEnoughBlock}
-use Rattle.dhash_client.specs.GetHead.{EndsHeadGet}
-use Rattle.dhash_client.specs.declared.miss.Miss.{Miss}
+use Rattle.dhash_model.specs.Course.{Told, result_of}
+use Rattle.dhash_model.specs.GetBlock.{is_of_get, block_in, EndsGet}
+use Rattle.dhash_model.specs.GetHead.{EndsHeadGet}
+use Rattle.dhash_model.specs.declared.miss.Miss.{Miss}
+use Rattle.dhash_client.specs.GetBlock.{IsEnoughBlock}
 use Rattle.session_model.specs.Brought.{Brought, HeadsOf, BlockOf, Want, Heads, Content}
 use Rattle.session_model.specs.Sessions.{Gets, IsGet, wanted_key}
 use Rattle.session_model.specs.Sessions.Gets.{heads as got_heads, content as got_content}

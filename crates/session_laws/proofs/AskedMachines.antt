@@ -7,11 +7,14 @@ use Rattle.dht_ids.specs.declared.ask.Heard.{Heard}
 use Rattle.dht_ids.specs.declared.peer.Peer.{Peer}
 use Rattle.ring_model.specs.Gets.{answered_in}
 use Rattle.ring_model.proofs.Lists.{none_some}
-use Rattle.dhash_client.specs.Course.{CourseState, IsCourse, IsOnCourse}
-use Rattle.dhash_client.specs.GetBlock.{is_of_get, EndsGet, IsEnoughBlock, SumsBlock, block_awaited_at}
-use Rattle.dhash_client.specs.GetHead.{EndsHeadGet}
-use Rattle.dhash_client.specs.Puts.{is_of_put, question_of, EndsPut}
-use Rattle.dhash_client.specs.declared.miss.Miss.{Miss}
+use Rattle.dhash_model.specs.Course.{IsCourse}
+use Rattle.dhash_model.specs.GetBlock.{is_of_get, EndsGet}
+use Rattle.dhash_model.specs.GetHead.{EndsHeadGet}
+use Rattle.dhash_model.specs.Puts.{is_of_put, EndsPut}
+use Rattle.dhash_model.specs.declared.miss.Miss.{Miss}
+use Rattle.dhash_client.specs.Course.{CourseState, IsOnCourse}
+use Rattle.dhash_client.specs.GetBlock.{IsEnoughBlock, SumsBlock, block_awaited_at}
+use Rattle.dhash_client.specs.Puts.{question_of}
 use Rattle.session_model.specs.Brought.{Heads, Content}
 use Rattle.session_model.specs.Sessions.{IsGet}
 use Rattle.session_model.specs.Asking.{AsksNext}

@@ -8,7 +8,7 @@ use Rattle.dht_ids.specs.declared.ask.Heard.{Heard}
 use Rattle.dht_ids.specs.declared.peer.Peer.{Peer}
 use Rattle.ring_model.specs.Gets.{AreFirsts, AreAsks, nodes}
 use Rattle.ring_model.proofs.Lists.{cons_head, cons_tail, nil_cons}
-use Rattle.dhash_client.specs.Course.{Told, told_all}
+use Rattle.dhash_model.specs.Course.{Told, told_all}
 use Rattle.session_laws.proofs.AskedPlans.{Plan, ended, asking, Entries, entry, Follows, IsToldBy, some_follows}
 
 -- where something is decided, one thing or the other

@@ -14,7 +14,7 @@ use Rattle.dht_ids.specs.declared.ask.Heard.{Heard}
 use Rattle.dht_ids.specs.declared.peer.Peer.{Peer}
 use Rattle.dht_ids.specs.Asked.{told, IsForData}
 use Rattle.ring_model.proofs.Lists.{cons_head, cons_tail, nil_cons}
-use Rattle.dhash_client.specs.Course.{Told, told_all}
+use Rattle.dhash_model.specs.Course.{Told, told_all}
 use Rattle.session_laws.specs.Laws.{NextIsNotWhole}
 use Rattle.session_model.specs.Asking.{IsBegun, AsksNext, BeginsNoOther, AsksOneNext, GoesOnAlways}
 

@@ -12,9 +12,10 @@ use Rattle.dht_ids.specs.declared.peer.Peer.{Peer}
 use Rattle.dht_ids.specs.declared.post.Post.{Post}
 use Rattle.dht_ids.specs.Asked.{IsForData}
 use Rattle.ring_model.specs.Gets.{AreAsks, nodes, answered_in, IsAcknowledged}
-use Rattle.dhash_client.specs.Course.{Told, IsCourse}
-use Rattle.dhash_client.specs.Puts.{is_of_put, holds, question_of, EndsPut}
-use Rattle.dhash_client.specs.declared.miss.Miss.{Miss}
+use Rattle.dhash_model.specs.Course.{Told, IsCourse}
+use Rattle.dhash_model.specs.Puts.{is_of_put, holds, EndsPut}
+use Rattle.dhash_model.specs.declared.miss.Miss.{Miss}
+use Rattle.dhash_client.specs.Puts.{question_of}
 use Rattle.dhash_client.specs.declared.put.PutKind.{PutKind}
 use Rattle.dhash_client.specs.declared.put.PutKind.TheVariants as put
 use Rattle.agent_model.specs.Agent.{is_head}

@@ -15,8 +15,7 @@ use Rattle.log_model.specs.Chain.{IsGood, GoesOn, IsChain, LinkedFrom}
 use Rattle.log_model.specs.Standing.{StandsAmong, Stand}
 use Rattle.log_model.proofs.Lists.{each, each_left, each_right}
 use Rattle.log_model.proofs.Part.{Numbered, numbered, numbers_below, chain_front}
-use Rattle.log_records.specs.declared.edge.Edge.{Edge}
-use Rattle.log_records.specs.Batches.{EndsAt, as_edge, GoesOnFrom, KnowsEdge, HasRecord, OldestNames, PassesFloor}
+use Rattle.log_model.specs.Fetched.{Edge, EndsAt, as_edge, GoesOnFrom, KnowsEdge, HasRecord, OldestNames, PassesFloor}
 use Rattle.log_records.proofs.Batches.{has_passed}
 use Rattle.causal_order.specs.AtHand.{above}
 use Rattle.causal_order.proofs.Starts.{above_from, above_less}
@@ -153,7 +152,7 @@ known_first : (met : List (List ℕ)) → NamesTellApart met → (view : View) (
     → (chain : List Record) → IsChain view owner chain → Stand met chain → PassesThrough fl chain → (rest : List Record) × (chain ≡ knew ++ rest)
 known_first met apart view owner None knew of_knew stand_knew ends chain of_chain stand passes = (chain, sym (ap (λ (l : List Record). l ++ chain) ends))
 known_first met apart view owner (Some f) knew of_knew stand_knew ends chain of_chain stand passes =
-    let same : passes.0 ≡ knew = one_chain met apart view owner [] f passes.0 knew (record {
+    let same : passes.0 ≡ knew = one_chain (record { blocks = met; view = view; floor = [] }) apart owner f passes.0 knew (record {
       chain_of_log = chain_front view owner passes.0 passes.1 (subst (IsChain view owner) passes.2 of_chain);
       stand = each_left (StandsAmong met) passes.0 passes.1 (subst (Stand met) passes.2 stand);
       ends = passes.3;

@@ -6,10 +6,10 @@ use Rattle.ivy_base.specs.declared.key.Key.{Key}
 use Rattle.ivy_base.specs.declared.key.PubKey.{PubKey}
 use Rattle.ivy_base.specs.Naming.{head_key_of}
 use Rattle.log_model.specs.Vector.{Stamp, Vector, seq_of, stamp_at}
-use Rattle.log_records.specs.declared.chain_fault.ChainFault.{ChainFault}
+use Rattle.log_model.specs.declared.chain_fault.ChainFault.{ChainFault}
 use Rattle.snapshot_model.specs.Reading.{Part}
 use Rattle.dht_ids.specs.declared.judge.Judged.{Judged}
-use Rattle.dhash_client.specs.declared.miss.Miss.{Miss}
+use Rattle.dhash_model.specs.declared.miss.Miss.{Miss}
 use Rattle.agent_model.specs.Standing.{Chain, Refresh, Standing, edge_at}
 use Rattle.session_model.specs.Brought.{Brought, HeadsOf, BlockOf, Want, Heads, Content, stamp_of}
 use Rattle.session_model.specs.Walks.{Gives, GivesNone, Lacks, LogEnd, Stops, Tries}

@@ -10,10 +10,9 @@ use Rattle.log_model.specs.Rank.{own_entry, full_vector}
 use Rattle.log_model.specs.Spelling.{HasSpelling}
 use Rattle.log_model.specs.Chain.{IsGood, GoesOn}
 use Rattle.log_model.proofs.Lists.{here, there, in_cons, in_nothing}
-use Rattle.log_records.specs.declared.edge.Edge.{Edge}
-use Rattle.log_records.specs.declared.chain_fault.ChainFault.{ChainFault}
-use Rattle.log_records.specs.declared.chain_fault.ChainFault.TheVariants.{Bad, Fork, Memory}
-use Rattle.log_records.specs.Batches.{ChainFails, EndsAt, GoesOnFrom, HasRecord, IsOnward, IsSound, KnowsEdge, MayBeNext, OldestNames, PassesFloor, stamp_in}
+use Rattle.log_model.specs.Fetched.{Edge, ChainFails, EndsAt, GoesOnFrom, HasRecord, IsOnward, IsSound, KnowsEdge, MayBeNext, OldestNames, PassesFloor, stamp_in}
+use Rattle.log_model.specs.declared.chain_fault.ChainFault.{ChainFault}
+use Rattle.log_model.specs.declared.chain_fault.ChainFault.TheVariants.{Bad, Fork, Memory}
 use Rattle.turn_laws.proofs.ChainRules.{made_known, named_known, first_known, further_known, follows_known, stamp_known}
 use Rattle.turn_laws.proofs.RecordReading.{Known, both_known, if_known, key_known, number_known, at_most_known}
 use Rattle.turn_laws.proofs.SomeCandidate.{owner_known}

@@ -5,9 +5,9 @@ use Rattle.ivy_base.specs.declared.key.PubKey.{PubKey}
 use Rattle.log_model.specs.View.{View}
 use Rattle.log_model.specs.Vector.{Stamp, Vector}
 use Rattle.log_model.specs.Record.{Record}
-use Rattle.log_records.specs.declared.edge.Edge.{Edge}
-use Rattle.log_records.specs.declared.chain_fault.ChainFault.{ChainFault}
-use Rattle.dhash_client.specs.declared.miss.Miss.{Miss}
+use Rattle.log_model.specs.Fetched.{Edge}
+use Rattle.log_model.specs.declared.chain_fault.ChainFault.{ChainFault}
+use Rattle.dhash_model.specs.declared.miss.Miss.{Miss}
 use Rattle.agent_model.specs.Standing.{Chain, Refresh, Standing}
 use Rattle.session_model.specs.Brought.{Brought, HeadsOf, BlockOf}
 use Rattle.session_model.specs.Walks.{Gives, GivesNone, Lacks, LogEnd, Misses, Stops, Tries, WalkEnd, Walks}

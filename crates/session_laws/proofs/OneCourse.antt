@@ -9,14 +9,13 @@ use Rattle.log_model.specs.Vector.{Stamp, Vector, seq_of, stamp_at}
 use Rattle.log_model.specs.Record.{Record}
 use Rattle.log_model.specs.Spelling.{IsRecordOf}
 use Rattle.log_model.proofs.Lists.{each, here, there, in_cons, in_nothing}
-use Rattle.log_records.specs.Batches.{ChainFails, IsOnward, IsSound}
-use Rattle.log_records.specs.declared.edge.Edge.{Edge}
-use Rattle.log_records.specs.declared.chain_fault.ChainFault.{ChainFault}
-use Rattle.log_records.specs.declared.chain_fault.ChainFault.TheVariants.{Bad, Fork, Memory}
+use Rattle.log_model.specs.Fetched.{ChainFails, IsOnward, IsSound, Edge}
+use Rattle.log_model.specs.declared.chain_fault.ChainFault.{ChainFault}
+use Rattle.log_model.specs.declared.chain_fault.ChainFault.TheVariants.{Bad, Fork, Memory}
 use Rattle.log_records.proofs.OneRecord.{one_record}
 use Rattle.turn_model.specs.Candidates.{IsTriedBefore}
 use Rattle.dht_ids.specs.declared.judge.Judged.{Judged}
-use Rattle.dhash_client.specs.declared.miss.Miss.{Miss}
+use Rattle.dhash_model.specs.declared.miss.Miss.{Miss}
 use Rattle.agent_model.specs.Standing.{Standing, edge_at}
 use Rattle.session_model.specs.Brought.{Brought, BlockOf, Content, HeadsOf, stamp_of}
 use Rattle.session_model.specs.Walks.{AreTried, Came, Garbled, Gives, GivesNone, InTryingOrder, Lacks, LogEnd, Misses, Stops, Tries, WalkEnd, Walks, Wants}

@@ -19,10 +19,10 @@ use Rattle.log_model.specs.Chain.{IsChain, LinkedFrom}
 use Rattle.log_model.specs.Standing.{StandsAmong, Stand}
 use Rattle.log_model.proofs.Lists.{both, there, each, each_append, each_left, each_right}
 use Rattle.log_model.proofs.Part.{far_dominates, dominates_far, Numbered, chain_front, numbered, numbers_below}
-use Rattle.log_records.specs.declared.edge.Edge.{Edge}
-use Rattle.log_records.specs.declared.chain_fault.ChainFault.{ChainFault}
-use Rattle.log_records.specs.declared.chain_fault.ChainFault.TheVariants.{Bad, Fork, Memory}
-use Rattle.log_records.specs.Batches.{owner_of, stamp_in, as_edge, EndsAt, GoesOnFrom, IsOnward, IsSound, ChainFails, OldestNames, PassesFloor, name_or_none}
+use Rattle.log_model.specs.Fetched.{Edge, owner_of, stamp_in, as_edge, EndsAt, GoesOnFrom, IsOnward, IsSound, ChainFails, OldestNames, PassesFloor}
+use Rattle.log_model.specs.declared.chain_fault.ChainFault.{ChainFault}
+use Rattle.log_model.specs.declared.chain_fault.ChainFault.TheVariants.{Bad, Fork, Memory}
+use Rattle.log_records.specs.Batches.{name_or_none}
 use Rattle.log_records.proofs.Batches.{linked, extends, chains_begin, chains_go_on, passes_through}
 use Rattle.causal_order.specs.AtHand.{above}
 use Rattle.causal_order.proofs.Starts.{above_from}
@@ -30,7 +30,7 @@ use Rattle.agent_model.specs.Standing.{go_on_from}
 use Rattle.tree_model.specs.Tree.{same_key}
 use Rattle.tree_model.proofs.Keys.{same_key_itself}
 use Rattle.turn_model.specs.Known as known
-use Rattle.turn_model.specs.Candidates.{PassesThrough, MakeChain, IsPassedOver}
+use Rattle.turn_model.specs.Candidates.{PassesThrough, MakeChain, IsPassedOver, Reading}
 use Rattle.agent_model.specs.Candidates.{AreTaken}
 use Rattle.session_model.specs.Brought.{Brought}
 use Rattle.session_model.specs.Walks.{Walks, Came, Garbled}
@@ -127,6 +127,9 @@ module _ (met : List (List ℕ)) (apart : NamesTellApart met) (view : View) (own
   abbrev held : Option Stamp
   held = stamp_at start (head_key_of owner)
 
+  abbrev read : Reading
+  read = record { blocks = met; view = view; floor = floor }
+
   sound_of : (edge : Option Edge) (head : Stamp) (prev : Key) (high : List Record) → LinkedFrom owner (reach held + 1) prev high → EndsAt head high → GoesOnFrom view held edge high → IsSound view start edge head high
   sound_of edge head prev high linked_high ends goes =
       let mine : owner ≡ owner_of high = sym (linked_owner owner (reach held + 1) prev high head linked_high ends) in
@@ -153,19 +156,19 @@ module _ (met : List (List ℕ)) (apart : NamesTellApart met) (view : View) (own
   pub refused_garbled : (edge : Option Edge) (head : Stamp) {brought : List Brought} {records : List Record} → Walks owner (head.seq - reach held) head.name brought records Garbled → AreMet met brought → IsRefused edge head
   refused_garbled edge head walk are = λ prev high linked_high stand ends sound onward. is_read met apart owner (reach held) prev high head linked_high stand ends are walk
 
-  of_chain : (edge : Option Edge) (head : Stamp) (chain : List Record) → StartsIn held edge knew → reach held < head.seq → MakeChain met view owner floor head chain
+  of_chain : (edge : Option Edge) (head : Stamp) (chain : List Record) → StartsIn held edge knew → reach held < head.seq → MakeChain read owner head chain
       → IsAbove met apart view owner held (stamp_at floor (head_key_of owner)) knew k edge head chain
   of_chain edge head chain from far makes =
       above_held met apart view owner held (stamp_at floor (head_key_of owner)) knew k edge head chain from makes.chain_of_log makes.stand makes.ends makes.passes far
 
   -- so there is no chain to it
-  pub passed_over : (edge : Option Edge) (head : Stamp) → StartsIn held edge knew → reach held < head.seq → IsRefused edge head → IsPassedOver met view owner floor head
+  pub passed_over : (edge : Option Edge) (head : Stamp) → StartsIn held edge knew → reach held < head.seq → IsRefused edge head → IsPassedOver read owner head
   passed_over edge head from far refused = λ chain makes.
       let a = of_chain edge head chain from far makes in
       refused a.prev a.high a.linked a.stand a.ends (sound_of edge head a.prev a.high a.linked a.ends a.goes_on) (onward_of head a.prev a.high a.linked a.ends a.names a.passes)
 
   -- and where nothing is known of the held record, none are taken
-  pub not_taken : (head : Stamp) (records : List Record) → IsRefused None head → AreTaken met view owner start floor head records → ⊥
+  pub not_taken : (head : Stamp) (records : List Record) → IsRefused None head → AreTaken read owner start head records → ⊥
   not_taken head records refused taken =
       let mine : owner_of records ≡ owner = owned_owner owner records head taken.owned taken.sound.ends in
       refused (name_or_none held) records
@@ -194,14 +197,14 @@ module _ (met : List (List ℕ)) (apart : NamesTellApart met) (view : View) (own
   }
 
   -- of a chain to the head they are what is above
-  pub given_above : (edge : Option Edge) (head : Stamp) (records chain : List Record) → StartsIn held edge knew → reach held < head.seq → IsGiven edge head records → MakeChain met view owner floor head chain
+  pub given_above : (edge : Option Edge) (head : Stamp) (records chain : List Record) → StartsIn held edge knew → reach held < head.seq → IsGiven edge head records → MakeChain read owner head chain
       → records ≡ above (reach held) chain
   given_above edge head records chain from far given makes =
       let a = of_chain edge head chain from far makes in
       given.only a.prev a.high a.linked a.stand a.ends ∙ sym a.is
 
   abbrev HasChain : Stamp → Type 0
-  HasChain head = (chain : List Record) × MakeChain met view owner floor head chain
+  HasChain head = (chain : List Record) × MakeChain read owner head chain
 
   module _ (edge : Option Edge) (head : Stamp) (records : List Record) (given : IsGiven edge head records) where
     mine : owner_of records ≡ owner
@@ -259,7 +262,7 @@ module _ (met : List (List ℕ)) (apart : NamesTellApart met) (view : View) (own
 
     -- nothing is known of the held record, and there is no chain to the head
     abbrev pub Misleads : Type 0
-    Misleads = (t : Stamp) × (held ≡ Some t) × (edge ≡ None) × IsPassedOver met view owner floor head
+    Misleads = (t : Stamp) × (held ≡ Some t) × (edge ≡ None) × IsPassedOver read owner head
 
     ends_in : (h : Option Stamp) → held ≡ h → (e : Option Edge) → edge ≡ e → StartsIn h e knew → reach held < head.seq → HasChain head ⊎ Misleads
     ends_in None is e at from far = inl (chain_begins is)

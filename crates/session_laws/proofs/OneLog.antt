@@ -15,15 +15,14 @@ use Rattle.log_model.specs.Vector.{Stamp, Vector, stamp_at, seq_of}
 use Rattle.log_model.specs.Record.{Record}
 use Rattle.log_model.specs.Closed.{log_of}
 use Rattle.log_model.proofs.Lists.{here, there, in_cons, each, each_left}
-use Rattle.log_records.specs.declared.edge.Edge.{Edge}
-use Rattle.log_records.specs.declared.chain_fault.ChainFault.{ChainFault}
-use Rattle.log_records.specs.Batches.{IsSound, HasRecord, PassesFloor}
+use Rattle.log_model.specs.Fetched.{Edge, IsSound, HasRecord, PassesFloor}
+use Rattle.log_model.specs.declared.chain_fault.ChainFault.{ChainFault}
 use Rattle.causal_order.specs.AtHand.{above}
 use Rattle.turn_model.specs.Basis.{Basis}
 use Rattle.turn_model.specs.Known as known
-use Rattle.turn_model.specs.Candidates.{IsTriedBefore, PassesThrough, MakeChain, IsPassedOver, IsTried, own_log, newest, as_known}
+use Rattle.turn_model.specs.Candidates.{IsTriedBefore, PassesThrough, MakeChain, IsPassedOver, IsTried, Reading, own_log, newest, as_known}
 use Rattle.agent_model.specs.Standing.{Standing, Chain, edge_at, go_on_from}
-use Rattle.agent_model.specs.Candidates.{AreTaken, IsMisled, IsCandidateOf, by_heads, BringsOf, candidate, misleading, nothing, records_above}
+use Rattle.agent_model.specs.Candidates.{AreTaken, Grounds, IsMisled, IsCandidateOf, by_heads, BringsOf, candidate, misleading, nothing, records_above}
 use Rattle.dht_ids.specs.declared.judge.Judged.{Judged}
 use Rattle.session_model.specs.Brought.{Brought, HeadsOf, stamp_of}
 use Rattle.session_model.specs.Walks.{InTryingOrder, Tries, LogEnd, Lacks, Stops, Gives, GivesNone}
@@ -98,6 +97,9 @@ module _ (met : List (List ℕ)) (apart : NamesTellApart met) (s : Standing) (st
   abbrev edge : Option Edge
   edge = edge_at s (head_key_of owner)
 
+  abbrev read : Reading
+  read = record { blocks = met; view = s.view; floor = s.floor }
+
   abbrev own_knew : List Record
   own_knew = log_of owner knew
 
@@ -140,18 +142,18 @@ module _ (met : List (List ℕ)) (apart : NamesTellApart met) (s : Standing) (st
   low : start_seq ≤ floor_seq
   low = starts_below s.view owner (stamp_at start log) (stamp_at s.floor log) edge own_knew k.chain k.ends from
 
-  over : (t : Stamp) → floor_seq < t.seq → Refused t → IsPassedOver met s.view owner s.floor t
+  over : (t : Stamp) → floor_seq < t.seq → Refused t → IsPassedOver read owner t
   over t far refused =
       let le = low in
       passed_over met apart s.view owner start s.floor own_knew k edge t from (omega (arith, le, far)) refused
 
-  none_taken : (t : Stamp) (records : List Record) → edge ≡ None → Refused t → AreTaken met s.view owner start s.floor t records → ⊥
+  none_taken : (t : Stamp) (records : List Record) → edge ≡ None → Refused t → AreTaken read owner start t records → ⊥
   none_taken t records no_edge refused taken =
       not_taken met apart s.view owner start s.floor own_knew k t records
       (subst (λ (e : Option Edge). IsRefused met apart s.view owner start s.floor own_knew k e t) no_edge refused) taken
 
   -- what is known is the chain to the floor's record
-  own_makes : (t : Stamp) → stamp_at s.floor log ≡ Some t → MakeChain met s.view owner s.floor t own_knew
+  own_makes : (t : Stamp) → stamp_at s.floor log ≡ Some t → MakeChain read owner t own_knew
   own_makes t is =
       let ends : known.EndsAt (Some t) own_knew = subst (λ (o : Option Stamp). known.EndsAt o own_knew) is k.ends in
       record {
@@ -205,12 +207,15 @@ module _ (met : List (List ℕ)) (apart : NamesTellApart met) (s : Standing) (st
   floor_brought (of_own brought faults end mine tries) through are t is far = floor_result t is far (floors_own (stamp_at s.floor log) start_seq) (own_listed t is far) end through (results tries are)
 
   module _ (heads : Key → List Stamp) where
-    own_candidate : owner ≡ s.own → IsCandidateOf heads met s.view s knew start owner own_knew
+    abbrev grounds : Grounds
+    grounds = record { heads = heads; met = met; standing = s; knew = knew }
+
+    own_candidate : owner ≡ s.own → IsCandidateOf grounds s.view start owner own_knew
     own_candidate mine = by_heads own_knew (λ records m. m.of_other mine) (own_log mine)
 
     module _ (other : owner ≡ s.own → ⊥) (tried : List Stamp) (are_tried : (t : Stamp) → Contains tried t ↔ IsTried heads s.floor log t) (order : InTryingOrder tried) where
       -- where all were passed over, it is what is known
-      known_candidate : AllByRecursion Refused tried → IsCandidateOf heads met s.view s knew start owner own_knew
+      known_candidate : AllByRecursion Refused tried → IsCandidateOf grounds s.view start owner own_knew
       known_candidate refused = by_heads own_knew
           (λ records m. none_taken m.head records m.no_edge (each Refused tried m.head refused ((are_tried m.head).1 m.tried)) m.taken)
           (as_known other (λ t is. over t is.1 (each Refused tried t refused ((are_tried t).1 is))))
@@ -240,7 +245,7 @@ module _ (met : List (List ℕ)) (apart : NamesTellApart met) (s : Standing) (st
           | inr (inr behind) ↦ absurd (not_both_before t head before behind)
         ]
 
-        taken : edge ≡ None → AreTaken met s.view owner start s.floor head records
+        taken : edge ≡ None → AreTaken read owner start head records
         taken no_edge = record {
           owned = given.owned;
           sound = subst (λ (e : Option Edge). IsSound s.view start e head records) no_edge given.sound;
@@ -251,15 +256,15 @@ module _ (met : List (List ℕ)) (apart : NamesTellApart met) (s : Standing) (st
         far : start_seq < head.seq
         far = let le = low in let more = is_tried.1 in omega (arith, le, more)
 
-        not_misled : (chain : List Record) → MakeChain met s.view owner s.floor head chain → (others : List Record) → IsMisled heads met s.view s start owner others → ⊥
+        not_misled : (chain : List Record) → MakeChain read owner head chain → (others : List Record) → IsMisled grounds s.view start owner others → ⊥
         not_misled chain makes others m = elim (cases m.head m.tried) [
           | inl r ↦ none_taken m.head others m.no_edge r m.taken
-          | inr (inl same) ↦ m.no_chain chain (subst (λ (t : Stamp). MakeChain met s.view owner s.floor t chain) same makes)
+          | inr (inl same) ↦ m.no_chain chain (subst (λ (t : Stamp). MakeChain read owner t chain) same makes)
           | inr (inr behind) ↦ m.first head is_tried behind records (taken m.no_edge)
         ]
 
         abbrev Newest : Type 0
-        Newest = ((chain : List Record) × IsCandidateOf heads met s.view s knew start owner chain × (records ≡ records_above start owner chain)) ⊎ IsMisled heads met s.view s start owner records
+        Newest = ((chain : List Record) × IsCandidateOf grounds s.view start owner chain × (records ≡ records_above start owner chain)) ⊎ IsMisled grounds s.view start owner records
 
         new_candidate : Newest
         new_candidate = elim (head_ends met apart s.view owner start s.floor own_knew k edge head records given from far) [
@@ -285,7 +290,7 @@ module _ (met : List (List ℕ)) (apart : NamesTellApart met) (s : Standing) (st
 
     module _ (chains : List Chain) (basis : Option Basis) where
       abbrev IsBroughtSo : Type 0
-      IsBroughtSo = BringsOf heads met s.view s knew (record { started = start; chains = chains; basis = basis }) owner
+      IsBroughtSo = BringsOf grounds s.view (record { started = start; chains = chains; basis = basis }) owner
 
       -- the refresh has just those records of it
       abbrev pub HasJust : LogEnd → Type 0
@@ -294,10 +299,10 @@ module _ (met : List (List ℕ)) (apart : NamesTellApart met) (s : Standing) (st
       abbrev chain_of : List Record → Chain
       chain_of records = record { owner = owner; records = records }
 
-      given_brought : (records : List Record) → HasJust (Gives records) → (chain : List Record) → IsCandidateOf heads met s.view s knew start owner chain → records ≡ records_above start owner chain → IsBroughtSo
+      given_brought : (records : List Record) → HasJust (Gives records) → (chain : List Record) → IsCandidateOf grounds s.view start owner chain → records ≡ records_above start owner chain → IsBroughtSo
       given_brought records just chain is same = candidate (chain_of records) chain (just.0 (chain_of records) (here (chain_of records) [])) refl is same
 
-      nothing_brought : HasJust GivesNone → IsCandidateOf heads met s.view s knew start owner own_knew → IsBroughtSo
+      nothing_brought : HasJust GivesNone → IsCandidateOf grounds s.view start owner own_knew → IsBroughtSo
       nothing_brought just is = nothing (λ c within mine. let none = (just.1 c within mine).1 in omega (arith, none)) is
 
       own_brought : (mine : owner ≡ s.own) (end : LogEnd) → end_of_log end ≡ None → Results (floors_own (stamp_at s.floor log) start_seq) end → HasJust end → IsBroughtSo

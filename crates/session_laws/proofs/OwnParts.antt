@@ -15,9 +15,9 @@ use Rattle.log_model.specs.Record.{Record}
 use Rattle.log_model.proofs.Lists.{here, there, in_cons, in_nothing, each, each_from, passes, in_filter, from_filter}
 use Rattle.causal_order.proofs.Meeting.{to_map, from_map}
 use Rattle.dht_ids.specs.declared.judge.Judged.{Judged}
-use Rattle.dhash_client.specs.declared.miss.Miss.{Miss}
-use Rattle.log_records.specs.declared.edge.Edge.{Edge}
-use Rattle.log_records.specs.declared.chain_fault.ChainFault.{ChainFault}
+use Rattle.dhash_model.specs.declared.miss.Miss.{Miss}
+use Rattle.log_model.specs.Fetched.{Edge}
+use Rattle.log_model.specs.declared.chain_fault.ChainFault.{ChainFault}
 use Rattle.agent_model.specs.Standing.{Standing, Chain}
 use Rattle.session_model.specs.Brought.{Brought, HeadsOf, BlockOf, stamp_of, heads_of, all_heads, heads_at}
 use Rattle.session_model.specs.Walks.{Walks, WalkEnd, Tries, LogEnd, Lacks, Stops, Gives, GivesNone}

@@ -12,7 +12,7 @@ use Rattle.log_model.specs.Spelling.{HasSpelling, IsRecordOf}
 use Rattle.log_model.specs.Chain.{LinkedFrom}
 use Rattle.log_model.specs.Standing.{StandsAmong, Stand}
 use Rattle.log_model.proofs.Lists.{here, there, each_append}
-use Rattle.log_records.specs.Batches.{EndsAt, owner_of}
+use Rattle.log_model.specs.Fetched.{EndsAt, owner_of}
 use Rattle.log_records.proofs.OneRecord.{one_record, block_among}
 use Rattle.session_model.specs.Brought.{Brought, BlockOf}
 use Rattle.session_model.specs.Walks.{Walks, WalkEnd, Came, Garbled}

@@ -43,7 +43,7 @@ same_heads blocks brought none = λ i log. map (λ e. e.1) (filter (λ e. same_k
 pub refreshed_is_brought : RefreshedIsBrought
 refreshed_is_brought met s knew _ notes _ apart well known stand from are (fetching {loaded = blocks} {brought = brought} {chains = chains} basis loads fetches) =
     let given : Refresh = record { started = start_of s (counting s.floor basis); chains = chains; basis = counting s.floor basis } in
-    subst (λ (heads : Key → List Stamp). Brings heads met s.view s knew given) (sym (same_heads blocks brought (no_heads loads)))
+    subst (λ (heads : Key → List Stamp). Brings (record { heads = heads; met = met; standing = s; knew = knew }) s.view given) (sym (same_heads blocks brought (no_heads loads)))
     (fetched_is_brought met s (start_of s (counting s.floor basis)) knew brought notes chains (counting s.floor basis) apart well known stand from
     (λ key bytes c. are key bytes (Contains-append_right blocks brought (BlockOf key (Ok bytes)) c)) fetches)
 

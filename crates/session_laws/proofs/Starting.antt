@@ -27,8 +27,7 @@ use Rattle.log_model.proofs.Part.{found_stamp}
 use Rattle.log_model.proofs.Weights.{Sorted, sorted_front}
 use Rattle.turn_laws.proofs.Heads.{one_member, member_is}
 use Rattle.turn_laws.proofs.Starts.{Stands, front_stands, ends_with, own_stamp, good_last}
-use Rattle.log_records.specs.declared.edge.Edge.{Edge}
-use Rattle.log_records.specs.Batches.{as_edge}
+use Rattle.log_model.specs.Fetched.{Edge, as_edge}
 use Rattle.turn_model.specs.Basis.{Basis, Holding, HoldsAll, Knows}
 use Rattle.agent_model.specs.Agent.{joined}
 use Rattle.agent_model.specs.Standing.{Standing, dominates, edges_of}

@@ -9,7 +9,7 @@ use Rattle.log_model.specs.Vector.{Stamp, Vector, stamp_at, seq_of}
 use Rattle.log_model.specs.Record.{Record}
 use Rattle.log_model.specs.Rank.{own_entry}
 use Rattle.log_model.specs.Standing.{Stand}
-use Rattle.log_records.specs.Batches.{as_edge, HasRecord}
+use Rattle.log_model.specs.Fetched.{as_edge, HasRecord}
 use Rattle.turn_model.specs.Basis.{Basis, Holding}
 use Rattle.turn_model.specs.Known.{IsKnown}
 use Rattle.agent_model.specs.Agent.{joined}
@@ -35,7 +35,7 @@ abbrev pub FetchedIsBrought : Type 0
 FetchedIsBrought = (met : List (List ℕ)) (s : Standing) (start : Vector) (knew : List Record) (brought : List Brought) (notes : List Note) (chains : List Chain) (basis : Option Basis)
     → NamesTellApart met → IsView s.view → IsKnown s.view s.floor knew → Stand met knew → StartsFrom s start knew → AreMet met brought
     → FetchesAll (record { standing = s; start = start }) s.view.members brought notes chains Done
-    → Brings (heads_at brought) met s.view s knew (record { started = start; chains = chains; basis = basis })
+    → Brings (record { heads = heads_at brought; met = met; standing = s; knew = knew }) s.view (record { started = start; chains = chains; basis = basis })
 
 -- Where the floor goes further than what the refresh started from, the floor's record was brought.
 abbrev pub FloorIsBrought : Type 0
@@ -51,7 +51,7 @@ FloorIsBrought = (met : List (List ℕ)) (s : Standing) (start : Vector) (knew :
 abbrev pub RefreshedIsBrought : Type 0
 RefreshedIsBrought = (met : List (List ℕ)) (s : Standing) (knew : List Record) (brought : List Brought) (notes : List Note) (given : Refresh)
     → NamesTellApart met → IsView s.view → IsKnown s.view s.floor knew → Stand met knew → StartsFrom s given.started knew → AreMet met brought
-    → Refreshes s brought notes given Done → Brings (heads_at brought) met s.view s knew given
+    → Refreshes s brought notes given Done → Brings (record { heads = heads_at brought; met = met; standing = s; knew = knew }) s.view given
 
 -- And the floor's record, where that goes further than what it started from.
 abbrev pub FloorIsReached : Type 0

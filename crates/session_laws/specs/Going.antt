@@ -1,6 +1,6 @@
 -- A refresh goes on, whatever comes of what it wants.
 use Rattle.std.specs.Prelude.{◌≡◌, ◌⊎◌, ℕ, List, [], ◌∷◌, ◌++◌, Err, IfSome}
-use Rattle.dhash_client.specs.declared.miss.Miss.{Miss}
+use Rattle.dhash_model.specs.declared.miss.Miss.{Miss}
 use Rattle.turn_model.specs.Basis.{Basis}
 use Rattle.snapshot_model.specs.Reading.{AreOf, Names, Part}
 use Rattle.ivy_base.specs.declared.key.Key.{Key}

@@ -9,11 +9,13 @@ use Rattle.dht_ids.specs.declared.ask.Heard.{Heard}
 use Rattle.dht_ids.specs.declared.judge.Judged.{Judged}
 use Rattle.dht_ids.specs.declared.peer.Peer.{Peer}
 use Rattle.dht_ids.specs.declared.post.Post.{Post}
-use Rattle.dhash_client.specs.declared.miss.Miss.{Miss}
+use Rattle.dhash_model.specs.declared.miss.Miss.{Miss}
+use Rattle.dhash_model.specs.GetBlock.{IsGetOfBlock}
+use Rattle.dhash_model.specs.GetHead.{IsGetOfHead}
 use Rattle.dhash_client.specs.declared.put.PutKind.{PutKind}
 use Rattle.dhash_client.specs.declared.put.PutKind.TheVariants as put
-use Rattle.dhash_client.specs.GetBlock.{IsGetOfBlock, BlockState, BlockIsAfter, block_awaited}
-use Rattle.dhash_client.specs.GetHead.{IsGetOfHead, Judges, HeadState, HeadIsAfter, head_awaited}
+use Rattle.dhash_client.specs.GetBlock.{BlockState, BlockIsAfter, block_awaited}
+use Rattle.dhash_client.specs.GetHead.{Judges, HeadState, HeadIsAfter, head_awaited}
 use Rattle.dhash_client.specs.Puts.{IsPutOf, PutState, PutIsAfter, put_awaited, question_of}
 use Rattle.agent_model.specs.Agent.{is_head}
 use Rattle.session_model.specs.Brought.{Want, Heads, Content}

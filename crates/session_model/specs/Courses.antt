@@ -6,10 +6,11 @@ use Rattle.turn_model.specs.Turn.{Asked, Turned}
 use Rattle.dht_ids.specs.declared.peer.Peer.{Peer}
 use Rattle.dht_ids.specs.declared.post.Ack.{Ack}
 use Rattle.dht_ids.specs.declared.post.Post.{Post}
-use Rattle.dhash_client.specs.declared.miss.Miss.{Miss}
+use Rattle.dhash_model.specs.declared.miss.Miss.{Miss}
 use Rattle.log_model.specs.Signing.{Signing}
 use Rattle.agent_model.specs.Agent.{Agent, Kept}
 use Rattle.agent_model.specs.Standing.{Standing, Refresh, anew_in}
+use Rattle.agent_model.specs.Candidates.{Grounds}
 use Rattle.agent_model.specs.Turning.{Turning, Turns, TurnEnd, Behind, BelowTide, Answered, IsTurnBy}
 use Rattle.agent_model.specs.Others.{settled}
 use Rattle.session_model.specs.Brought.{brought_in, heads_at}
@@ -88,6 +89,10 @@ pub data TakesTurn {S : Type 0} (signs : Signing S) (turning : Turning S) (s : S
       → Turns signs given turning asked end after saving → IsRefusal end → 2 ≤ s.starts
       → TakesTurn signs turning s end after saving (ended s (said_no_memory xid) notes None)
 
+-- What the candidates of its turn are told by, among the blocks met, where its agent knew these records when it (last) began.
+abbrev pub grounds_of : List (List ℕ) → Session → List Record → Grounds
+grounds_of met s knew = record { heads = heads_at (brought_in s.parts); met = met; standing = s.standing; knew = knew }
+
 -- The turn of the session by the definition, among the blocks met, of an agent that knows these records now and knew those when the
 -- session (last) began.
 pub record IsTurnIn {S : Type 0} (signs : Signing S) (met : List (List ℕ)) (turning : Turning S) (s : Session) (knew known : List Record)
@@ -99,9 +104,7 @@ pub record IsTurnIn {S : Type 0} (signs : Signing S) (met : List (List ℕ)) (tu
   pub given : Refresh
   pub refreshed : HasRefreshed s notes given
   pub taken : List Record
-  pub is_turn : IsTurnBy signs
-      (record { heads = heads_at (brought_in s.parts); met = met; standing = s.standing; knew = knew; started = given.started })
-      turning known asked taken turned
+  pub is_turn : IsTurnBy signs (record { grounds = grounds_of met s knew; started = given.started }) turning known asked taken turned
 
 -- Where memory is wanting while a session refreshes, it is over: it has no turn and puts nothing, and may leave out notes.
 pub data LacksMemory (s : Session) : Session → Type 0 where

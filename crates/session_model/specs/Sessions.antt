@@ -6,7 +6,12 @@ use Rattle.ivy_base.specs.declared.key.Key.{Key}
 use Rattle.ivy_base.specs.declared.key.PubKey.{PubKey}
 use Rattle.ivy_base.specs.Naming.{name, head_key_of}
 use Rattle.tree_model.specs.Tree.{same_key}
-use Rattle.block_cache.specs.Blocks.{block_of, kept, moved_to_front}
+use Rattle.dhash_model.specs.Cache.{block_of, kept, moved_to_front}
+use Rattle.dhash_model.specs.declared.miss.Miss.{Miss}
+use Rattle.dhash_model.specs.GetBlock.{IsGetOfBlock}
+use Rattle.dhash_model.specs.GetHead.{IsGetOfHead}
+use Rattle.dhash_model.specs.Course.{IsCourse}
+use Rattle.dhash_model.specs.Puts.{EndsPut}
 use Rattle.dht_ids.specs.declared.ask.Answer.{Answer}
 use Rattle.dht_ids.specs.declared.ask.Ask.{Ask}
 use Rattle.dht_ids.specs.declared.ask.Ask.TheVariants as ask
@@ -18,11 +23,6 @@ use Rattle.dht_ids.specs.declared.post.Post.{Post}
 use Rattle.dht_ids.specs.declared.post.PostKind.{PostKind}
 use Rattle.dht_ids.specs.declared.post.PostKind.TheVariants as kind
 use Rattle.dht_ids.specs.Asked.{told}
-use Rattle.dhash_client.specs.declared.miss.Miss.{Miss}
-use Rattle.dhash_client.specs.GetBlock.{IsGetOfBlock}
-use Rattle.dhash_client.specs.GetHead.{IsGetOfHead}
-use Rattle.dhash_client.specs.Course.{IsCourse}
-use Rattle.dhash_client.specs.Puts.{EndsPut}
 use Rattle.agent_model.specs.Agent.{is_head}
 use Rattle.agent_model.specs.Others.{is_block}
 use Rattle.agent_model.specs.Standing.{Standing, Refresh}

@@ -8,12 +8,11 @@ use Rattle.log_model.specs.View.{View}
 use Rattle.log_model.specs.Vector.{Stamp, Vector, seq_of}
 use Rattle.log_model.specs.Record.{Record}
 use Rattle.log_model.specs.Spelling.{IsRecordOf}
-use Rattle.log_records.specs.Batches.{ChainFails, IsOnward, IsSound}
-use Rattle.log_records.specs.declared.edge.Edge.{Edge}
-use Rattle.log_records.specs.declared.chain_fault.ChainFault.{ChainFault}
-use Rattle.log_records.specs.declared.chain_fault.ChainFault.TheVariants.{Bad, Memory}
+use Rattle.log_model.specs.Fetched.{ChainFails, IsOnward, IsSound, Edge}
+use Rattle.log_model.specs.declared.chain_fault.ChainFault.{ChainFault}
+use Rattle.log_model.specs.declared.chain_fault.ChainFault.TheVariants.{Bad, Memory}
 use Rattle.turn_model.specs.Candidates.{IsTriedBefore}
-use Rattle.dhash_client.specs.declared.miss.Miss.{Miss}
+use Rattle.dhash_model.specs.declared.miss.Miss.{Miss}
 use Rattle.session_model.specs.Brought.{Brought, BlockOf, Want, Content}
 
 -- ---- back by names
@@ -68,7 +67,7 @@ WalksFrom trial t brought records end =
     Walks trial.owner (t.seq - seq_of trial.start (head_key_of trial.owner)) t.name brought records end
 
 -- The heads tried in order: what was brought, why the heads before were passed over, and how the fetch stands. Records are taken where
--- they are sound and onward, by `log_records`.
+-- they are sound and onward, by `log_model`.
 pub data Tries (trial : Trial) : List Stamp → List Brought → List ChainFault → LogEnd → Type 0 where
   none : Tries trial [] [] [] GivesNone
   wants : {t : Stamp} {ts : List Stamp} {brought : List Brought} {records : List Record} {key : Key}

@@ -1,7 +1,7 @@
 //! What a session is: which blocks its refresh wants and which nodes it asks, what it makes of its turn, what
 //! it publishes, and what it replies.
 //!
-//! Layer: definitions and no code, over `agent_model` and the gets and puts of `dhash_client`; below the
+//! Layer: definitions and no code, over `agent_model` and the gets and puts of `dhash_model`; below the
 //! world.
 //!
 //! Definitions, in reading order:

@@ -1,7 +1,7 @@
 -- An ask of a session in code, with its fate and its hearing, is a step of the scene.
 use Rattle.std.proofs.Common.{◌≡◌, ◌⊎◌, ⊎_elim, ℕ, Bool, true, false, List, ◌∷◌, map, Option, Some, Result, Ok, refl, sym, ap, ◌∙◌, subst}
 use Rattle.ivy_base.specs.declared.memory.Memory.{Memory}
-use Rattle.log_heads.specs.Signed.{hss_judged}
+use Rattle.dhash_model.specs.Signed.{hss_judged}
 use Rattle.ring_model.specs.Members.{IsAmong}
 use Rattle.dht_ids.specs.Asked.{told}
 use Rattle.dht_ids.specs.declared.ask.Answer.{Answer}

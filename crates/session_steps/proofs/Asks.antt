@@ -1,6 +1,6 @@
 -- What is wanted next of a call that is shown, and an ask of it.
 use Rattle.std.proofs.Common.{◌≡◌, ◌≢◌, ◌⊎◌, inl, inr, ⊎_elim, ℕ, Bool, true, false, cond, List, map, Option, Some, None, refl, sym, ap, ◌∙◌, subst}
-use Rattle.log_heads.specs.Signed.{hss_judged}
+use Rattle.dhash_model.specs.Signed.{hss_judged}
 use Rattle.log_heads.specs.declared.judge.HssJudge.{HssJudge}
 use Rattle.ring_model.specs.Members.{IsAmong}
 use Rattle.dht_ids.specs.declared.ask.Ask.{Ask}

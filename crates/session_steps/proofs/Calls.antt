@@ -1,7 +1,7 @@
 -- A step is of one call: whose it is, its message and the nodes that it knows stay.
 use Rattle.std.proofs.Common.{◌≡◌, ℕ, Bool, List, Option, Some, refl, sym, ap, ◌∙◌, subst}
 use Rattle.ivy_base.specs.declared.key.Key.{Key}
-use Rattle.log_heads.specs.Signed.{hss_judged}
+use Rattle.dhash_model.specs.Signed.{hss_judged}
 use Rattle.dht_ids.specs.declared.ask.Answer.{Answer}
 use Rattle.dht_ids.specs.declared.ask.Ask.{Ask}
 use Rattle.dht_ids.specs.declared.judge.Judged.{Judged}

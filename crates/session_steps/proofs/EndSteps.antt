@@ -1,6 +1,6 @@
 -- Settlings of a session in code, and its end.
 use Rattle.std.proofs.Common.{◌≡◌, ⊎_elim, ℕ, List, [], Option, refl, sym, ap, ◌∙◌, subst}
-use Rattle.log_heads.specs.Signed.{hss_judged}
+use Rattle.dhash_model.specs.Signed.{hss_judged}
 use Rattle.dht_ids.specs.declared.post.Ack.{Ack}
 use Rattle.dht_ids.specs.declared.post.Post.{Post}
 use Rattle.dhash_client.specs.GetHead.{Judges}

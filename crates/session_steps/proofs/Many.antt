@@ -1,7 +1,7 @@
 -- Many steps of a call that is shown.
 use Rattle.std.proofs.Common.{◌≡◌, ◌⊎◌, inl, inr, ⊎_elim, ℕ, zero, suc, false, List, Option, Some, None, refl, sym, ap, ◌∙◌, subst}
 use Rattle.std.specs.Prelude.{IsTrue, is_some}
-use Rattle.log_heads.specs.Signed.{hss_judged}
+use Rattle.dhash_model.specs.Signed.{hss_judged}
 use Rattle.session_model.specs.Sessions.{Over, Said, Session}
 use Rattle.ivy_session.specs.declared.served.Served.{Served}
 use Rattle.ring_nodes.specs.NodesState.{NodesState, with_nodes}

@@ -132,8 +132,8 @@ module _ (answers_are : AnswersAreReplies) (plans_are : PlansAreReplies) (finish
   -- the reply by the definition is one of the procedure's
   module _ (reply read : Reply) (fits : IsFittingReply asked.args read) (same : bytes_of read ≡ bytes_of reply) where
     as_read : {h : Holding} {written : List Record} → IsByDefinition signs given (record { agent = a; view = view; now = now; fails = fails }) asked h written reply → IsByDefinition signs given (record { agent = a; view = view; now = now; fails = fails }) asked h written read
-    as_read by heads met s knew known apart knows may =
-        let t = by heads met s knew known apart knows may in
+    as_read by grounds known apart knows may =
+        let t = by grounds known apart knows may in
         let begun = some_records (stamp_at a.floor (head_key_of (own signs a))) (log_of (own signs a) known) kept.some (knows.by_floor.ends (own signs a) in_view.1) in
         let closed = turn_set_is_closed (inputs signs a view fails) known t.is_turn.candidates asked now t.turned in_view.0 in_view.1 knows.closed begun caller args moment
         (record { taken = t.taken; largest = t.is_turn.largest; by_set = t.is_turn.by_set }) in

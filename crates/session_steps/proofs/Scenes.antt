@@ -1,6 +1,6 @@
 -- A scene under way that is shown, and what is shown behind a step of it.
 use Rattle.std.proofs.Common.{◌≡◌, inl, inr, ℕ, false, List, Option, Some, None, refl, sym, ap, ◌∙◌, subst}
-use Rattle.log_heads.specs.Signed.{hss_judged}
+use Rattle.dhash_model.specs.Signed.{hss_judged}
 use Rattle.session_model.specs.Sessions.{Over, Said, Session}
 use Rattle.dhash_client.specs.GetHead.{Judges}
 use Rattle.session_model.specs.Courses.{LacksMemory}

@@ -4,15 +4,16 @@ use Rattle.std.specs.Prelude.{IfErr, IfSome, IsSomeAnd, IsTrue, option_map}
 use Rattle.std.specs.List.{AllByRecursion}
 use Rattle.ivy_base.specs.declared.operation.Moment.{Moment}
 use Rattle.ivy_base.specs.Naming.{HasClash, NamesTellApart}
-use Rattle.hss_keys.specs.Saved.{IsSigner}
-use Rattle.hss_keys.specs.Signer.{Signer}
-use Rattle.log_heads.specs.Signed.{hss_judged}
+use Rattle.hash_signature_model.specs.Saved.{IsSigner}
+use Rattle.hash_signature_model.specs.Signer.{Signer}
+use Rattle.dhash_model.specs.Signed.{hss_judged}
 use Rattle.log_model.proofs.Lists.{each, each_from}
 use Rattle.log_model.specs.Record.{Record}
 use Rattle.log_model.specs.Spelling.{IsMoment}
 use Rattle.log_model.specs.Vector.{Stamp}
 use Rattle.log_model.specs.View.{View, IsView, is_named}
-use Rattle.log_records.specs.Batches.{owner_of, owners_in}
+use Rattle.log_model.specs.Fetched.{owner_of}
+use Rattle.log_records.specs.Batches.{owners_in}
 use Rattle.wire_model.proofs.OneReading.{one_call}
 use Rattle.nfs_laws.specs.Replies.{AnswersAreReplies, FinishesAreReplies, PlansAreReplies, SetsMakeTrees}
 use Rattle.nfs_model.specs.Replies.{IsFittingReply}
@@ -26,8 +27,8 @@ use Rattle.agent_model.specs.Agent.{kept_of}
 use Rattle.agent_model.specs.Standing.{Refresh as ModelRefresh, Standing as ModelStanding, anew_in}
 use Rattle.agent_model.specs.Turning.{Answered, Behind, BelowTide, IsByDefinition, TurnEnd, Turns}
 use Rattle.agent_model.specs.Turning.Turns.{behind, below, answers as answers_it}
-use Rattle.session_model.specs.Brought.{brought_in, heads_at}
-use Rattle.session_model.specs.Courses.{HasRefreshed, IsRefusal, LacksMemory, anew, answered, ended}
+use Rattle.session_model.specs.Brought.{brought_in}
+use Rattle.session_model.specs.Courses.{grounds_of, HasRefreshed, IsRefusal, LacksMemory, anew, answered, ended}
 use Rattle.session_model.specs.Courses.TakesTurn.{answers, begins_anew, gives_up}
 use Rattle.session_model.specs.Refreshing.{Done, Note}
 use Rattle.session_model.specs.Replies.{Asks, said_no_memory, said_of}
@@ -54,7 +55,7 @@ use Rattle.ivy_session.specs.Stepping.{IsAnewFor, IsBatchOf, NextIs, TurnedIs}
 use Rattle.ivy_session.specs.Stepping as code
 use Rattle.ivy_session.specs.Stepping.IsRefused.{begins_anew as code_begins, lacks_memory as code_lacks, gives_up as code_gives_up}
 use Rattle.ivy_session.specs.Stepping.NextIs.{turns as next_turns}
-use Rattle.view_blocks.specs.Faults.{HasKeys}
+use Rattle.log_model.specs.ViewKeys.{HasKeys}
 use Rattle.script_model.specs.Messages.{Given}
 use Rattle.world_model.specs.Agents.{Agent, Kept, IsKept, IsTurnIn, TakesTurn, hss, kept_bytes, own}
 use Rattle.world_model.specs.Keepers.{Keeper, asked_to_save, fails_next}
@@ -257,7 +258,7 @@ module _ {J : Type 0} (judges : Judges J) (c : Scene) (r : ℕ) (p : Participant
         by_apart apart =
             let may = refresh_may_turn here mine r notes (refresh_of refresh) kept_now.0 apart kept_now.1 found_now done in
             let definition = by_definition reply applied turn.0 refl in
-            let of = definition.2 (heads_at (brought_in h.taken.parts)) (named_bytes here.world) h.taken.standing c.began.knew (known_of c.story p.name) apart may.0 may.1 in
+            let of = definition.2 (grounds_of (named_bytes here.world) h.taken c.began.knew) (known_of c.story p.name) apart may.0 may.1 in
             record {
               told = of.turned;
               replies = sym of.replies;

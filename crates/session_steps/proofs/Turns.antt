@@ -3,7 +3,7 @@ use Rattle.std.proofs.Common.{◌≡◌, ⊎_elim, ℕ, ◌<◌, true, false, Li
 use Rattle.std.specs.Prelude.{IfSome, IsSomeAnd}
 use Rattle.ivy_base.specs.declared.key.Key.{Key}
 use Rattle.ivy_base.specs.declared.operation.Moment.{Moment}
-use Rattle.hss_keys.specs.Signer.{Signer}
+use Rattle.hash_signature_model.specs.Signer.{Signer}
 use Rattle.log_heads.specs.declared.judge.HssJudge.{HssJudge}
 use Rattle.log_model.specs.View.{View}
 use Rattle.dht_ids.specs.declared.judge.Judged.{Judged}

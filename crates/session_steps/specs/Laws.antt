@@ -1,10 +1,10 @@
 -- Laws that tie the contracts of sessions in code, of their agents' turns and of a ring's nodes to the steps of a world's sessions.
 use Rattle.std.specs.Prelude.{◌≡◌, ◌⊎◌, ℕ, true, false, List, map, Some, None, Result, Ok, Err, IfErr, IfSome, IsSomeAnd}
 use Rattle.ivy_base.specs.declared.operation.Moment.{Moment}
-use Rattle.hss_keys.specs.Saved.{IsSigner}
-use Rattle.hss_keys.specs.Signer.{Signer}
+use Rattle.hash_signature_model.specs.Saved.{IsSigner}
+use Rattle.hash_signature_model.specs.Signer.{Signer}
 use Rattle.log_model.specs.View.{View}
-use Rattle.log_heads.specs.Signed.{hss_judged}
+use Rattle.dhash_model.specs.Signed.{hss_judged}
 use Rattle.nfs_model.specs.Replies.{IsFittingReply}
 use Rattle.nfs_model.specs.Results.{result as bytes_of}
 use Rattle.nfs_model.specs.declared.replies.Reply.{Reply}

@@ -1,9 +1,9 @@
 -- Scenes of a world that code shows, and the steps that its calls are: an ask of a node, a turn, a settling, or the end.
 use Rattle.std.specs.Prelude.{◌≡◌, ◌≢◌, ℕ, ◌<◌, true, false, Bool, List, [], Option, Some, None, Result, Ok, Err, IfSome}
 use Rattle.ivy_base.specs.declared.operation.Moment.{Moment}
-use Rattle.hss_keys.specs.Signer.{Signer}
+use Rattle.hash_signature_model.specs.Signer.{Signer}
 use Rattle.log_model.specs.View.{View}
-use Rattle.log_heads.specs.Signed.{hss_judged}
+use Rattle.dhash_model.specs.Signed.{hss_judged}
 use Rattle.dhash_client.specs.GetHead.{Judges}
 use Rattle.ivy_io.specs.Keepers.{after_save}
 use Rattle.nfs_model.specs.declared.replies.Reply.{Reply}

@@ -1,7 +1,7 @@
 -- What the calls within a step of a call in code say, and the laws by which that is a step of each scene that is shown.
 use Rattle.std.specs.Prelude.{◌≡◌, ◌≢◌, ◌<◌, ◌+◌, ℕ, is_some, if◌then◌else◌, true, false, List, Some, None, Result, Ok, Err, IfSome, IsSomeAnd}
 use Rattle.ivy_base.specs.declared.operation.Moment.{Moment}
-use Rattle.log_heads.specs.Signed.{hss_judged}
+use Rattle.dhash_model.specs.Signed.{hss_judged}
 use Rattle.log_heads.specs.declared.judge.HssJudge.{HssJudge}
 use Rattle.ring_model.specs.Members.{IsAmong}
 use Rattle.dht_ids.specs.declared.ask.Answer.{Answer}

@@ -7,6 +7,7 @@ ghost use Rattle.session_steps.specs.MetState.{MetState};
 ghost use Rattle.script_participants.specs.ParticipantState.{ParticipantState};
 ghost use Rattle.session_steps.specs.Showing.{HasScene, ManyStepsFrom, RunsOutFrom, StepsFrom, shown};
 ghost use Rattle.session_steps.specs.Within.{CountsAsMade, GivesOf, HasAskedOf, HasHeard, HasNext, HasTurned, IsArm, IsToldOf, Laws, MayAsk, MayTurn, TookTurn, left_to};
+ghost use Rattle.nfs_model.specs.Results.{longest_result};
 
 use crate::MetBlocks;
 use crate::laws::{
@@ -194,7 +195,7 @@ impl OpenCall {
     ) -> Result<Turned, TurnFault>
         requires { MayTurn self.now who.old refresh now }
         ensures took { TookTurn self.now refresh now result who.old who.new }
-        ensures short { IfOk result (λ turned. length turned.reply ≤ 32772) }
+        ensures short { IfOk result (λ turned. length turned.reply ≤ longest_result) }
         ensures anew { IfErr result IsAnewFor }
     {
         let Some(asked) = self.session.asked() else {
@@ -213,7 +214,7 @@ impl OpenCall {
         turned: Turned,
     ) -> Result<(), Memory>
         requires turning { is_turning self.old.session.stage ≡ true }
-        requires short { length turned.reply ≤ 32772 }
+        requires short { length turned.reply ≤ longest_result }
         ensures { OnOk result (IsToldOf (Ok turned) self.old self.new who.old who.new met.old met.new) }
     {
         self.read(alloc, &turned)?;

@@ -1,5 +1,5 @@
 -- Names in list blocks: as many as their count says, each of 20 bytes.
-use Rattle.std.proofs.Common.{◌≡◌, ◌≢◌, ℕ, ◌^◌, ◌<◌, ◌≤◌, List, [], ◌∷◌, ◌++◌, length, refl, sym, ap, ◌∙◌, arith, append_assoc}
+use Rattle.std.proofs.Common.{◌≡◌, ◌≢◌, ℕ, ◌^◌, ◌<◌, ◌≤◌, List, ◌++◌, length, refl, sym, ap, ◌∙◌, arith, append_assoc}
 use Rattle.std.specs.List.{flat_map}
 use Rattle.std.proofs.lemmas.List.{append_cancel_left}
 use Rattle.ivy_base.specs.declared.key.Key.{Key}
@@ -14,22 +14,18 @@ use Rattle.block_parts.specs.Parts.{constant_bytes, as_it_stands, key_bytes}
 use Rattle.block_parts.proofs.Blocks.{made_front, none_made}
 use Rattle.block_parts.proofs.Constants.{one_constant}
 use Rattle.block_parts.proofs.OneParts.{one_key}
-use Rattle.snapshot_model.specs.Blocks.{AreNamed, list_block}
+use Rattle.snapshot_model.specs.Blocks.{AreNamed, list_block, names_tag}
 use Rattle.snapshot_model.specs.Parts.{list_tag}
 use Rattle.snapshot_blocks.specs.Parsed.{keys_of}
 
--- "IVL1"
-abbrev magic : List ℕ
-magic = 73 ∷ 86 ∷ 76 ∷ 49 ∷ []
-
 -- ---- the tag
 
-pub no_magic : {bytes : List ℕ} (level : ℕ) → HasNoFront IsAny (constant_bytes magic) bytes → HasNoFront IsAny (constant_bytes (list_tag level)) bytes
+pub no_magic : {bytes : List ℕ} (level : ℕ) → HasNoFront IsAny (constant_bytes names_tag) bytes → HasNoFront IsAny (constant_bytes (list_tag level)) bytes
 no_magic level absent = record { none = λ u rest f. absent.none tt (word level ++ rest) (record { fits = tt; spelled = f.spelled }) }
 
-module _ {b0 b1 : List ℕ} {u : Unit {0}} (level : ℕ) (f : IsFront IsAny (constant_bytes magic) b0 u b1) where
-  behind_magic : (rest : List ℕ) → b0 ≡ magic ++ (word level ++ rest) → b1 ≡ word level ++ rest
-  behind_magic rest e = append_cancel_left magic b1 (word level ++ rest) (sym f.spelled ∙ e)
+module _ {b0 b1 : List ℕ} {u : Unit {0}} (level : ℕ) (f : IsFront IsAny (constant_bytes names_tag) b0 u b1) where
+  behind_magic : (rest : List ℕ) → b0 ≡ names_tag ++ (word level ++ rest) → b1 ≡ word level ++ rest
+  behind_magic rest e = append_cancel_left names_tag b1 (word level ++ rest) (sym f.spelled ∙ e)
 
   pub no_level : level < 2 ^ 32 → HasNoFront IsWord word b1 → HasNoFront IsAny (constant_bytes (list_tag level)) b0
   no_level few absent = record { none = λ v rest g. absent.none level rest (record { fits = few; spelled = behind_magic rest g.spelled }) }
@@ -38,7 +34,7 @@ module _ {b0 b1 : List ℕ} {u : Unit {0}} (level : ℕ) (f : IsFront IsAny (con
   other_level {b2} {n} few g differs = record { none = λ v rest h. differs (one_word.one n level b2 rest g.fits few (sym g.spelled ∙ behind_magic rest h.spelled)).0 }
 
   pub tag_front : {b2 : List ℕ} {n : ℕ} {v : Unit {0}} → IsFront IsWord word b1 n b2 → n ≡ level → IsFront IsAny (constant_bytes (list_tag level)) b0 v b2
-  tag_front {b2} g same = record { fits = tt; spelled = f.spelled ∙ ap (λ (bytes : List ℕ). magic ++ bytes) (g.spelled ∙ ap (λ (k : ℕ). word k ++ b2) same) }
+  tag_front {b2} g same = record { fits = tt; spelled = f.spelled ∙ ap (λ (bytes : List ℕ). names_tag ++ bytes) (g.spelled ∙ ap (λ (k : ℕ). word k ++ b2) same) }
 
 -- ---- the names
 

@@ -1,5 +1,5 @@
 -- Where a root block can't be read.
-use Rattle.std.proofs.Common.{ℕ, List, [], ◌∷◌, ◌++◌, Option, refl, arith}
+use Rattle.std.proofs.Common.{ℕ, List, ◌++◌, Option, refl, arith}
 use Rattle.ivy_base.specs.declared.key.Key.{Key}
 use Rattle.wire_model.specs.Xdr.{word, double_word, optional, array, IsAny, IsWord, IsDoubleWord}
 use Rattle.wire_model.specs.OneReading.{IsFront, HasNoFront}
@@ -13,7 +13,7 @@ use Rattle.version_vectors.specs.Vectors.{VectorFits}
 use Rattle.block_parts.specs.declared.fault.BlockFault.{BlockFault}
 use Rattle.block_parts.specs.declared.fault.BlockFault.TheVariants as block
 use Rattle.version_vectors.specs.Reading.{ReadFault}
-use Rattle.snapshot_model.specs.Blocks.{Listed, RootBlock, root_block, rank_bytes, listed_bytes, IsRankSpelled, IsVectorSpelled, IsListed, IsRootBlock}
+use Rattle.snapshot_model.specs.Blocks.{Listed, RootBlock, root_block, rank_bytes, listed_bytes, IsRankSpelled, IsVectorSpelled, IsListed, IsRootBlock, root_tag}
 use Rattle.block_parts.specs.Parts.{constant_bytes, as_it_stands, key_bytes, IsOptional}
 use Rattle.block_parts.proofs.OneParts.{one_block, one_key}
 use Rattle.snapshot_model.proofs.OneBlock.{RootParts, root_parts, of_root_parts, one_front, one_tide}
@@ -56,29 +56,25 @@ front_of_vector {v} f = record { fits = spelled_vector v f.fits; spelled = f.spe
 
 -- ---- the root
 
--- "IVS1"
-abbrev magic : List ℕ
-magic = 73 ∷ 86 ∷ 83 ∷ 49 ∷ []
-
 abbrev HasParts : RootParts → Type 0
 HasParts p = (((IsAny p.0.0.0.0 × IsKey p.0.0.0.1) × IsVectorSpelled p.0.0.1) × IsOptional IsRankSpelled p.0.1) × IsListed 3 p.1
 
 abbrev parts_bytes : RootParts → List ℕ
-parts_bytes p = constant_bytes magic p.0.0.0.0 ++ key_bytes p.0.0.0.1 ++ array vector_entry p.0.0.1 ++ optional rank_bytes p.0.1 ++ listed_bytes p.1
+parts_bytes p = constant_bytes root_tag p.0.0.0.0 ++ key_bytes p.0.0.0.1 ++ array vector_entry p.0.0.1 ++ optional rank_bytes p.0.1 ++ listed_bytes p.1
 
 parts_of : (b : RootBlock) → IsRootBlock b → PartsOf HasParts parts_bytes (root_block b)
 parts_of b f = record { part = root_parts b; fits = ((((tt, f.view), f.front), f.tide), f.inodes); spelled = refl }
 
-pub no_magic : {b0 : List ℕ} → HasNoFront IsAny (constant_bytes magic) b0 → HasNoFront IsRootBlock root_block b0
+pub no_magic : {b0 : List ℕ} → HasNoFront IsAny (constant_bytes root_tag) b0 → HasNoFront IsRootBlock root_block b0
 no_magic absent = none_of_some parts_of (no_first (IsListed 3) listed_bytes (no_first (IsOptional IsRankSpelled) (optional rank_bytes) (no_first IsVectorSpelled (array vector_entry) (no_first IsKey key_bytes absent))))
 
-module _ {b0 b1 : List ℕ} {u : Unit {0}} (f : IsFront IsAny (constant_bytes magic) b0 u b1) where
+module _ {b0 b1 : List ℕ} {u : Unit {0}} (f : IsFront IsAny (constant_bytes root_tag) b0 u b1) where
   pub no_view : HasNoFront IsKey key_bytes b1 → HasNoFront IsRootBlock root_block b0
-  no_view absent = none_of_some parts_of (no_first (IsListed 3) listed_bytes (no_first (IsOptional IsRankSpelled) (optional rank_bytes) (no_first IsVectorSpelled (array vector_entry) (no_second (one_constant magic) f absent))))
+  no_view absent = none_of_some parts_of (no_first (IsListed 3) listed_bytes (no_first (IsOptional IsRankSpelled) (optional rank_bytes) (no_first IsVectorSpelled (array vector_entry) (no_second (one_constant root_tag) f absent))))
 
   module _ {b2 : List ℕ} {view : Key} (g : IsFront IsKey key_bytes b1 view b2) where
     no_vector : HasNoFront IsVectorSpelled (array vector_entry) b2 → HasNoFront IsRootBlock root_block b0
-    no_vector absent = none_of_some parts_of (no_first (IsListed 3) listed_bytes (no_first (IsOptional IsRankSpelled) (optional rank_bytes) (no_second (one_constant magic ▷ one_key) (both f g) absent)))
+    no_vector absent = none_of_some parts_of (no_first (IsListed 3) listed_bytes (no_first (IsOptional IsRankSpelled) (optional rank_bytes) (no_second (one_constant root_tag ▷ one_key) (both f g) absent)))
 
     pub no_front : (fault : BlockFault) → ReadFault 4294967295 b2 fault → RefusesFront IsRootBlock root_block b0 fault
     no_front block.Malformed absent = no_vector (none_of_fewer short_vector absent)
@@ -86,11 +82,11 @@ module _ {b0 b1 : List ℕ} {u : Unit {0}} (f : IsFront IsAny (constant_bytes ma
 
     module _ {b3 : List ℕ} {front : Vector} (h : IsFront IsVectorSpelled (array vector_entry) b2 front b3) where
       pub no_tide_behind : HasNoFront (IsOptional IsRankSpelled) (optional rank_bytes) b3 → HasNoFront IsRootBlock root_block b0
-      no_tide_behind absent = none_of_some parts_of (no_first (IsListed 3) listed_bytes (no_second (one_constant magic ▷ one_key ▷ one_front) (both (both f g) h) absent))
+      no_tide_behind absent = none_of_some parts_of (no_first (IsListed 3) listed_bytes (no_second (one_constant root_tag ▷ one_key ▷ one_front) (both (both f g) h) absent))
 
       module _ {b4 : List ℕ} {tide : Option Rank} (i : IsFront (IsOptional IsRankSpelled) (optional rank_bytes) b3 tide b4) where
         pub no_inodes : HasNoFront (IsListed 3) listed_bytes b4 → HasNoFront IsRootBlock root_block b0
-        no_inodes absent = none_of_some parts_of (no_second (one_constant magic ▷ one_key ▷ one_front ▷ one_tide) (both (both (both f g) h) i) absent)
+        no_inodes absent = none_of_some parts_of (no_second (one_constant root_tag ▷ one_key ▷ one_front ▷ one_tide) (both (both (both f g) h) i) absent)
 
         pub root_front : {b5 : List ℕ} {inodes : Listed} → IsFront (IsListed 3) listed_bytes b4 inodes b5
             → IsFront IsRootBlock root_block b0 (record { view = view; front = front; tide = tide; inodes = inodes }) b5

@@ -4,7 +4,7 @@ ghost use Rattle.std.specs.Prelude.{◌≡◌, ◌≤◌, ◌++◌, length, IfOk
 ghost use Rattle.std.specs.List.{AllByRecursion, flat_map};
 ghost use Rattle.wire_model.specs.Xdr.{array, AreSoMany};
 ghost use Rattle.wire_model.specs.OneReading.{IsFront, HasNoFront};
-ghost use Rattle.snapshot_model.specs.Blocks.{AreEntries, Ascend, IsEntry, Says, entries_block, entry_bytes};
+ghost use Rattle.snapshot_model.specs.Blocks.{AreEntries, Ascend, IsEntry, Says, entries_block, entry_bytes, most_entries};
 ghost use Rattle.snapshot_blocks.specs.Parsed.{entries_of, entry_of};
 ghost use Rattle.snapshot_blocks.specs.Parts.{AreSomeEntries};
 ghost use Rattle.snapshot_blocks.specs.Refusals.{Refuses, RefusesFront};
@@ -20,7 +20,7 @@ use xdr_codec::{XdrRead, XdrWrite};
 const MAGIC: [u8; 4] = *b"IVE1";
 
 /// The most entries of a block.
-const MOST_ENTRIES: u32 = 32;
+pub const MOST_ENTRIES: u32 = 32;
 
 /// An entry of a directory.
 #[derive(Clone, Copy)]
@@ -67,7 +67,7 @@ fn read_each<'a>(
     reader: &mut XdrRead<'a>,
     count: u32,
 ) -> Result<Vec<Entry<'a>>, BlockFault>
-    requires { count ≤ 32 }
+    requires { count ≤ most_entries }
     ensures ok { IfOk result (λ es. IsFront (AreSoMany IsEntry count) (flat_map entry_bytes) reader.old (entries_of es.items) reader.new) }
     ensures err { IfErr result (RefusesFront (AreSoMany IsEntry count) (flat_map entry_bytes) reader.old) }
 {
@@ -97,7 +97,7 @@ fn ascend(entries: &[Entry<'_>]) -> bool
 
 /// The block of these entries. The error is want of memory; it also comes where a name has 2^32 bytes or more.
 pub fn write_entries(alloc: Global, entries: &[Entry<'_>]) -> Result<Bytes, Memory>
-    requires { length entries.now ≤ 32 }
+    requires { length entries.now ≤ most_entries }
     ensures { IfOk result (λ block. block ≡ entries_block (entries_of entries.now)) }
 {
     let mut out = XdrWrite::new(alloc);

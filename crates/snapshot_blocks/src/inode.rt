@@ -4,9 +4,9 @@ ghost use Rattle.std.specs.Prelude.{◌≡◌, ◌≤◌, ◌↔◌, IsTrue, len
 ghost use Rattle.wire_model.specs.OneReading.{IsFront, HasNoFront};
 ghost use Rattle.snapshot_model.specs.Blocks.{IsInodeBlock, Says, inode_block};
 ghost use Rattle.snapshot_model.specs.Parts.{FitsKind, HasInodeParts};
-ghost use Rattle.block_parts.specs.Parts.{longest_file};
 ghost use Rattle.snapshot_blocks.specs.Parsed.{inode_of};
 ghost use Rattle.snapshot_blocks.specs.Refusals.{SaysNothing};
+ghost use Rattle.tree_model.specs.Tree.{longest_file};
 
 use crate::attributes::{put_attributes, read_attributes};
 use crate::listed::{Listed, put_listed, read_listed};

@@ -21,7 +21,7 @@ pub mod listed;
 mod piece;
 pub mod root;
 
-pub use entries::{Entry, read_entries, write_entries};
+pub use entries::{Entry, MOST_ENTRIES, read_entries, write_entries};
 pub use inode::InodeBlock;
 pub use list::{read_list, write_list};
 pub use listed::Listed;

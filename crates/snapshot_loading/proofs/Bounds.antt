@@ -9,7 +9,7 @@ use Rattle.ivy_base.specs.declared.operation.Kind.TheVariants.{Reg, Dir, Lnk}
 use Rattle.ivy_base.specs.Naming.{IsFileName}
 use Rattle.tree_model.specs.Tree.{Tree, Inode, Place, inode_at, is_directory, listing}
 use Rattle.log_model.specs.Spelling.{IsKey, IsTarget}
-use Rattle.snapshot_model.specs.Blocks.{AreAttributes, AreEntries, InodeBlock, IsEntry, most_bytes, most_levels}
+use Rattle.snapshot_model.specs.Blocks.{AreAttributes, AreEntries, InodeBlock, IsEntry, most_bytes, most_levels, most_entries}
 use Rattle.snapshot_model.specs.Reading.{Part, AnInode, Listing, HasBounds, IsBodyOf, IsWholeTree, item_of, top_of}
 use Rattle.snapshot_model.proofs.OneBlock.{one_inode}
 use Rattle.snapshot_model.proofs.OneNames.{one_said}
@@ -73,7 +73,7 @@ module _ (inodes : Bool) (item : Part) (bottom : IsBottom inodes item) where
 
 -- ---- what an inode contains
 
-run_few : (each : List Directory) → AllByRecursion AreEntries each → length (run_of each) ≤ 32 * length each
+run_few : (each : List Directory) → AllByRecursion AreEntries each → length (run_of each) ≤ most_entries * length each
 run_few [] h = omega arith
 run_few (es ∷ each) h = omega (arith, length-append es (run_of each), run_few each h.1, h.0.few)
 
@@ -88,7 +88,7 @@ entries_good (es ∷ each) h = joined_good es (run_of each) h.0.each (entries_go
 pub record AreBounded (kind : Kind) (blocks : List (List ℕ)) (body : List ℕ) (es : Directory) : Type 0 where
   pub fits : IsBodyOf kind body
   pub good : AllByRecursion IsEntry es
-  pub few : length es ≤ 32 * length blocks
+  pub few : length es ≤ most_entries * length blocks
 
 contents_bounded : (kind : Kind) (said : InodeBlock) (blocks : List (List ℕ)) (body : List ℕ) (es : Directory) → said.size ≤ most_bytes kind → IsTarget kind said.target → HasContents kind said blocks body es → AreBounded kind blocks body es
 contents_bounded Reg said blocks body es size target h = record {

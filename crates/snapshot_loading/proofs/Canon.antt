@@ -8,7 +8,7 @@ use Rattle.ivy_base.specs.declared.operation.Kind.TheVariants.{Reg, Dir, Lnk}
 use Rattle.tree_model.specs.Tree.{Tree, Inode, listing}
 use Rattle.log_model.specs.Spelling.{IsKey}
 use Rattle.turn_model.specs.Basis.{Basis}
-use Rattle.snapshot_model.specs.Blocks.{InodeBlock, Ascend, IsEntry, IsInodeBlock, IsRootBlock, entries_block, inode_block, list_block, root_block}
+use Rattle.snapshot_model.specs.Blocks.{InodeBlock, Ascend, IsEntry, IsInodeBlock, IsRootBlock, entries_block, inode_block, list_block, root_block, most_entries}
 use Rattle.snapshot_model.specs.Spelling.{Made, made_name, list_made, list_of, named_by, in_pieces, piece_made, entries_made, items_of, size_of, target_of, inode_made, snapshot_named}
 use Rattle.snapshot_model.specs.Reading.{Part, Root, AnInode, Piece, Entries, Names, item_of, part_below, top_of, HasBounds, IsBodyOf, IsBasisSpelled, IsWholeTree, AreOf}
 use Rattle.snapshot_model.proofs.Pieces.{few_pieces, short_pieces, each_joined, join-in_pieces}
@@ -126,7 +126,7 @@ pieces_named (p ∷ each) some few = (((some.0, few.0), refl), pieces_named each
 abbrev Entry : Type 0
 Entry = List ℕ × Key
 
-entries_named : (each : List (List Entry)) → AllByRecursion (λ ys. 1 ≤ length ys) each → AllByRecursion (λ ys. length ys ≤ 32) each → AllByRecursion (AllByRecursion IsEntry) each → AllByRecursion Ascend each
+entries_named : (each : List (List Entry)) → AllByRecursion (λ ys. 1 ≤ length ys) each → AllByRecursion (λ ys. length ys ≤ most_entries) each → AllByRecursion (AllByRecursion IsEntry) each → AllByRecursion Ascend each
     → AllByRecursion (λ b. Names Entries b []) (map entries_block each)
 entries_named [] some few good ascend = tt
 entries_named (es ∷ each) some few good ascend =
@@ -161,10 +161,10 @@ has_contents Reg body es h l =
       );
     }
 has_contents Dir body es h l =
-    let each = in_pieces 32 es in
+    let each = in_pieces most_entries es in
     let f = are_leaves Entries (map entries_block each)
-    (entries_named each (some_each (length es) 32 es (omega arith)) (short_pieces (length es) 32 es) (each_joined IsEntry (length es) 32 es l.each) (pieces_ascend (length es) 32 es l.ascend)) in
-    let few = few_pieces (length es) 32 es 134217728 (omega (arith, l.few)) in
+    (entries_named each (some_each (length es) most_entries es (omega arith)) (short_pieces (length es) most_entries es) (each_joined IsEntry (length es) most_entries es l.each) (pieces_ascend (length es) most_entries es l.ascend)) in
+    let few = few_pieces (length es) most_entries es 134217728 (omega (arith, l.few)) in
     let made : mades (leaf_forest Entries (map entries_block each)) ≡ map entries_made each = f.made ∙ entries_as_pieces each in
     let count : length (mades (leaf_forest Entries (map entries_block each))) ≡ length (map entries_made each) = ap length made in
     record {
@@ -173,7 +173,7 @@ has_contents Dir body es h l =
       are = f.are;
       fits = f.fits;
       few = omega (arith, count, few, length-map each entries_made);
-      shows = λ said size target. (h, each, f.in_them, pieces_full (length es) 32 es (omega arith) (omega arith), join-in_pieces 32 es (omega arith));
+      shows = λ said size target. (h, each, f.in_them, pieces_full (length es) most_entries es (omega arith) (omega arith), join-in_pieces most_entries es (omega arith));
     }
 has_contents Lnk body es h l = record { forest = nothing; made = refl; are = tt; fits = tt; few = omega arith; shows = λ said size target. target }
 

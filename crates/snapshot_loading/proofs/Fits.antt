@@ -10,7 +10,7 @@ use Rattle.ivy_base.specs.declared.operation.Kind.TheVariants.{Reg, Dir, Lnk}
 use Rattle.tree_model.specs.Tree.{Tree, Inode, listing}
 use Rattle.log_model.specs.Spelling.{IsKey, IsTarget}
 use Rattle.turn_model.specs.Basis.{Basis}
-use Rattle.snapshot_model.specs.Blocks.{InodeBlock, RootBlock, list_block, entries_block, inode_block, root_block, Ascend, AreNamed, IsEntry, IsInodeBlock, IsListed, IsRootBlock, most_bytes, most_levels}
+use Rattle.snapshot_model.specs.Blocks.{InodeBlock, RootBlock, list_block, entries_block, inode_block, root_block, Ascend, AreNamed, IsEntry, IsInodeBlock, IsListed, IsRootBlock, most_bytes, most_levels, most_entries}
 use Rattle.snapshot_model.specs.Spelling.{Made, over, made_name, list_made, listed, list_of, named_by, pieces, in_pieces, piece_made, entries_made, items_of, size_of, target_of, inode_over, inode_made, snapshot_named}
 use Rattle.snapshot_model.specs.Reading.{Part, Root, Listing, AnInode, Piece, Entries, Names, item_of, part_below, top_of, HasBounds, IsBodyOf, IsBasisSpelled, IsWholeTree}
 use Rattle.snapshot_model.proofs.Pieces.{few_pieces, short_pieces, each_joined}
@@ -125,7 +125,7 @@ pieces_fit : (each : List (List ℕ)) → AllByRecursion (λ ys. 1 ≤ length ys
 pieces_fit [] some few = none
 pieces_fit (p ∷ each) some few = and p [] ((some.0, few.0), refl) none (pieces_fit each some.1 few.1)
 
-entries_fit : (each : List (List (List ℕ × Key))) → AllByRecursion (λ ys. 1 ≤ length ys) each → AllByRecursion (λ ys. length ys ≤ 32) each → AllByRecursion (AllByRecursion IsEntry) each → AllByRecursion Ascend each
+entries_fit : (each : List (List (List ℕ × Key))) → AllByRecursion (λ ys. 1 ≤ length ys) each → AllByRecursion (λ ys. length ys ≤ most_entries) each → AllByRecursion (AllByRecursion IsEntry) each → AllByRecursion Ascend each
     → FitAll (as_part Entries (map entries_made each))
 entries_fit [] some few good ascend = none
 entries_fit (es ∷ each) some few good ascend =
@@ -140,12 +140,12 @@ pub record AreListed (es : List (List ℕ × Key)) : Type 0 where
 items_fit : (kind : Kind) (body : List ℕ) (es : List (List ℕ × Key)) → IsBodyOf kind body → AreListed es → FitAll (as_part (item_of kind) (items_of es body kind))
 items_fit Reg body es h l = pieces_fit (in_pieces 8192 body) (some_each (length body) 8192 body (omega arith)) (short_pieces (length body) 8192 body)
 items_fit Dir body es h l =
-    entries_fit (in_pieces 32 es) (some_each (length es) 32 es (omega arith)) (short_pieces (length es) 32 es) (each_joined IsEntry (length es) 32 es l.each) (pieces_ascend (length es) 32 es l.ascend)
+    entries_fit (in_pieces most_entries es) (some_each (length es) most_entries es (omega arith)) (short_pieces (length es) most_entries es) (each_joined IsEntry (length es) most_entries es l.each) (pieces_ascend (length es) most_entries es l.ascend)
 items_fit Lnk body es h l = none
 
 few_items : (kind : Kind) (body : List ℕ) (es : List (List ℕ × Key)) → IsBodyOf kind body → AreListed es → length (items_of es body kind) ≤ most_under 3
 few_items Reg body es h l = let few = few_pieces (length body) 8192 body 2048 (omega (arith, h)) in omega (arith, few, length-map (in_pieces 8192 body) piece_made)
-few_items Dir body es h l = let few = few_pieces (length es) 32 es 134217728 (omega (arith, l.few)) in omega (arith, few, length-map (in_pieces 32 es) entries_made)
+few_items Dir body es h l = let few = few_pieces (length es) most_entries es 134217728 (omega (arith, l.few)) in omega (arith, few, length-map (in_pieces most_entries es) entries_made)
 few_items Lnk body es h l = omega arith
 
 -- ---- inodes

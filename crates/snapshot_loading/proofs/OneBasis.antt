@@ -7,7 +7,7 @@ use Rattle.ivy_base.specs.declared.operation.Kind.TheVariants.{Reg, Dir, Lnk}
 use Rattle.tree_model.specs.Tree.{Tree, Inode, listing}
 use Rattle.log_model.proofs.Lists.{each_left, each_right}
 use Rattle.turn_model.specs.Basis.{Basis}
-use Rattle.snapshot_model.specs.Blocks.{InodeBlock, IsEntry, RootBlock, entries_block}
+use Rattle.snapshot_model.specs.Blocks.{InodeBlock, IsEntry, RootBlock, entries_block, most_entries}
 use Rattle.snapshot_model.specs.Reading.{AreOf, IsBasisSpelled, IsWholeTree}
 use Rattle.snapshot_model.proofs.OneBlock.{one_inode, one_of_entries, one_root}
 use Rattle.snapshot_model.proofs.OneNames.{one_said}
@@ -43,7 +43,7 @@ AreFew es = (length es < 2 ^ 32) × AllByRecursion IsEntry es
 one_block : (es os : Directory) → AreFew es → AreFew os → entries_block es ≡ entries_block os → es ≡ os
 one_block es os f g e = one_said {block = entries_block es} {x = es} {y = os} one_of_entries (record { fits = f; spelled = refl }) (record { fits = g; spelled = e })
 
-few_each : (each : List Directory) → AreFull 32 each → AllByRecursion IsEntry (run_of each) → AllByRecursion AreFew each
+few_each : (each : List Directory) → AreFull most_entries each → AllByRecursion IsEntry (run_of each) → AllByRecursion AreFew each
 few_each [] full fit = tt
 few_each (es ∷ []) full fit = ((omega (arith, full.1), each_left IsEntry es [] fit), tt)
 few_each (es ∷ os ∷ each) full fit =

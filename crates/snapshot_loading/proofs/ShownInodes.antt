@@ -6,7 +6,7 @@ use Rattle.ivy_base.specs.declared.operation.Kind.TheVariants.{Reg, Dir, Lnk}
 use Rattle.ivy_base.specs.Naming.{name}
 use Rattle.tree_model.specs.Tree.{Attributes}
 use Rattle.log_model.specs.Spelling.{IsTarget, no_name}
-use Rattle.snapshot_model.specs.Blocks.{InodeBlock, Listed, entries_block, inode_block, most_bytes, most_levels}
+use Rattle.snapshot_model.specs.Blocks.{InodeBlock, Listed, entries_block, inode_block, most_bytes, most_levels, most_entries}
 use Rattle.snapshot_model.specs.Spelling.{Made, over, list_of, named_by, in_pieces, piece_made, entries_made, items_of, size_of, target_of, inode_over}
 use Rattle.snapshot_model.specs.Reading.{Part, Piece, Entries, Listing, Names, item_of, top_of}
 use Rattle.snapshot_model.proofs.OneBlock.{one_inode}
@@ -101,7 +101,7 @@ contents_are Reg said below body es few e fits h =
 contents_are Dir said below body es few e fits h =
     let are = items_are Entries said.items.level said.items.top below e fits in
     entry_leaves (below_by said.items.level below) are.0 are.1 ∙ ap (λ (ps : List (List ℕ)). map piece_made ps) h.2 ∙ entries_as_pieces h.1
-    ∙ ap (λ (gs : List (List (List ℕ × Key))). map entries_made gs) (sym (full_pieces 32 h.1 (omega arith) h.3) ∙ ap (λ (l : List (List ℕ × Key)). in_pieces 32 l) h.4)
+    ∙ ap (λ (gs : List (List (List ℕ × Key))). map entries_made gs) (sym (full_pieces most_entries h.1 (omega arith) h.3) ∙ ap (λ (l : List (List ℕ × Key)). in_pieces most_entries l) h.4)
 contents_are Lnk said below body es few e fits h = no_level said.items.level said.items.top below few e
 
 -- ---- the block

@@ -5,7 +5,7 @@ use Rattle.ivy_base.specs.declared.key.Key.{Key}
 use Rattle.ivy_base.specs.declared.operation.Kind.{Kind}
 use Rattle.ivy_base.specs.declared.operation.Kind.TheVariants.{Reg, Dir, Lnk}
 use Rattle.tree_model.specs.Tree.{Tree, Inode, Attributes, listing}
-use Rattle.snapshot_model.specs.Blocks.{AreEntries, Ascend, InodeBlock, IsEntry, IsInodeBlock, Says, inode_block}
+use Rattle.snapshot_model.specs.Blocks.{AreEntries, Ascend, InodeBlock, IsEntry, IsInodeBlock, Says, inode_block, most_entries}
 use Rattle.snapshot_model.specs.Spelling.{in_pieces}
 use Rattle.snapshot_model.specs.Reading.{Part, AnInode, item_of, top_of}
 use Rattle.snapshot_model.proofs.OneBlock.{one_inode}
@@ -33,7 +33,7 @@ Directory = List (List ℕ × Key)
 
 -- ---- contents
 
-all_fit : (each : List Directory) → AllByRecursion (λ es. 1 ≤ length es) each → AllByRecursion (λ es. length es ≤ 32) each → AllByRecursion (AllByRecursion IsEntry) each → AllByRecursion Ascend each → AllByRecursion AreEntries each
+all_fit : (each : List Directory) → AllByRecursion (λ es. 1 ≤ length es) each → AllByRecursion (λ es. length es ≤ most_entries) each → AllByRecursion (AllByRecursion IsEntry) each → AllByRecursion Ascend each → AllByRecursion AreEntries each
 all_fit [] some few good ascend = tt
 all_fit (es ∷ each) some few good ascend = (record { some = some.0; few = few.0; each = good.0; in_order = ascend.0 }, all_fit each some.1 few.1 good.1 ascend.1)
 
@@ -41,9 +41,9 @@ pub contents_told : (kind : Kind) (said : InodeBlock) (items : Forest) (body : L
     → HasContents kind said (bytes_in items) body (contained kind es)
 contents_told Reg said items body es good ascend h = (refl, h.0, h.1, h.2)
 contents_told Dir said items body es good ascend h =
-    let each : h.1 ≡ in_pieces 32 es = sym (full_pieces 32 h.1 (omega arith) h.3) ∙ ap (λ (l : Directory). in_pieces 32 l) h.4 in
-    let fit : AllByRecursion AreEntries (in_pieces 32 es) =
-    all_fit (in_pieces 32 es) (some_each (length es) 32 es (omega arith)) (short_pieces (length es) 32 es) (each_joined IsEntry (length es) 32 es good) (pieces_ascend (length es) 32 es ascend) in
+    let each : h.1 ≡ in_pieces most_entries es = sym (full_pieces most_entries h.1 (omega arith) h.3) ∙ ap (λ (l : Directory). in_pieces most_entries l) h.4 in
+    let fit : AllByRecursion AreEntries (in_pieces most_entries es) =
+    all_fit (in_pieces most_entries es) (some_each (length es) most_entries es (omega arith)) (short_pieces (length es) most_entries es) (each_joined IsEntry (length es) most_entries es good) (pieces_ascend (length es) most_entries es ascend) in
     (h.0, record { each = h.1; spelled = h.2; fit = subst (λ (l : List Directory). AllByRecursion AreEntries l) (sym each) fit; full = h.3; run = h.4 })
 contents_told Lnk said items body es good ascend h = (refl, h)
 

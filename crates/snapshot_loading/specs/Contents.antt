@@ -4,7 +4,7 @@ use Rattle.std.specs.List.{AllByRecursion}
 use Rattle.ivy_base.specs.declared.key.Key.{Key}
 use Rattle.ivy_base.specs.declared.operation.Kind.{Kind}
 use Rattle.ivy_base.specs.declared.operation.Kind.TheVariants.{Reg, Dir, Lnk}
-use Rattle.snapshot_model.specs.Blocks.{AreEntries, InodeBlock, entries_block}
+use Rattle.snapshot_model.specs.Blocks.{AreEntries, InodeBlock, entries_block, most_entries}
 use Rattle.snapshot_loading.specs.Forests.{AreFull}
 use Rattle.snapshot_loading.specs.ShownInodes.{run_of}
 
@@ -13,7 +13,7 @@ pub record HaveEntries (blocks : List (List ℕ)) (es : List (List ℕ × Key)) 
   pub each : List (List (List ℕ × Key))
   pub spelled : blocks ≡ map entries_block each
   pub fit : AllByRecursion AreEntries each
-  pub full : AreFull 32 each
+  pub full : AreFull most_entries each
   pub run : run_of each ≡ es
 
 -- that is a file's bytes, a link's text, or a directory's entries

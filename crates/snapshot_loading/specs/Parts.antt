@@ -3,7 +3,7 @@ use Rattle.std.specs.Prelude.{◌≡◌, ℕ, ◌≤◌, List, [], length, map, 
 use Rattle.ivy_base.specs.declared.key.Key.{Key}
 use Rattle.ivy_base.specs.declared.operation.Kind.{Kind}
 use Rattle.ivy_base.specs.declared.operation.Kind.TheVariants.{Reg, Dir, Lnk}
-use Rattle.tree_model.specs.Tree.{Tree, Inode, Place}
+use Rattle.tree_model.specs.Tree.{Tree, Inode, Place, longest_file}
 use Rattle.tree_model.specs.Sound.{IsSound}
 use Rattle.dir_replay.specs.View.{names_in}
 use Rattle.inode_replay.specs.Attributes.{attributes_of}
@@ -24,7 +24,7 @@ tree_of parts = record { names = flat_map names_of parts; inodes = map numbered 
 
 -- a file has a file's length, and a directory no bytes
 abbrev pub IsBody : Kind → List ℕ → Type 0
-IsBody Reg body = length body ≤ 16777216
+IsBody Reg body = length body ≤ longest_file
 IsBody Dir body = body ≡ []
 IsBody Lnk body = Unit {0}
 

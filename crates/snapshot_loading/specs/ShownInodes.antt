@@ -4,7 +4,7 @@ use Rattle.ivy_base.specs.declared.key.Key.{Key}
 use Rattle.ivy_base.specs.declared.operation.Kind.{Kind}
 use Rattle.ivy_base.specs.declared.operation.Kind.TheVariants.{Reg, Dir, Lnk}
 use Rattle.tree_model.specs.Tree.{Inode}
-use Rattle.snapshot_model.specs.Blocks.{InodeBlock, IsInodeBlock, Says, entries_block, inode_block}
+use Rattle.snapshot_model.specs.Blocks.{InodeBlock, IsInodeBlock, Says, entries_block, inode_block, most_entries}
 use Rattle.snapshot_loading.specs.Forests.{Forest, nothing, block, below_by, AreFull, IsEven, IsLeast}
 
 -- of a list of that level, where there is one
@@ -24,7 +24,7 @@ run_of each = flat_map (λ xs. xs) each
 -- the blocks at the bottom of its list are the pieces of a file, or the entries of a directory, each but the last a full one; a link has none
 abbrev pub AreContents : Kind → InodeBlock → Forest → List ℕ → List (List ℕ × Key) → Type 0
 AreContents Reg said items body es = AreFull 8192 (bytes_in items) × (run_of (bytes_in items) ≡ body) × (said.size ≡ length body)
-AreContents Dir said items body es = (body ≡ []) × (each : List (List (List ℕ × Key))) × (bytes_in items ≡ map entries_block each) × AreFull 32 each × (run_of each ≡ es)
+AreContents Dir said items body es = (body ≡ []) × (each : List (List (List ℕ × Key))) × (bytes_in items ≡ map entries_block each) × AreFull most_entries each × (run_of each ≡ es)
 AreContents Lnk said items body es = said.target ≡ body
 
 pub record ShowsInode (bytes : List ℕ) (below : Forest) (number : Key) (inode : Inode) (es : List (List ℕ × Key)) : Type 0 where

@@ -10,7 +10,7 @@ use snapshot_blocks::{Entry, read_entries};
 use std::alloc::Global;
 
 /// How many entries a block has, but for the last one of a directory.
-const MOST_ENTRIES: usize = 32;
+const MOST_ENTRIES: usize = snapshot_blocks::MOST_ENTRIES as usize;
 
 /// The entries that these blocks have; none where they aren't blocks of entries, all but the last full. The error is want of
 /// memory.

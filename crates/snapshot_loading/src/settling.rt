@@ -4,7 +4,7 @@ ghost use Rattle.std.specs.Prelude.{◌≡◌, ◌≢◌, ◌≤◌, length, tru
 ghost use Rattle.std.specs.List.{AllByRecursion};
 ghost use Rattle.std.specs.FinMap.Entries.{is_sorted};
 ghost use Rattle.ivy_base.specs.Naming.{key_cmp};
-ghost use Rattle.tree_model.specs.Tree.{Tree};
+ghost use Rattle.tree_model.specs.Tree.{Tree, longest_file};
 ghost use Rattle.tree_model.specs.Apply.{change_inode, write_file};
 ghost use Rattle.snapshot_loading.specs.Parts.{HasBody, tree_of};
 ghost use Rattle.snapshot_loading.specs.Steps.{AreSettled, AwaitsAll, Awaits, Settles, beginning, change_of};
@@ -66,7 +66,7 @@ fn settle_other(alloc: Global, tree: &mut Tree, part: &InodeParts) -> Result<(),
 
 /// Gives a file its bytes, all of which are written then. The error is want of memory.
 fn write(alloc: Global, tree: &mut Tree, number: &Key, body: &Bytes) -> Result<(), Memory>
-    requires { length body.now ≤ 16777216 }
+    requires { length body.now ≤ longest_file }
     ensures { OnOk result (tree.new ≡ write_file tree.old beginning number.now 0 body.now) }
 {
     let op = Op::Write {

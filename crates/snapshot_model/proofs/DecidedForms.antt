@@ -12,13 +12,13 @@ use Rattle.ivy_base.specs.declared.operation.Kind.{Kind}
 use Rattle.ivy_base.specs.declared.operation.Kind.TheVariants.{Reg, Dir, Lnk}
 use Rattle.ivy_base.specs.declared.operation.Moment.{Moment}
 use Rattle.ivy_base.specs.Naming.{IsFileName, key_cmp}
-use Rattle.tree_model.specs.Tree.{Attributes}
+use Rattle.tree_model.specs.Tree.{Attributes, longest_file}
 use Rattle.tree_model.proofs.Sound.{both_true}
 use Rattle.wire_model.specs.Xdr.{IsAny}
 use Rattle.log_model.specs.Rank.{Rank}
 use Rattle.log_model.specs.Vector.{Entry, Vector}
 use Rattle.log_model.specs.Spelling.{IsBlock, IsKey, IsMoment, IsTarget, no_name}
-use Rattle.snapshot_model.specs.Blocks.{Listed, InodeBlock, IsListed, AreAttributes, IsEntry, IsStamped, IsVectorSpelled, IsRankSpelled, AreNamed, AreEntries, IsInodeBlock, IsRootBlock, most_bytes, most_levels}
+use Rattle.snapshot_model.specs.Blocks.{Listed, InodeBlock, IsListed, AreAttributes, IsEntry, IsStamped, IsVectorSpelled, IsRankSpelled, AreNamed, AreEntries, IsInodeBlock, IsRootBlock, most_bytes, most_levels, most_entries}
 use Rattle.snapshot_model.proofs.OneBlock.{AttributeParts, attribute_parts, of_attribute_parts, InodeParts, inode_parts, of_inode_parts, inode_parts_fit, root_parts, of_root_parts}
 use Rattle.snapshot_model.proofs.Decided.{Searches, ◌▸◌, among, by_parts, optionally, numbers_below, numbers_to, lists_up_to, bytes_up_to, AreUpTo, AreBelow, dec_both, dec_if, dec_not, dec_true, dec_each, dec_bytes, dec_contains, dec_below}
 
@@ -132,12 +132,12 @@ entry_within m (e ∷ es) h g = (((h.0.0.short, g.0), h.0.1), entry_within m es 
 
 -- the entries of a block, each name's bytes below a bound
 pub entries : (m : ℕ) → Searches (λ es. AreEntries es × AreNamesBelow m es)
-entries m = among (lists_up_to 32 (bytes_up_to m 255 ▸ keys)) told (λ es f. (f.0.few, entry_within m es f.0.each f.1))
+entries m = among (lists_up_to most_entries (bytes_up_to m 255 ▸ keys)) told (λ es f. (f.0.few, entry_within m es f.0.each f.1))
   where
     dec_entries : (es : List (List ℕ × Key)) → Dec (AreEntries es)
-    dec_entries es = map_dec {A = (((1 ≤ length es) × (length es ≤ 32)) × AllByRecursion IsEntry es) × IsTrue (is_sorted (slice_cmp nat_cmp) es)}
+    dec_entries es = map_dec {A = (((1 ≤ length es) × (length es ≤ most_entries)) × AllByRecursion IsEntry es) × IsTrue (is_sorted (slice_cmp nat_cmp) es)}
         (λ p. record { some = p.0.0.0; few = p.0.0.1; each = p.0.1; in_order = p.1 }) (λ f. (((f.some, f.few), f.each), f.in_order))
-        (dec_both (dec_both (dec_both (dec_le 1 (length es)) (dec_le (length es) 32)) (dec_each IsEntry dec_entry es)) (dec_true (is_sorted (slice_cmp nat_cmp) es)))
+        (dec_both (dec_both (dec_both (dec_le 1 (length es)) (dec_le (length es) most_entries)) (dec_each IsEntry dec_entry es)) (dec_true (is_sorted (slice_cmp nat_cmp) es)))
 
     told : (es : List (List ℕ × Key)) → Dec (AreEntries es × AreNamesBelow m es)
     told es = dec_both (dec_entries es) (dec_each (λ e. AreBelow m e.0) (λ e. dec_below m e.0) es)
@@ -158,7 +158,7 @@ dec_inode b = map_dec {A = IsInodeOf b} (λ p. record { number = p.0.0.0.0; attr
 
 -- whatever the kind is
 abbrev FitsAnyKind : ℕ → InodeParts → Type 0
-FitsAnyKind m p = (((((IsAny p.0.0.0.0.0.0 × IsKey p.0.0.0.0.0.1) × IsAny p.0.0.0.0.1) × AreAttributes p.0.0.0.1) × (p.0.0.1 ≤ 16777216)) × AreUpTo 1024 (λ b. b < m) p.0.1) × IsListed 3 p.1
+FitsAnyKind m p = (((((IsAny p.0.0.0.0.0.0 × IsKey p.0.0.0.0.0.1) × IsAny p.0.0.0.0.1) × AreAttributes p.0.0.0.1) × (p.0.0.1 ≤ longest_file)) × AreUpTo 1024 (λ b. b < m) p.0.1) × IsListed 3 p.1
 
 anything : Searches {A = Unit {0}} IsAny
 anything = record { search_for = find }
@@ -167,7 +167,7 @@ anything = record { search_for = find }
     find Q d = map_dec {A = Q tt} (λ q. (tt, tt, q)) (λ w. w.2) (d tt)
 
 any_kind : (m : ℕ) → Searches (λ (b : InodeBlock). FitsAnyKind m (inode_parts b))
-any_kind m = by_parts inode_parts of_inode_parts (λ b f. f) (λ p f. f) (λ b. refl) (anything ▸ keys ▸ kinds ▸ attributes ▸ numbers_to 16777216 ▸ bytes_up_to m 1024 ▸ lists 3)
+any_kind m = by_parts inode_parts of_inode_parts (λ b f. f) (λ p f. f) (λ b. refl) (anything ▸ keys ▸ kinds ▸ attributes ▸ numbers_to longest_file ▸ bytes_up_to m 1024 ▸ lists 3)
 
 -- what an inode's block says, its text's bytes below a bound
 pub inode_blocks : (m : ℕ) → Searches (λ b. IsInodeBlock b × AreBelow m b.target)

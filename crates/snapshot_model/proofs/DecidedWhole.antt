@@ -10,7 +10,7 @@ use Rattle.ivy_base.specs.declared.key.Key.{Key}
 use Rattle.ivy_base.specs.declared.operation.Kind.{Kind}
 use Rattle.ivy_base.specs.declared.operation.Kind.TheVariants.{Reg, Dir, Lnk}
 use Rattle.ivy_base.specs.Naming.{IsFileName, key_cmp, root_number}
-use Rattle.tree_model.specs.Tree.{Tree, Inode, Place, IsInOrder, place_cmp, same_key, inode_at, has_name, is_directory, is_inside, name_count, listing}
+use Rattle.tree_model.specs.Tree.{Tree, Inode, Place, IsInOrder, place_cmp, same_key, inode_at, has_name, is_directory, is_inside, name_count, listing, longest_file}
 use Rattle.tree_model.proofs.Keys.{same_key_itself}
 use Rattle.log_model.specs.Rank.{Rank}
 use Rattle.log_model.specs.Vector.{Vector}
@@ -18,7 +18,7 @@ use Rattle.log_model.specs.Spelling.{IsKey}
 use Rattle.log_model.proofs.Lists.{each_left, each_right, each_append}
 use Rattle.turn_model.specs.Basis.{Basis}
 use Rattle.wire_model.specs.Xdr.{IsAny}
-use Rattle.snapshot_model.specs.Blocks.{AreAttributes, IsVectorSpelled, IsRankSpelled}
+use Rattle.snapshot_model.specs.Blocks.{AreAttributes, IsVectorSpelled, IsRankSpelled, most_entries}
 use Rattle.snapshot_model.specs.Spelling.{Made, list_made, listed, list_of, named_by, in_pieces, piece_made, entries_made, items_of, size_of, target_of, inode_made, snapshot_named}
 use Rattle.snapshot_model.specs.Reading.{IsWholeTree, IsBodyOf, HasBounds, IsBasisSpelled, AreOf}
 use Rattle.snapshot_model.proofs.Pieces.{joined, join-in_pieces, few_pieces}
@@ -93,10 +93,10 @@ shows m Reg es body f few h t =
     let bytes = each_weaker (λ piece. EachOf (AreBelow m) (piece_made piece)) (AreBelow m) (λ piece g. g.0) (in_pieces 8192 body) (each_mapped (EachOf (AreBelow m)) piece_made (in_pieces 8192 body) each) in
     (of_pieces (λ b. b < m) 8192 body (omega arith) bytes, λ e. cc)
 shows m Dir es body f few h t =
-    let long = few_pieces (length es) 32 es 134217728 (omega (arith, few)) in
-    let each = of_listed (AreBelow m) 3 1 (map entries_made (in_pieces 32 es)) (omega (arith, length-map (in_pieces 32 es) entries_made, long)) h in
-    let names = each_weaker (λ part. EachOf (AreBelow m) (entries_made part)) (AreNamesBelow m) (λ part g. entries_in m part g.0) (in_pieces 32 es) (each_mapped (EachOf (AreBelow m)) entries_made (in_pieces 32 es) each) in
-    (subst (λ bytes. AreBelow m bytes) (sym f) tt, λ e. of_pieces (λ e. AreBelow m e.0) 32 es (omega arith) names)
+    let long = few_pieces (length es) most_entries es 134217728 (omega (arith, few)) in
+    let each = of_listed (AreBelow m) 3 1 (map entries_made (in_pieces most_entries es)) (omega (arith, length-map (in_pieces most_entries es) entries_made, long)) h in
+    let names = each_weaker (λ part. EachOf (AreBelow m) (entries_made part)) (AreNamesBelow m) (λ part g. entries_in m part g.0) (in_pieces most_entries es) (each_mapped (EachOf (AreBelow m)) entries_made (in_pieces most_entries es) each) in
+    (subst (λ bytes. AreBelow m bytes) (sym f) tt, λ e. of_pieces (λ e. AreBelow m e.0) most_entries es (omega arith) names)
 shows m Lnk es body f few h t = (t, λ e. cc)
 
 inode_shows : (m : ℕ) (t : Tree) (i : Key × Inode) → HasBounds i.1 → length (listing t i.0) ≤ 4294967296 → AllByRecursion (AreBelow m) (inode_made t i).reading
@@ -214,7 +214,7 @@ dec_tree t = map_dec {A = TreeParts t}
     (λ e. dec_if (dec_true (is_directory (inode_at t e.1))) (dec_not (dec_true (is_inside t e.0.0 e.1)))) t.names))
 
 dec_body : (kind : Kind) (body : List ℕ) → Dec (IsBodyOf kind body)
-dec_body Reg body = dec_le (length body) 16777216
+dec_body Reg body = dec_le (length body) longest_file
 dec_body Dir body = dec_bytes body []
 dec_body Lnk body = dec_target Lnk body
 
@@ -247,14 +247,14 @@ abbrev IsNameBelow : ℕ → Place × Key → Type 0
 IsNameBelow m e = (IsKey e.0.0 × AreUpTo 255 (λ b. b < m) e.0.1) × IsKey e.1
 
 abbrev IsInodeBelow : ℕ → Key × Inode → Type 0
-IsInodeBelow m i = IsKey i.0 × ((IsAny i.1.kind × AreAttributes i.1.attributes) × AreUpTo 16777216 (λ b. b < m) i.1.body)
+IsInodeBelow m i = IsKey i.0 × ((IsAny i.1.kind × AreAttributes i.1.attributes) × AreUpTo longest_file (λ b. b < m) i.1.body)
 
 names_below : (m : ℕ) → Searches (IsNameBelow m)
 names_below m = keys ▸ bytes_up_to m 255 ▸ keys
 
 inodes_below : (m : ℕ) → Searches (IsInodeBelow m)
 inodes_below m = keys ▸ by_parts (λ (i : Inode). ((i.kind, i.attributes), i.body)) (λ p. record { kind = p.0.0; attributes = p.0.1; body = p.1 }) (λ i f. f) (λ p f. f) (λ i. refl)
-    (kinds ▸ attributes ▸ bytes_up_to m 16777216)
+    (kinds ▸ attributes ▸ bytes_up_to m longest_file)
 
 abbrev BasisParts : Type 0
 BasisParts = ((Vector × Option Rank) × List (Place × Key)) × List (Key × Inode)
@@ -275,7 +275,7 @@ dec_is_below : (m : ℕ) (b : Basis) → Dec (IsBelow m b)
 dec_is_below m b = dec_both (dec_both (dec_both (dec_spelled b) (dec_le (length b.tree.names) 576460752303423488))
     (dec_each (λ (e : Place × Key). AreBelow m e.0.1) (λ e. dec_below m e.0.1) b.tree.names)) (dec_each (λ (i : Key × Inode). AreBelow m i.1.body) (λ i. dec_below m i.1.body) b.tree.inodes)
 
-short_body : (kind : Kind) (body : List ℕ) → IsBodyOf kind body → length body ≤ 16777216
+short_body : (kind : Kind) (body : List ℕ) → IsBodyOf kind body → length body ≤ longest_file
 short_body Reg body f = f
 short_body Dir body f = rw f (omega arith)
 short_body Lnk body f = let short = f.1 in omega arith

@@ -5,10 +5,10 @@ use Rattle.ivy_base.specs.declared.key.Key.{Key}
 use Rattle.ivy_base.specs.declared.operation.Kind.{Kind}
 use Rattle.ivy_base.specs.declared.operation.Kind.TheVariants.{Reg, Dir, Lnk}
 use Rattle.ivy_base.specs.Naming.{NamesTellApart}
-use Rattle.tree_model.specs.Tree.{Attributes, Inode}
+use Rattle.tree_model.specs.Tree.{Attributes, Inode, longest_file}
 use Rattle.wire_model.proofs.OneReading.{whole}
 use Rattle.log_model.specs.Spelling.{IsKey, IsTarget}
-use Rattle.snapshot_model.specs.Blocks.{InodeBlock, entries_block, IsEntry, IsInodeBlock, IsListed, most_bytes, most_levels}
+use Rattle.snapshot_model.specs.Blocks.{InodeBlock, entries_block, IsEntry, IsInodeBlock, IsListed, most_bytes, most_levels, most_entries}
 use Rattle.snapshot_model.specs.Spelling.{Made, list_of, named_by, in_pieces, piece_made, entries_made, items_of, size_of, target_of, inode_over}
 use Rattle.snapshot_model.specs.Reading.{IsBodyOf, HasBounds}
 use Rattle.snapshot_model.proofs.OneBlock.{one_of_entries, one_inode}
@@ -83,7 +83,7 @@ module _ (met : List (List ℕ)) (apart : NamesTellApart met) where
   one_piece : IsOneMade met apart (λ (bytes : List ℕ). Unit {0}) piece_made
   one_piece x y f g m n e = apart x y m.0 n.0 e
 
-  one_body : (b c : List ℕ) → length b ≤ 16777216 → length c ≤ 16777216 → AllMet met apart (readings (list_of (items_of [] b Reg)).1) → AllMet met apart (readings (list_of (items_of [] c Reg)).1)
+  one_body : (b c : List ℕ) → length b ≤ longest_file → length c ≤ longest_file → AllMet met apart (readings (list_of (items_of [] b Reg)).1) → AllMet met apart (readings (list_of (items_of [] c Reg)).1)
       → named_by (list_of (items_of [] b Reg)) ≡ named_by (list_of (items_of [] c Reg)) → b ≡ c
   one_body b c f g m n e =
       same_pieces 8192 b c (omega arith)
@@ -96,17 +96,17 @@ module _ (met : List (List ℕ)) (apart : NamesTellApart met) where
   one_entries : IsOneMade met apart AreFew entries_made
   one_entries x y f g m n e = whole one_of_entries x y f g (apart (entries_block x) (entries_block y) m.0 n.0 e)
 
-  few_each : (ess : List Entries) → AllByRecursion (λ es. length es ≤ 32) ess → AllByRecursion (AllByRecursion IsEntry) ess → AllByRecursion AreFew ess
+  few_each : (ess : List Entries) → AllByRecursion (λ es. length es ≤ most_entries) ess → AllByRecursion (AllByRecursion IsEntry) ess → AllByRecursion AreFew ess
   few_each [] h g = tt
   few_each (es ∷ ess) h g = ((omega (arith, h.0), g.0), few_each ess h.1 g.1)
 
   one_directory : (es fs : Entries) → FitEntries Dir es → FitEntries Dir fs → AllMet met apart (readings (list_of (items_of es [] Dir)).1) → AllMet met apart (readings (list_of (items_of fs [] Dir)).1)
       → named_by (list_of (items_of es [] Dir)) ≡ named_by (list_of (items_of fs [] Dir)) → es ≡ fs
   one_directory es fs f g m n e =
-      same_pieces 32 es fs (omega arith)
-      (one_listed_made met apart 3 1 AreFew entries_made (omega arith) one_entries (in_pieces 32 es) (in_pieces 32 fs)
-      (few_each (in_pieces 32 es) (short_pieces (length es) 32 es) (each_joined IsEntry (length es) 32 es f.0)) (few_each (in_pieces 32 fs) (short_pieces (length fs) 32 fs) (each_joined IsEntry (length fs) 32 fs g.0))
-      (omega (arith, few_pieces (length es) 32 es 134217728 (omega (arith, f.1)))) (omega (arith, few_pieces (length fs) 32 fs 134217728 (omega (arith, g.1)))) m n e)
+      same_pieces most_entries es fs (omega arith)
+      (one_listed_made met apart 3 1 AreFew entries_made (omega arith) one_entries (in_pieces most_entries es) (in_pieces most_entries fs)
+      (few_each (in_pieces most_entries es) (short_pieces (length es) most_entries es) (each_joined IsEntry (length es) most_entries es f.0)) (few_each (in_pieces most_entries fs) (short_pieces (length fs) most_entries fs) (each_joined IsEntry (length fs) most_entries fs g.0))
+      (omega (arith, few_pieces (length es) most_entries es 134217728 (omega (arith, f.1)))) (omega (arith, few_pieces (length fs) most_entries fs 134217728 (omega (arith, g.1)))) m n e)
 
   -- ---- inodes
 

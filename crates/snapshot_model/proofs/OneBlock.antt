@@ -1,19 +1,19 @@
 -- Each part of a snapshot's block is of one reading, and so is the block.
-use Rattle.std.proofs.Common.{ℕ, ◌^◌, ◌<◌, ◌≤◌, List, [], ◌∷◌, length, Option, refl, ap, arith}
+use Rattle.std.proofs.Common.{ℕ, ◌^◌, ◌<◌, ◌≤◌, List, length, Option, refl, ap, arith}
 use Rattle.std.specs.Prelude.{IfSome}
 use Rattle.std.specs.List.{AllByRecursion}
 use Rattle.ivy_base.specs.declared.key.Key.{Key}
 use Rattle.ivy_base.specs.declared.operation.Kind.{Kind}
 use Rattle.ivy_base.specs.declared.operation.Kind.TheVariants.{Reg, Dir, Lnk}
 use Rattle.ivy_base.specs.declared.operation.Moment.{Moment}
-use Rattle.tree_model.specs.Tree.{Attributes}
+use Rattle.tree_model.specs.Tree.{Attributes, longest_file}
 use Rattle.wire_model.specs.Xdr.{optional, array}
 use Rattle.wire_model.specs.OneReading.{ReadsOne}
 use Rattle.wire_model.proofs.OneReading.{◌▷◌, always, of_fewer, of_parts, one_word, one_double_word, one_short_opaque, one_optional, one_array}
 use Rattle.log_model.specs.Rank.{Rank}
 use Rattle.log_model.specs.Vector.{Entry, Vector}
 use Rattle.log_model.specs.Spelling.{IsKey, IsTarget, vector_entry}
-use Rattle.snapshot_model.specs.Blocks.{Listed, InodeBlock, RootBlock, listed_bytes, attributes_bytes, rank_bytes, entry_bytes, list_block, entries_block, inode_block, root_block, IsListed, AreAttributes, IsEntry, IsStamped, IsVectorSpelled, IsRankSpelled, AreNamed, AreEntries, IsInodeBlock, IsRootBlock, most_bytes, most_levels}
+use Rattle.snapshot_model.specs.Blocks.{Listed, InodeBlock, RootBlock, listed_bytes, attributes_bytes, rank_bytes, entry_bytes, list_block, entries_block, inode_block, root_block, IsListed, AreAttributes, IsEntry, IsStamped, IsVectorSpelled, IsRankSpelled, AreNamed, AreEntries, IsInodeBlock, IsRootBlock, most_bytes, most_levels, entries_tag, inode_tag, root_tag}
 use Rattle.block_parts.specs.Parts.{key_bytes}
 use Rattle.block_parts.proofs.OneParts.{one_block, one_key, one_at_most, one_time, one_kind, one_name, one_size}
 use Rattle.snapshot_model.specs.Parts.{list_tag, HasInodeParts, FitsKind}
@@ -49,9 +49,6 @@ one_list level = of_parts (λ (keys : List Key). (tt, keys)) (λ keys f. (tt, (o
 
 -- ---- entries
 
-abbrev pub entries_tag : List ℕ
-entries_tag = 73 ∷ 86 ∷ 69 ∷ 49 ∷ []
-
 pub one_entry : ReadsOne IsEntry entry_bytes
 one_entry = one_name ▷ one_key
 
@@ -66,9 +63,6 @@ one_entries = of_fewer (λ entries f. (omega (arith, f.few), f.each)) one_of_ent
 
 -- ---- inodes
 
-abbrev pub inode_tag : List ℕ
-inode_tag = 73 ∷ 86 ∷ 73 ∷ 49 ∷ []
-
 abbrev pub InodeParts : Type 0
 InodeParts = (((((Unit {0} × Key) × Kind) × Attributes) × ℕ) × List ℕ) × Listed
 
@@ -78,7 +72,7 @@ inode_parts b = ((((((tt, b.number), b.kind), b.attributes), b.size), b.target),
 abbrev pub of_inode_parts : InodeParts → InodeBlock
 of_inode_parts p = record { number = p.0.0.0.0.0.1; kind = p.0.0.0.0.1; attributes = p.0.0.0.1; size = p.0.0.1; target = p.0.1; items = p.1 }
 
-size_fits : (kind : Kind) (n : ℕ) → n ≤ most_bytes kind → n ≤ 16777216
+size_fits : (kind : Kind) (n : ℕ) → n ≤ most_bytes kind → n ≤ longest_file
 size_fits Reg n h = h
 size_fits Dir n h = omega (arith, h)
 size_fits Lnk n h = omega (arith, h)
@@ -119,9 +113,6 @@ pub one_inode : ReadsOne IsInodeBlock inode_block
 one_inode = of_fewer inode_parts_fit one_of_inode_parts
 
 -- ---- the root
-
-abbrev pub root_tag : List ℕ
-root_tag = 73 ∷ 86 ∷ 83 ∷ 49 ∷ []
 
 pub one_stamped : ReadsOne IsStamped vector_entry
 one_stamped = of_parts (λ (e : Entry). ((e.0, e.1.seq), e.1.name)) (λ e f. ((f.0, f.2), f.3)) (λ e. refl)

@@ -1,5 +1,5 @@
 -- The blocks of a snapshot one by one: what each says, how it is spelled, and within which bounds (this project's own form; numbers and opaque data as in XDR).
-use Rattle.std.specs.Prelude.{◌≡◌, ℕ, ◌<◌, ◌≤◌, IsTrue, List, ◌∷◌, ◌++◌, length, Option, IfSome}
+use Rattle.std.specs.Prelude.{◌≡◌, ℕ, ◌<◌, ◌≤◌, IsTrue, List, ◌∷◌, ◌++◌, length, Option, IfSome, []}
 use Rattle.std.specs.List.{AllByRecursion}
 use Rattle.std.specs.Cmp.Lexicographic.{slice_cmp}
 use Rattle.std.specs.Ordering.{nat_cmp}
@@ -8,7 +8,7 @@ use Rattle.ivy_base.specs.declared.key.Key.{Key}
 use Rattle.ivy_base.specs.declared.operation.Kind.{Kind}
 use Rattle.ivy_base.specs.declared.operation.Kind.TheVariants.{Reg, Dir, Lnk}
 use Rattle.ivy_base.specs.Naming.{IsFileName, key_cmp}
-use Rattle.tree_model.specs.Tree.{Attributes}
+use Rattle.tree_model.specs.Tree.{Attributes, longest_file}
 use Rattle.wire_model.specs.Xdr.{word, double_word, opaque, optional, array, moment}
 use Rattle.log_model.specs.Rank.{Rank}
 use Rattle.log_model.specs.Spelling.{IsBlock, IsKey, IsMode, IsMoment, IsTarget, kind_number, no_name, vector_entry}
@@ -52,22 +52,35 @@ rank_bytes r = double_word r.weight ++ r.owner.0 ++ word r.seq
 abbrev pub entry_bytes : List ℕ × Key → List ℕ
 entry_bytes e = opaque e.0 ++ e.1.0
 
--- "IVL1", the level, and the names of blocks
+-- "IVL1", "IVE1", "IVI1" and "IVS1"
+abbrev pub names_tag : List ℕ
+names_tag = 73 ∷ 86 ∷ 76 ∷ 49 ∷ []
+
+abbrev pub entries_tag : List ℕ
+entries_tag = 73 ∷ 86 ∷ 69 ∷ 49 ∷ []
+
+abbrev pub inode_tag : List ℕ
+inode_tag = 73 ∷ 86 ∷ 73 ∷ 49 ∷ []
+
+abbrev pub root_tag : List ℕ
+root_tag = 73 ∷ 86 ∷ 83 ∷ 49 ∷ []
+
+-- the tag, the level, and the names of blocks
 abbrev pub list_block : ℕ → List Key → List ℕ
-list_block level keys = 73 ∷ 86 ∷ 76 ∷ 49 ∷ word level ++ array (λ k. k.0) keys
+list_block level keys = names_tag ++ word level ++ array (λ k. k.0) keys
 
--- "IVE1", and some entries of a directory
+-- the tag, and some entries of a directory
 abbrev pub entries_block : List (List ℕ × Key) → List ℕ
-entries_block entries = 73 ∷ 86 ∷ 69 ∷ 49 ∷ array entry_bytes entries
+entries_block entries = entries_tag ++ array entry_bytes entries
 
--- "IVI1", and the parts
+-- the tag, and the parts
 abbrev pub inode_block : InodeBlock → List ℕ
 inode_block b =
-    73 ∷ 86 ∷ 73 ∷ 49 ∷ b.number.0 ++ word (kind_number b.kind) ++ attributes_bytes b.attributes ++ double_word b.size ++ opaque b.target ++ listed_bytes b.items
+    inode_tag ++ b.number.0 ++ word (kind_number b.kind) ++ attributes_bytes b.attributes ++ double_word b.size ++ opaque b.target ++ listed_bytes b.items
 
--- "IVS1", and the parts
+-- the tag, and the parts
 abbrev pub root_block : RootBlock → List ℕ
-root_block b = 73 ∷ 86 ∷ 83 ∷ 49 ∷ b.view.0 ++ array vector_entry b.front ++ optional rank_bytes b.tide ++ listed_bytes b.inodes
+root_block b = root_tag ++ b.view.0 ++ array vector_entry b.front ++ optional rank_bytes b.tide ++ listed_bytes b.inodes
 
 -- ---- bounds
 
@@ -108,7 +121,7 @@ pub record IsRankSpelled (r : Rank) : Type 0 where
 
 -- a file's size; of others it isn't told
 abbrev pub most_bytes : Kind → ℕ
-most_bytes Reg = 16777216
+most_bytes Reg = longest_file
 most_bytes Dir = 0
 most_bytes Lnk = 0
 
@@ -126,9 +139,13 @@ pub record AreNamed (keys : List Key) : Type 0 where
   pub few : length keys ≤ 512
   pub each : AllByRecursion IsKey keys
 
+-- a block has so many entries of a directory at most
+abbrev pub most_entries : ℕ
+most_entries = 32
+
 pub record AreEntries (entries : List (List ℕ × Key)) : Type 0 where
   pub some : 1 ≤ length entries
-  pub few : length entries ≤ 32
+  pub few : length entries ≤ most_entries
   pub each : AllByRecursion IsEntry entries
   pub in_order : Ascend entries
 

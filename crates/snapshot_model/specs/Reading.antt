@@ -5,7 +5,7 @@ use Rattle.ivy_base.specs.declared.key.Key.{Key}
 use Rattle.ivy_base.specs.declared.operation.Kind.{Kind}
 use Rattle.ivy_base.specs.declared.operation.Kind.TheVariants.{Reg, Dir, Lnk}
 use Rattle.ivy_base.specs.Naming.{IsFileName, root_number}
-use Rattle.tree_model.specs.Tree.{Tree, IsInOrder, Inode, inode_at, has_name, is_directory, is_inside, name_count, listing}
+use Rattle.tree_model.specs.Tree.{Tree, IsInOrder, Inode, inode_at, has_name, is_directory, is_inside, name_count, listing, longest_file}
 use Rattle.log_model.specs.Spelling.{IsKey, IsTarget}
 use Rattle.turn_model.specs.Basis.{Basis}
 use Rattle.snapshot_model.specs.Blocks.{InodeBlock, RootBlock, list_block, entries_block, inode_block, root_block, AreAttributes, IsVectorSpelled, IsRankSpelled, IsPiece, AreNamed, AreEntries, IsInodeBlock, IsRootBlock, Says}
@@ -60,7 +60,7 @@ pub record IsWholeTree (t : Tree) : Type 0 where
 
 -- the contents are of that kind: a file's bytes, a link's target, and nothing of a directory
 abbrev pub IsBodyOf : Kind → List ℕ → Type 0
-IsBodyOf Reg body = length body ≤ 16777216
+IsBodyOf Reg body = length body ≤ longest_file
 IsBodyOf Dir body = body ≡ []
 IsBodyOf Lnk body = IsTarget Lnk body
 

@@ -10,7 +10,7 @@ use Rattle.tree_model.specs.Tree.{Tree, Inode, listing}
 use Rattle.log_model.specs.Spelling.{no_name}
 use Rattle.log_model.specs.View.{View, view_name}
 use Rattle.turn_model.specs.Basis.{Basis}
-use Rattle.snapshot_model.specs.Blocks.{Listed, list_block, entries_block, inode_block, root_block}
+use Rattle.snapshot_model.specs.Blocks.{Listed, list_block, entries_block, inode_block, root_block, most_entries}
 
 -- ---- blocks over blocks
 
@@ -68,7 +68,7 @@ entries_made entries = over (entries_block entries) []
 -- an inode's body and a directory's entries, in pieces
 abbrev pub items_of : List (List ℕ × Key) → List ℕ → Kind → List Made
 items_of entries body Reg = map piece_made (in_pieces 8192 body)
-items_of entries body Dir = map entries_made (in_pieces 32 entries)
+items_of entries body Dir = map entries_made (in_pieces most_entries entries)
 items_of entries body Lnk = []
 
 abbrev pub size_of : List ℕ → Kind → ℕ

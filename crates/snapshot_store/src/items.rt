@@ -1,8 +1,8 @@
 //! What inodes contain: pieces of files and entries of directories, each with the list over them.
 
 ghost use Rattle.std.specs.Prelude.{◌≡◌, ◌≤◌, length, map, IfOk};
-ghost use Rattle.tree_model.specs.Tree.{listing};
-ghost use Rattle.snapshot_model.specs.Blocks.{entries_block};
+ghost use Rattle.tree_model.specs.Tree.{listing, longest_file};
+ghost use Rattle.snapshot_model.specs.Blocks.{entries_block, most_entries};
 ghost use Rattle.snapshot_model.specs.Reading.{HasBounds};
 ghost use Rattle.snapshot_model.specs.Spelling.{entries_made, in_pieces, items_of, piece_made};
 ghost use Rattle.snapshot_store.specs.Puts.{PutsList};
@@ -19,7 +19,7 @@ use std::alloc::Global;
 const PIECE: u32 = 8192;
 
 /// How many entries a block has, but for the last one of a directory.
-const MOST_ENTRIES: usize = 32;
+const MOST_ENTRIES: usize = snapshot_blocks::MOST_ENTRIES as usize;
 
 /// Puts what the inode of that number contains, and the list over it. The error is want of memory.
 pub fn put_items(
@@ -45,7 +45,7 @@ pub fn put_items(
 
 /// Puts the pieces of a file, and the list over them. The error is want of memory.
 fn put_pieces(alloc: Global, blocks: &mut Blocks, file: &Content) -> Result<Listed, Memory>
-    requires { length file.now.inode.body ≤ 16777216 }
+    requires { length file.now.inode.body ≤ longest_file }
     ensures { IfOk result (PutsList blocks.old (map piece_made (in_pieces 8192 file.now.inode.body)) blocks.new) }
 {
     let mut levels = Levels::new(alloc);
@@ -67,7 +67,7 @@ fn put_entries(
     entries: &[(Bytes, Key)],
 ) -> Result<Listed, Memory>
     requires { length entries.now ≤ 4294967296 }
-    ensures { IfOk result (PutsList blocks.old (map entries_made (in_pieces 32 entries.now)) blocks.new) }
+    ensures { IfOk result (PutsList blocks.old (map entries_made (in_pieces most_entries entries.now)) blocks.new) }
 {
     let mut levels = Levels::new(alloc);
     'entries: for some in entries.chunks(MOST_ENTRIES) {
@@ -80,7 +80,7 @@ fn put_entries(
 
 /// The block of these entries. The error is want of memory.
 fn block_of(alloc: Global, entries: &[(Bytes, Key)]) -> Result<Bytes, Memory>
-    requires { length entries.now ≤ 32 }
+    requires { length entries.now ≤ most_entries }
     ensures { IfOk result (λ block. block ≡ entries_block entries.now) }
 {
     let mut lent = Vec::with_capacity(alloc, entries.len())?;

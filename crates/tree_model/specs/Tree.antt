@@ -26,6 +26,10 @@ pub record Inode : Type 0 where
   pub attributes : Attributes
   pub body : List ℕ
 
+-- the most bytes of a file
+abbrev pub longest_file : ℕ
+longest_file = 16777216
+
 -- a directory, and a name in it
 abbrev pub Place : Type 0
 Place = Key × List ℕ

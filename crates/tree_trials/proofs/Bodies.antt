@@ -10,7 +10,7 @@ use Rattle.ivy_base.specs.declared.operation.Moment.{Moment}
 use Rattle.ivy_base.specs.declared.operation.Op.{Op}
 use Rattle.ivy_base.specs.declared.operation.Op.TheVariants as op
 use Rattle.ivy_base.specs.Naming.{root_number}
-use Rattle.tree_model.specs.Tree.{Tree, Inode, entry, file_kind, inode_at, is_file, same_key}
+use Rattle.tree_model.specs.Tree.{Tree, Inode, entry, file_kind, inode_at, is_file, same_key, longest_file}
 use Rattle.tree_model.specs.Apply.{apply, apply_all, at_inode, empty_tree, may_link, may_rename, move, overwritten, resized, set_attributes, touched, with_name, without_name}
 use Rattle.tree_model.proofs.Sound.{not_false}
 use Rattle.log_model.specs.Spelling.{IsMoment, IsTarget, OperationFits}
@@ -29,12 +29,12 @@ target_body Reg target fits = let none : target ≡ [] = fits in rw none (omega 
 target_body Dir target fits = fits
 target_body Lnk target fits = fits
 
-file_body : (kind : Kind) (body : List ℕ) → file_kind kind ≡ true → length body ≤ 16777216 → IsBodyOf kind body
+file_body : (kind : Kind) (body : List ℕ) → file_kind kind ≡ true → length body ≤ longest_file → IsBodyOf kind body
 file_body Reg body file few = few
 file_body Dir body file few = cc file
 file_body Lnk body file few = cc file
 
-short_body : (kind : Kind) (body : List ℕ) → file_kind kind ≡ true → IsBodyOf kind body → length body ≤ 16777216
+short_body : (kind : Kind) (body : List ℕ) → file_kind kind ≡ true → IsBodyOf kind body → length body ≤ longest_file
 short_body Reg body file f = f
 short_body Dir body file f = cc file
 short_body Lnk body file f = cc file
@@ -56,7 +56,7 @@ bodied_move t now dir name to_dir to_name None h = h
 bodied_move t now dir name to_dir to_name (Some moved) h =
     inodes_if IsBodied (may_rename t moved to_dir to_name) _ t (λ may. bodied_touched now to_dir _ (bodied_touched now dir (with_name (without_name t dir name) to_dir to_name moved) h)) (λ no. h)
 
-bodied_attributes : (t : Tree) (now : Moment) (number : Key) (change : Change) (size : Option ℕ) → change.size ≡ size → IfSome size (λ n. n ≤ 16777216) → AreBodied t
+bodied_attributes : (t : Tree) (now : Moment) (number : Key) (change : Change) (size : Option ℕ) → change.size ≡ size → IfSome size (λ n. n ≤ longest_file) → AreBodied t
     → (is_some size && not (is_file (inode_at t number))) ≡ false → AreBodied (at_inode t number (set_attributes now change))
 bodied_attributes t now number change None e few h free = inodes_at IsBodied t number (set_attributes now change) h (λ i at g.
     subst (λ (o : Option ℕ). IsBodyOf i.kind (resized (unwrap_or o (length i.body)) i.body)) (sym e) (same_size i.kind i.body g))

@@ -1,15 +1,14 @@
 //! Lines, which are read word by word, and what is answered to them.
 
 ghost use Rattle.std.specs.Prelude.{◌≤◌, length};
+ghost use Rattle.tree_model.specs.Tree.{longest_file};
 
 use crate::inodes::{HIGHEST, key, made_by};
 use crate::text::Text;
+use block_parts::LONGEST_FILE;
 use fs_tree::ROOT;
 use ivy_base::{Bytes, Key, Kind, Moment};
 use std::alloc::Global;
-
-/// Where a file's bytes end at most.
-pub const MOST_BYTES: u64 = 16_777_216;
 
 /// A line, whose words are taken from the front, and its answer. A word that lacks or isn't what was asked for is noted as a
 /// failure, and so is whatever else can't be answered; then something harmless is given in its place. So nothing that is read has
@@ -154,10 +153,10 @@ impl<'a> Line<'a> {
 
     /// The size of a file that the next word is.
     pub fn size(&mut self) -> u64
-        ensures { result ≤ 16777216 }
+        ensures { result ≤ longest_file }
     {
         let size = self.number();
-        if size > MOST_BYTES {
+        if size > LONGEST_FILE {
             self.fail();
             return 0;
         }

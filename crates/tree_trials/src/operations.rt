@@ -2,8 +2,10 @@
 
 ghost use Rattle.std.specs.Prelude.{◌≤◌, IfSome};
 ghost use Rattle.fs_tree.specs.Applicable.{IsApplicable};
+ghost use Rattle.tree_model.specs.Tree.{longest_file};
 
-use crate::lines::{Line, MOST_BYTES};
+use crate::lines::Line;
+use block_parts::LONGEST_FILE;
 use ivy_base::{Bytes, Change, Key, Kind, Moment, Op};
 
 /// Makes an inode.
@@ -25,7 +27,7 @@ fn inode(line: &mut Line<'_>) -> Op
 {
     let ino = line.inode();
     let kind = line.kind();
-    made(ino, kind, line.bytes(MOST_BYTES))
+    made(ino, kind, line.bytes(LONGEST_FILE))
 }
 
 /// Bytes that are written, which end within a file's limit.
@@ -34,7 +36,7 @@ fn write(line: &mut Line<'_>) -> Op
 {
     let ino = line.inode();
     let offset = line.size();
-    let bytes = line.bytes(MOST_BYTES - offset);
+    let bytes = line.bytes(LONGEST_FILE - offset);
     Op::Write { ino, offset, bytes }
 }
 
@@ -52,7 +54,7 @@ fn number_of(line: &mut Line<'_>, name: &str, radix: u32) -> Option<u32>
 
 /// A size within a file's limit, where the line goes on with one.
 fn size(line: &mut Line<'_>) -> Option<u64>
-    ensures { IfSome result (λ size. size ≤ 16777216) }
+    ensures { IfSome result (λ size. size ≤ longest_file) }
 {
     if line.takes("size=") {
         Some(line.size())

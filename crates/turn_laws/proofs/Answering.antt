@@ -20,7 +20,7 @@ use Rattle.log_model.specs.Rank.{front}
 use Rattle.log_model.specs.Record.{Heading, Record}
 use Rattle.log_model.specs.Replay.{effect, replay}
 use Rattle.log_model.specs.Spelling.{IsMoment, new_record, no_name}
-use Rattle.log_model.specs.Vector.{Stamp, Vector, reach, seq_of, stamp_at}
+use Rattle.log_model.specs.Vector.{Vector, reach, seq_of, stamp_at}
 use Rattle.log_model.specs.View.{View, IsView}
 use Rattle.log_model.proofs.Later.{EndsWith, apply_more, good_of, replay_more}
 use Rattle.log_model.proofs.Lists.{each_from, each}
@@ -37,9 +37,9 @@ use Rattle.turn_laws.proofs.Starts.{ends_with, own_stamp}
 use Rattle.turn_laws.proofs.Turns.{appended_closed, closed_makes_keys}
 use Rattle.log_model.specs.Signing.{Signing}
 use Rattle.agent_model.specs.Agent.{Agent, joined, own, own_reach}
-use Rattle.agent_model.specs.Candidates.{MayTurn}
-use Rattle.agent_model.specs.Standing.{Refresh, Standing, going_on}
-use Rattle.agent_model.specs.Taking.{TakesNew, with_new}
+use Rattle.agent_model.specs.Candidates.{Grounds, MayTurn}
+use Rattle.agent_model.specs.Standing.{Refresh, going_on}
+use Rattle.turn_laws.specs.Taking.{TakesNew, with_new}
 use Rattle.agent_model.specs.Turning.{AreNext, IsByDefinition, IsTurnBy, IsTurnOf, inputs, inputs_before, with_held}
 use Rattle.turn_laws.specs.Laws.{IsTakenBy}
 use Rattle.turn_laws.proofs.Fronts.{front_is_joined, reach_of_log}
@@ -128,9 +128,9 @@ module _ {S : Type 0} (signs : Signing S) (a : Agent S) (view : View) (brought :
 
   -- ---- whatever the agent may know
 
-  module _ (heads : Key → List Stamp) (met : List (List ℕ)) (s : Standing) (knew known : List Record) (apart : NamesTellApart met) (knows : Knows view a.floor a.holding known) (may : MayTurn heads met view mine s knew known brought) where
-    pub its : (taken : List Record) × IsTakenBy heads met view s knew known brought.started held taken
-    its = (_, is_taken heads met view mine a.floor a.holding (going_on a brought.basis) s knew known brought apart well knows (going_is_gone_on a brought.basis) may takes.caught_up takes.above new takes.part)
+  module _ (grounds : Grounds) (known : List Record) (apart : NamesTellApart grounds.met) (knows : Knows view a.floor a.holding known) (may : MayTurn grounds view mine known brought) where
+    pub its : (taken : List Record) × IsTakenBy (record { grounds = grounds; started = brought.started }) view known held taken
+    its = (_, is_taken grounds view mine a.floor a.holding (going_on a brought.basis) known brought apart well knows (going_is_gone_on a brought.basis) may takes.caught_up takes.above new takes.part)
 
     abbrev taken : List Record
     taken = its.0
@@ -148,13 +148,13 @@ module _ {S : Type 0} (signs : Signing S) (a : Agent S) (view : View) (brought :
     on = (sym tree_is, ap (λ (f : Vector). seq_of f (head_key_of mine)) front_is)
 
     pub far_is : far ≡ own_reach signs a
-    far_is = ap reach (own_ends heads met view mine a.floor a.holding (going_on a brought.basis) s knew known brought apart well knows (going_is_gone_on a brought.basis) may takes.caught_up takes.above new takes.part member)
+    far_is = ap reach (own_ends grounds view mine a.floor a.holding (going_on a brought.basis) known brought apart well knows (going_is_gone_on a brought.basis) may takes.caught_up takes.above new takes.part member)
 
-    turn_by : (fails : Bool) (turned : Turned) → turned ≡ turn_on (inputs signs a view fails) taken asked now → IsTurnBy signs (record { heads = heads; met = met; standing = s; knew = knew; started = brought.started }) (record { agent = a; view = view; now = now; fails = fails }) known asked taken turned
+    turn_by : (fails : Bool) (turned : Turned) → turned ≡ turn_on (inputs signs a view fails) taken asked now → IsTurnBy signs (record { grounds = grounds; started = brought.started }) (record { agent = a; view = view; now = now; fails = fails }) known asked taken turned
     turn_by fails turned is = record { candidates = its.1.candidates; of_heads = its.1.of_heads; largest = its.1.largest; by_set = is }
 
     of_replies : (reply : Reply) → ((failing : Bool) → (a.has_failed ≡ true → failing ≡ true) → (t : List Record) → On t → turn_on (failing_by failing) t asked now ≡ still reply t)
-        → (fails : Bool) → IsTurnOf signs (record { heads = heads; met = met; standing = s; knew = knew; started = brought.started }) (record { agent = a; view = view; now = now; fails = fails }) known asked held [] reply
+        → (fails : Bool) → IsTurnOf signs (record { grounds = grounds; started = brought.started }) (record { agent = a; view = view; now = now; fails = fails }) known asked held [] reply
     of_replies reply law fails = record {
       taken = taken;
       turned = still reply taken;
@@ -214,7 +214,7 @@ module _ {S : Type 0} (signs : Signing S) (a : Agent S) (view : View) (brought :
         writes_so : taken ++ written ops ≡ (turn_on (inputs_before signs a view) taken asked now).set
         writes_so = sym appended_is ∙ ap (λ (t : Turned). t.set) (sym before_is)
 
-        of_saved : IsTurnOf signs (record { heads = heads; met = met; standing = s; knew = knew; started = brought.started }) (record { agent = a; view = view; now = now; fails = false }) known asked held (written ops) (written_reply ops)
+        of_saved : IsTurnOf signs (record { grounds = grounds; started = brought.started }) (record { agent = a; view = view; now = now; fails = false }) known asked held (written ops) (written_reply ops)
         of_saved = record {
           taken = taken;
           turned = with_more ops taken;
@@ -224,7 +224,7 @@ module _ {S : Type 0} (signs : Signing S) (a : Agent S) (view : View) (brought :
           holds = its.1.holds;
         }
 
-        of_lost : IsTurnOf signs (record { heads = heads; met = met; standing = s; knew = knew; started = brought.started }) (record { agent = a; view = view; now = now; fails = true }) known asked held (written ops) lost_reply
+        of_lost : IsTurnOf signs (record { grounds = grounds; started = brought.started }) (record { agent = a; view = view; now = now; fails = true }) known asked held (written ops) lost_reply
         of_lost = record {
           taken = taken;
           turned = still lost_reply taken;
@@ -238,12 +238,12 @@ module _ {S : Type 0} (signs : Signing S) (a : Agent S) (view : View) (brought :
 
   pub replies_so : (reply : Reply) → ((failing : Bool) → (a.has_failed ≡ true → failing ≡ true) → (t : List Record) → On t → turn_on (failing_by failing) t asked now ≡ still reply t)
       → (fails : Bool) → IsByDefinition signs brought (record { agent = a; view = view; now = now; fails = fails }) asked held [] reply
-  replies_so reply law fails heads met s knew known apart knows may = of_replies heads met s knew known apart knows may reply law fails
+  replies_so reply law fails grounds known apart knows may = of_replies grounds known apart knows may reply law fails
 
   module _ (begun : 1 ≤ own_reach signs a) (caller : IsIdentity asked.caller) (fits : ArgumentsFit asked.args) (moment : IsMoment now) (ops : List Op) (appends : Appends ops)
       (saved : (t : List Record) → On t → turn_on (failing_by false) t asked now ≡ with_more ops t) (lost : (t : List Record) → On t → turn_on (failing_by true) t asked now ≡ still lost_reply t) where
     pub saved_so : IsByDefinition signs brought (record { agent = a; view = view; now = now; fails = false }) asked held (written ops) (written_reply ops)
-    saved_so heads met s knew known apart knows may = of_saved heads met s knew known apart knows may begun caller fits moment ops appends saved lost
+    saved_so grounds known apart knows may = of_saved grounds known apart knows may begun caller fits moment ops appends saved lost
 
     pub lost_so : IsByDefinition signs brought (record { agent = a; view = view; now = now; fails = true }) asked held (written ops) lost_reply
-    lost_so heads met s knew known apart knows may = of_lost heads met s knew known apart knows may begun caller fits moment ops appends saved lost
+    lost_so grounds known apart knows may = of_lost grounds known apart knows may begun caller fits moment ops appends saved lost

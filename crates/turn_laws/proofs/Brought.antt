@@ -1,7 +1,6 @@
 -- Of each member's log a candidate, and what of it was brought.
 use Rattle.std.proofs.Common.{◌≡◌, ◌⊎◌, inl, inr, ⊎_elim, ℕ, List, [], ◌∷◌, map, Some, refl, sym, ap, ◌∙◌, subst, Contains, Option, None}
 use Rattle.std.specs.List.{AllByRecursion}
-use Rattle.ivy_base.specs.declared.key.Key.{Key}
 use Rattle.ivy_base.specs.declared.key.PubKey.{PubKey}
 use Rattle.ivy_base.specs.Naming.{head_key_of}
 use Rattle.log_model.specs.View.{View}
@@ -15,10 +14,9 @@ use Rattle.turn_model.specs.Candidates.{IsPassedOver, MakeChain}
 use Rattle.turn_model.specs.Known.{EndsAt, IsKnown}
 use Rattle.turn_model.specs.Turn.{Candidate}
 use Rattle.turn_laws.proofs.OneCandidate as one
-use Rattle.agent_model.specs.Standing.{Standing, Chain, Refresh}
-use Rattle.agent_model.specs.Candidates.{IsCandidateOf, misled, by_heads, records_above, BringsOf, candidate, misleading, nothing}
-use Rattle.log_records.specs.declared.edge.Edge.{Edge}
-use Rattle.log_records.specs.Batches.{GoesOnFrom, stamp_in}
+use Rattle.agent_model.specs.Standing.{Chain, Refresh}
+use Rattle.agent_model.specs.Candidates.{Grounds, IsCandidateOf, evidence_in, reading_in, misled, by_heads, records_above, BringsOf, candidate, misleading, nothing}
+use Rattle.log_model.specs.Fetched.{Edge, GoesOnFrom, stamp_in}
 use Rattle.turn_laws.proofs.Fronts.{from_log}
 use Rattle.turn_laws.proofs.Rows.{is_above, chain_row, ends_above, IsRow, row_above}
 
@@ -28,7 +26,7 @@ pub record IsOfHead (met : List (List ℕ)) (view : View) (own : PubKey) (floor 
   pub head : Stamp
   pub stand : Stand met records
   pub ends : (r : Record) → Contains records r → EndsAt (Some head) records
-  pub makes : IsPassedOver met view owner floor head ⊎ MakeChain met view owner floor head chain
+  pub makes : IsPassedOver (record { blocks = met; view = view; floor = floor }) owner head ⊎ MakeChain (record { blocks = met; view = view; floor = floor }) owner head chain
 
 -- the candidate is a chain of another's log, and its records above what the refresh started from were brought
 pub record IsBrought (view : View) (own : PubKey) (brought : Refresh) (owner : PubKey) (chain : List Record) : Type 0 where
@@ -39,42 +37,42 @@ pub record IsBrought (view : View) (own : PubKey) (brought : Refresh) (owner : P
   pub above : carried.records ≡ records_above brought.started owner chain
   pub chain_of_log : IsChain view owner chain
 
-module _ (heads : Key → List Stamp) (met : List (List ℕ)) (view : View) (own : PubKey) (s : Standing) (knew known : List Record) (brought : Refresh) where
+module _ (grounds : Grounds) (view : View) (own : PubKey) (known : List Record) (brought : Refresh) where
   abbrev pub AreKnown : List Record → Type 0
   AreKnown records = (r : Record) → Contains records r → Contains known r
 
   -- the chain is the log's candidate, and what was brought of that log is tied to it
   pub record IsTold (owner : PubKey) (chain : List Record) : Type 0 where
-    pub is_candidate : IsCandidateOf heads met view s knew brought.started owner chain
+    pub is_candidate : IsCandidateOf grounds view brought.started owner chain
     pub goes_back : AreKnown chain ⊎ IsBrought view own brought owner chain
-    pub goes_forth : (c : Chain) → Contains brought.chains c → c.owner ≡ owner → AreKnown c.records ⊎ IsOfHead met view own s.floor owner chain c.records
+    pub goes_forth : (c : Chain) → Contains brought.chains c → c.owner ≡ owner → AreKnown c.records ⊎ IsOfHead grounds.met view own grounds.standing.floor owner chain c.records
 
   -- what is known of a log, or the chain to a head
-  cases_of : (owner : PubKey) (chain : List Record) → IsCandidateOf heads met view s knew brought.started owner chain
-      → (chain ≡ log_of owner knew) ⊎ ((owner ≡ s.own → ⊥) × (head : Stamp) × MakeChain met view owner s.floor head chain)
+  cases_of : (owner : PubKey) (chain : List Record) → IsCandidateOf grounds view brought.started owner chain
+      → (chain ≡ log_of owner grounds.knew) ⊎ ((owner ≡ grounds.standing.own → ⊥) × (head : Stamp) × MakeChain (reading_in grounds view) owner head chain)
   cases_of owner _ (misled records m) = inl refl
   cases_of owner _ (by_heads chain well c) = ⊎_elim (λ mine. inl mine.1)
       (λ other. ⊎_elim (λ newest. inr (other.0, newest.0, newest.2)) (λ none. inl none.1) other.1)
-      (one.cases_of heads met view s.own s.floor knew owner chain c)
+      (one.cases_of (evidence_in grounds view) owner chain c)
 
   -- it is a chain of the log
-  candidate_chain : IsKnown view s.floor knew → (owner : PubKey) (chain : List Record) → IsCandidateOf heads met view s knew brought.started owner chain → IsChain view owner chain
+  candidate_chain : IsKnown view grounds.standing.floor grounds.knew → (owner : PubKey) (chain : List Record) → IsCandidateOf grounds view brought.started owner chain → IsChain view owner chain
   candidate_chain by_floor owner chain is = ⊎_elim (λ e. subst (λ (l : List Record). IsChain view owner l) (sym e) (by_floor.chains owner)) (λ w. w.2.chain_of_log) (cases_of owner chain is)
 
-  module _ (same_own : s.own ≡ own) (knew_before : (r : Record) → Contains knew r → Contains known r)
+  module _ (same_own : grounds.standing.own ≡ own) (knew_before : (r : Record) → Contains grounds.knew r → Contains known r)
       (once : (c d : Chain) → Contains brought.chains c → Contains brought.chains d → c.owner ≡ d.owner → c ≡ d) where
-    log_known : (owner : PubKey) (chain : List Record) → chain ≡ log_of owner knew → AreKnown chain
-    log_known owner chain e r c = knew_before r (from_log owner knew r (subst (λ (l : List Record). Contains l r) e c)).0
+    log_known : (owner : PubKey) (chain : List Record) → chain ≡ log_of owner grounds.knew → AreKnown chain
+    log_known owner chain e r c = knew_before r (from_log owner grounds.knew r (subst (λ (l : List Record). Contains l r) e c)).0
 
     -- of an owner's log one chain alone was brought
-    forth : (owner : PubKey) (chain : List Record) (c : Chain) → Contains brought.chains c → c.owner ≡ owner → AreKnown c.records ⊎ IsOfHead met view own s.floor owner chain c.records
-        → (d : Chain) → Contains brought.chains d → d.owner ≡ owner → AreKnown d.records ⊎ IsOfHead met view own s.floor owner chain d.records
+    forth : (owner : PubKey) (chain : List Record) (c : Chain) → Contains brought.chains c → c.owner ≡ owner → AreKnown c.records ⊎ IsOfHead grounds.met view own grounds.standing.floor owner chain c.records
+        → (d : Chain) → Contains brought.chains d → d.owner ≡ owner → AreKnown d.records ⊎ IsOfHead grounds.met view own grounds.standing.floor owner chain d.records
     forth owner chain c stands owned h d in_chains mine =
-        subst (λ (x : Chain). AreKnown x.records ⊎ IsOfHead met view own s.floor owner chain x.records) (once c d stands in_chains (owned ∙ sym mine)) h
+        subst (λ (x : Chain). AreKnown x.records ⊎ IsOfHead grounds.met view own grounds.standing.floor owner chain x.records) (once c d stands in_chains (owned ∙ sym mine)) h
 
     of_chain : (owner : PubKey) (chain : List Record) (c : Chain) → Contains brought.chains c → c.owner ≡ owner → c.records ≡ records_above brought.started owner chain
-        → IsCandidateOf heads met view s knew brought.started owner chain
-        → (chain ≡ log_of owner knew) ⊎ ((owner ≡ s.own → ⊥) × (head : Stamp) × MakeChain met view owner s.floor head chain) → IsTold owner chain
+        → IsCandidateOf grounds view brought.started owner chain
+        → (chain ≡ log_of owner grounds.knew) ⊎ ((owner ≡ grounds.standing.own → ⊥) × (head : Stamp) × MakeChain (reading_in grounds view) owner head chain) → IsTold owner chain
     of_chain owner chain c stands owned above is (inl e) = record {
       is_candidate = is;
       goes_back = inl (log_known owner chain e);
@@ -87,22 +85,22 @@ module _ (heads : Key → List Stamp) (met : List (List ℕ)) (view : View) (own
       goes_forth = forth owner chain c stands owned (inr (record {
         other = λ e. other (e ∙ sym same_own);
         head = head;
-        stand = each_from (λ r. StandsAmong met r) c.records (λ r d.
-            each (λ r. StandsAmong met r) chain r makes.stand (is_above (seq_of brought.started (head_key_of owner)) chain r (subst (λ (l : List Record). Contains l r) above d)).0);
+        stand = each_from (λ r. StandsAmong grounds.met r) c.records (λ r d.
+            each (λ r. StandsAmong grounds.met r) chain r makes.stand (is_above (seq_of brought.started (head_key_of owner)) chain r (subst (λ (l : List Record). Contains l r) above d)).0);
         ends = λ r d. subst (λ (l : List Record). EndsAt (Some head) l) (sym above)
             (ends_above view owner (seq_of brought.started (head_key_of owner)) head chain (chain_row view owner chain makes.chain_of_log) makes.ends r (subst (λ (l : List Record). Contains l r) above d));
         makes = inr makes;
       }));
     }
 
-    told : (owner : PubKey) → BringsOf heads met view s knew brought owner → (chain : List Record) × IsTold owner chain
+    told : (owner : PubKey) → BringsOf grounds view brought owner → (chain : List Record) × IsTold owner chain
     told owner (candidate c chain stands owned is above) = (chain, of_chain owner chain c stands owned above is (cases_of owner chain is))
     told owner (misleading c stands owned m) = (
-      log_of owner knew,
+      log_of owner grounds.knew,
       record {
         is_candidate = misled c.records m;
-        goes_back = inl (log_known owner (log_of owner knew) refl);
-        goes_forth = forth owner (log_of owner knew) c stands owned (inr (record {
+        goes_back = inl (log_known owner (log_of owner grounds.knew) refl);
+        goes_forth = forth owner (log_of owner grounds.knew) c stands owned (inr (record {
           other = λ e. m.of_other (e ∙ sym same_own);
           head = m.head;
           stand = m.taken.stand;
@@ -112,16 +110,16 @@ module _ (heads : Key → List Stamp) (met : List (List ℕ)) (view : View) (own
       },
     )
     told owner (nothing none is) = (
-      log_of owner knew,
+      log_of owner grounds.knew,
       record {
         is_candidate = is;
-        goes_back = inl (log_known owner (log_of owner knew) refl);
+        goes_back = inl (log_known owner (log_of owner grounds.knew) refl);
         goes_forth = λ c stands owned. absurd (none c stands owned);
       },
     )
 
     -- of each owner's log there is a candidate
-    pub choose : (owners : List PubKey) → AllByRecursion (BringsOf heads met view s knew brought) owners
+    pub choose : (owners : List PubKey) → AllByRecursion (BringsOf grounds view brought) owners
         → (cs : List Candidate) × (map (λ c. c.owner) cs ≡ owners) × AllByRecursion (λ c. IsTold c.owner c.chain) cs
     choose [] h = ([], refl, tt)
     choose (owner ∷ owners) h =
@@ -136,13 +134,13 @@ linked_row view owner held edge [] owned g = tt
 linked_row view owner held edge (r ∷ rs) owned g = subst (λ (o : PubKey). IsRow view o (r ∷ rs)) owned.0 (g.0, g.3)
 
 -- what was brought of a log is a row
-module _ (heads : Key → List Stamp) (met : List (List ℕ)) (view : View) (s : Standing) (knew : List Record) (brought : Refresh) (by_floor : IsKnown view s.floor knew)
+module _ (grounds : Grounds) (view : View) (brought : Refresh) (by_floor : IsKnown view grounds.standing.floor grounds.knew)
     (once : (c d : Chain) → Contains brought.chains c → Contains brought.chains d → c.owner ≡ d.owner → c ≡ d) where
-  pub brought_row : (owner : PubKey) → BringsOf heads met view s knew brought owner → (c : Chain) → Contains brought.chains c → c.owner ≡ owner → IsRow view c.owner c.records
+  pub brought_row : (owner : PubKey) → BringsOf grounds view brought owner → (c : Chain) → Contains brought.chains c → c.owner ≡ owner → IsRow view c.owner c.records
   brought_row owner (candidate d chain stands owned is above) c within mine =
       let n = seq_of brought.started (head_key_of owner) in
       let row : IsRow view owner d.records =
-      subst (λ (l : List Record). IsRow view owner l) (sym above) (row_above view owner n chain (chain_row view owner chain (candidate_chain heads met view s.own s knew [] brought by_floor owner chain is))) in
+      subst (λ (l : List Record). IsRow view owner l) (sym above) (row_above view owner n chain (chain_row view owner chain (candidate_chain grounds view grounds.standing.own [] brought by_floor owner chain is))) in
       subst (λ (x : Chain). IsRow view x.owner x.records) (once d c stands within (owned ∙ sym mine)) (subst (λ (o : PubKey). IsRow view o d.records) (sym owned) row)
   brought_row owner (misleading d stands owned m) c within mine =
       let row : IsRow view owner d.records = linked_row view owner (stamp_in brought.started d.records) None d.records m.taken.owned m.taken.sound.goes_on in

@@ -3,7 +3,6 @@ use Rattle.std.proofs.Common.{◌≡◌, ◌⊎◌, inl, inr, ⊎_elim, ℕ, ◌
 use Rattle.std.specs.Prelude.{IsTrue}
 use Rattle.std.specs.List.{AllByRecursion}
 use Rattle.std.proofs.lemmas.List.Elements.{Contains-append_right}
-use Rattle.ivy_base.specs.declared.key.Key.{Key}
 use Rattle.ivy_base.specs.declared.operation.Moment.{Moment}
 use Rattle.ivy_base.specs.declared.operation.Op.{Op}
 use Rattle.ivy_base.specs.Naming.{NamesTellApart, head_key_of}
@@ -24,10 +23,10 @@ use Rattle.turn_model.specs.Work.{applied_between}
 use Rattle.snapshot_model.specs.Blocks.{IsVectorSpelled}
 use Rattle.log_model.specs.Signing.{Signing}
 use Rattle.agent_model.specs.Agent.{Agent, Kept, failed, joined, kept_of, own, own_reach, sealed}
-use Rattle.agent_model.specs.Candidates.{MayTurn}
+use Rattle.agent_model.specs.Candidates.{Grounds, MayTurn}
 use Rattle.agent_model.specs.SavedBytes.{AreOpaque, ArePostsSpelled}
-use Rattle.agent_model.specs.Standing.{Refresh, Standing, going_on}
-use Rattle.agent_model.specs.Taking.{TakesNew}
+use Rattle.agent_model.specs.Standing.{Refresh, going_on}
+use Rattle.turn_laws.specs.Taking.{TakesNew}
 use Rattle.agent_model.specs.Turning.{Answered, AreNext, Becomes, Behind, BelowTide, IsByDefinition, MayTake, MayWrite, TurnEnd, Turns, having_written, is_behind, is_below_tide, loses, reads, saves, taking, written_by}
 use Rattle.agent_model.specs.Turning as turning
 use Rattle.turn_laws.specs.Laws.{HasRoom}
@@ -60,7 +59,7 @@ ends_so (x ∷ xs) = ⊎_elim
     (ends_so xs)
 
 module _ {S : Type 0} (signs : Signing S) (a : Agent S) (view : View) (brought : Refresh) (fails : Bool) (asked : Asked) (now : Moment) (m : MayAnswer signs view a asked now)
-    (heads : Key → List Stamp) (met : List (List ℕ)) (s : Standing) (knew known : List Record) (apart : NamesTellApart met) (knows : Knows view a.floor a.holding known) (may : MayTurn heads met view (own signs a) s knew known brought) where
+    (grounds : Grounds) (known : List Record) (apart : NamesTellApart grounds.met) (knows : Knows view a.floor a.holding known) (may : MayTurn grounds view (own signs a) known brought) where
   -- how it ends, the agent then, and what is to be saved
   abbrev pub HasTurn : Type 0
   HasTurn = (end : TurnEnd) × (after : Agent S) × (saving : Option (Kept S)) × Turns signs brought (record { agent = a; view = view; now = now; fails = fails }) asked end after saving
@@ -74,13 +73,13 @@ module _ {S : Type 0} (signs : Signing S) (a : Agent S) (view : View) (brought :
     records ops = written signs a view brought new asked now m.well m.member takes ops
 
     reaches : seq_of (joined h) (head_key_of (own signs a)) ≡ own_reach signs a
-    reaches = far_is signs a view brought new asked now m.well m.member takes heads met s knew known apart knows may
+    reaches = far_is signs a view brought new asked now m.well m.member takes grounds known apart knows may
 
     may_take : MayTake signs view a h
     may_take =
-        let set = (its signs a view brought new asked now m.well m.member takes heads met s knew known apart knows may).0 in
-        let set_closed = closed signs a view brought new asked now m.well m.member takes heads met s knew known apart knows may in
-        let same = front_is signs a view brought new asked now m.well m.member takes heads met s knew known apart knows may in
+        let set = (its signs a view brought new asked now m.well m.member takes grounds known apart knows may).0 in
+        let set_closed = closed signs a view brought new asked now m.well m.member takes grounds known apart knows may in
+        let same = front_is signs a view brought new asked now m.well m.member takes grounds known apart knows may in
         record {
           spelled = subst IsVectorSpelled same (front_spelled view set m.well set_closed);
           named = subst (λ (v : Vector). AllByRecursion (λ e. IsTrue (is_named view e.0)) v) same (front_named view set m.well set_closed);
@@ -99,7 +98,7 @@ module _ {S : Type 0} (signs : Signing S) (a : Agent S) (view : View) (brought :
 
     module _ (ops : List Op) (appends : MayAppend view (own signs a) (signs.remaining a.signer) a.has_failed (kept_tree h) (seq_of (joined h) (head_key_of (own signs a))) asked now ops) where
       good : AllByRecursion (IsGood view (own signs a)) (records ops)
-      good = good_written signs a view brought new asked now m.well m.member takes heads met s knew known apart knows may m.begun m.caller m.fits m.moment ops appends
+      good = good_written signs a view brought new asked now m.well m.member takes grounds known apart knows may m.begun m.caller m.fits m.moment ops appends
 
       spelled : AllByRecursion HasSpelling (records ops)
       spelled = each_from HasSpelling (records ops) (λ r c. (each (IsGood view (own signs a)) (records ops) r good c).spelled)
@@ -174,7 +173,7 @@ module _ {S : Type 0} (signs : Signing S) (a : Agent S) (view : View) (brought :
   by_tests true low is_far is_low = (Behind, a, None, turning.behind is_far)
   by_tests false true near is_low = (BelowTide, _, None, turning.below near is_low)
   by_tests false false near over =
-      let taken = there_is_a_taking heads met view (own signs a) a.floor a.holding (going_on a brought.basis) s knew known brought apart m.well knows (going_is_gone_on a brought.basis) may near over in
+      let taken = there_is_a_taking grounds view (own signs a) a.floor a.holding (going_on a brought.basis) known brought apart m.well knows (going_is_gone_on a brought.basis) may near over in
       turn_taking near over taken.0 taken.1
 
   pub there_is_a_turn : HasTurn

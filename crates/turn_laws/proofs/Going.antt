@@ -20,7 +20,7 @@ use Rattle.log_model.specs.Standing.{StandsAmong, Stand}
 use Rattle.log_model.proofs.Lists.{both, in_nothing, each, each_from, each_append, who_passes}
 use Rattle.log_model.proofs.Part.{numbered}
 use Rattle.log_model.proofs.Weights.{Dominates-trans}
-use Rattle.log_records.specs.Batches.{HasRecord}
+use Rattle.log_model.specs.Fetched.{HasRecord}
 use Rattle.log_records.proofs.Fitting.{next_by}
 use Rattle.turn_model.specs.Basis.{Holding, HoldsAll, IsAboveTide}
 use Rattle.turn_model.specs.Known.{EndsAt, IsKnown}
@@ -31,7 +31,7 @@ use Rattle.causal_order.specs.AtHand.{held_to, above, news, Extends}
 use Rattle.causal_order.specs.Over.{GoesOnFrom}
 use Rattle.agent_model.specs.Agent.{joined}
 use Rattle.agent_model.specs.Standing.{Chain, Refresh, dominates, go_on_from, beyond, new_in, new_records}
-use Rattle.agent_model.specs.Taking.{within}
+use Rattle.turn_laws.specs.Taking.{within}
 use Rattle.agent_model.specs.Turning.{is_above, is_there, lacks, is_behind, is_below_tide}
 use Rattle.turn_laws.proofs.Fronts.{in_log, from_log, log-append, stamp_of_log, reach_of_log, front_is_joined, is_above_tide}
 use Rattle.turn_laws.proofs.Lists.{in_flat_map, from_flat_map, none_passes, neither}

@@ -22,7 +22,7 @@ use Rattle.turn_laws.proofs.OneChain.{one_chain}
 use Rattle.agent_model.specs.Agent.{joined}
 use Rattle.agent_model.specs.Standing.{Chain, Refresh, dominates, go_on_from, beyond}
 use Rattle.agent_model.specs.Candidates.{records_above}
-use Rattle.agent_model.specs.Taking.{within}
+use Rattle.turn_laws.specs.Taking.{within}
 use Rattle.turn_laws.proofs.Brought.{IsOfHead, IsBrought}
 use Rattle.turn_laws.proofs.Fronts.{in_log, from_log, far_enough}
 use Rattle.turn_laws.proofs.Going.{IsGoing, in_part, held_known, not_false, log_stands, part_prefix, log_parts, joined_reach, front_stamp, news_are, of_part, floor_met, chosen, to, rest, full, extends_by, rest_above, full_chain, full_stands, known_prefix}
@@ -192,7 +192,7 @@ module _ {view : View} {met : List (List ℕ)} {own : PubKey} {floor : Vector} {
   module _ (knew : List Record) (before : Vector) (by_before : IsKnown view before knew) (knew_known : (r : Record) → Contains knew r → Contains known r) where
     -- the chain that extends what is held is one to the head
     makes : (c : Chain) (stands : Contains brought.chains c) → Extends view h.basis.front h.held c.owner c.records → (r : Record) → Contains (rest g c stands) r
-        → (head : Stamp) → EndsAt (Some head) c.records → MakeChain met view c.owner before head (full g c stands)
+        → (head : Stamp) → EndsAt (Some head) c.records → MakeChain (record { blocks = met; view = view; floor = before }) c.owner head (full g c stands)
     makes c stands ext r d head ends =
         let all = full g c stands in
         let old = prefix_within met g.apart view c.owner (log_of c.owner knew) (log_of c.owner known) (by_before.chains c.owner) (g.closed.chains c.owner)
@@ -223,7 +223,7 @@ module _ {view : View} {met : List (List ℕ)} {own : PubKey} {floor : Vector} {
         ⊎_elim
         (λ over_passed. absurd (over_passed all made))
         (λ other.
-        let same : all ≡ chain = one_chain met g.apart view c.owner before o.head all chain made other in (
+        let same : all ≡ chain = one_chain (record { blocks = met; view = view; floor = before }) g.apart c.owner o.head all chain made other in (
           subst (λ (l : List Record). IsPrefixOf (log_of c.owner known) l) same goes_on,
           subst (λ (l : List Record). Contains l r) same (Contains-append_right (log_of c.owner part) after r d),
         ))

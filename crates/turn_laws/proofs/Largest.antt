@@ -11,7 +11,7 @@ use Rattle.log_model.specs.Chain.{IsChain}
 use Rattle.log_model.specs.Closed.{log_of, IsClosedPart}
 use Rattle.log_model.specs.Part.{closed_part}
 use Rattle.log_model.specs.Replay.{in_order}
-use Rattle.log_model.proofs.Lists.{each, each_from}
+use Rattle.log_model.proofs.Lists.{each_from}
 use Rattle.log_model.proofs.Part.{numbered, closed_part_is}
 use Rattle.log_model.proofs.Sets.{in_order_ascends, in_order_in, in_order_has, same_list, chain_ascends, filter_ascends, numbered_one, same_rank_is}
 use Rattle.turn_laws.proofs.Fronts.{in_log, from_log}

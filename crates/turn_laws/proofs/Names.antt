@@ -11,7 +11,7 @@ use Rattle.log_model.specs.Chain.{IsGood, IsChain}
 use Rattle.log_model.specs.Standing.{StandsAmong, Stand}
 use Rattle.log_model.proofs.Lists.{here, each_left}
 use Rattle.log_model.proofs.Part.{chain_front}
-use Rattle.log_records.specs.Batches.{HasRecord}
+use Rattle.log_model.specs.Fetched.{HasRecord}
 use Rattle.log_records.proofs.Batches.{passes_through}
 use Rattle.log_records.proofs.OneRecord.{one_among}
 use Rattle.turn_model.specs.Known.{EndsAt}
@@ -42,7 +42,7 @@ module _ (blocks : List (List ℕ)) (apart : NamesTellApart blocks) (view : View
       let w = passes_through t ys has in
       let chain = chain_front view owner w.0 w.1 (subst (λ (l : List Record). IsChain view owner l) w.2 cy) in
       let stand = each_left (StandsAmong blocks) w.0 w.1 (subst (λ (l : List Record). Stand blocks l) w.2 sy) in
-      let same : xs ≡ w.0 = one_chain blocks apart view owner [] t xs w.0
+      let same : xs ≡ w.0 = one_chain (record { blocks = blocks; view = view; floor = [] }) apart owner t xs w.0
       (record { chain_of_log = cx; stand = sx; ends = ends; passes = tt })
       (record { chain_of_log = chain; stand = stand; ends = w.3; passes = tt }) in
       (w.1, ap (λ (l : List Record). l ++ w.1) same ∙ sym w.2)

@@ -14,7 +14,7 @@ use Rattle.ivy_base.specs.declared.operation.Moment.{Moment}
 use Rattle.ivy_base.specs.declared.operation.Op.{Op}
 use Rattle.ivy_base.specs.declared.operation.Op.TheVariants as op
 use Rattle.ivy_base.specs.Naming.{inode_number}
-use Rattle.tree_model.specs.Tree.{Tree, entry, directory_kind, is_file, file_kind, is_directory, name_count}
+use Rattle.tree_model.specs.Tree.{Tree, entry, directory_kind, is_file, file_kind, is_directory, name_count, longest_file}
 use Rattle.tree_model.proofs.Sound.{both_true}
 use Rattle.wire_model.specs.Rpc.{Identity}
 use Rattle.wire_model.specs.Xdr.{boolean, double_word, moment, opaque, optional, padding, word}
@@ -212,7 +212,7 @@ module _ (t : Tree) (view : View) (who : Identity) (now : Moment) (own : PubKey)
       ((not (file_kind o.inode.kind), Inval)
       ∷ (not (may_write who o.inode || is_owner who o.inode), Acces)
       ∷ (not (count == length bytes), Inval)
-      ∷ (nat_lt 16777216 (offset + length (take 8192 bytes)), FBig) ∷ []) _ _
+      ∷ (nat_lt longest_file (offset + length (take 8192 bytes)), FBig) ∷ []) _ _
       (by_choice (length bytes == 0) _ _ tt (record { each = take_each 8192 bytes (of_opaque bytes (right_octets (opaque file ++ double_word offset ++ word count ++ word stable) (opaque bytes) h)).each }, tt)))
   plan_octets (call.Create dir name how) h = created dir name how (of_opaque name (right_octets (opaque dir) (opaque name) (left_octets (opaque dir ++ opaque name) (create_how how) h)))
   plan_octets (call.SymLink dir name what text) h = by_about (object_of t view dir) _ _ (λ o.

@@ -14,7 +14,7 @@ use Rattle.ivy_base.specs.declared.operation.Moment.{Moment}
 use Rattle.ivy_base.specs.declared.operation.Op.{Op}
 use Rattle.ivy_base.specs.declared.operation.Op.TheVariants as op
 use Rattle.ivy_base.specs.Naming.{head_key_of, key_cmp, IsFileName}
-use Rattle.tree_model.specs.Tree.{same_key}
+use Rattle.tree_model.specs.Tree.{same_key, longest_file}
 use Rattle.tree_model.proofs.Keys.{same_key_is, same_key_itself}
 use Rattle.wire_model.specs.Xdr.{word, double_word, opaque, array, moment, IsAny}
 use Rattle.wire_model.proofs.OneReading.{of_fewer, of_parts, one_word}
@@ -27,7 +27,7 @@ use Rattle.version_vectors.specs.Vectors.{EntryFits}
 use Rattle.log_records.specs.declared.frame.Frame.{Frame}
 use Rattle.log_records.specs.Frames.{IsCited, IsFrame, frame_block, AreParts, parts_block, IsWellPlaced}
 use Rattle.log_records.specs.Heads.{IsNumber}
-use Rattle.block_parts.specs.Parts.{key_bytes, kind_word, longest_file, IsAtMost}
+use Rattle.block_parts.specs.Parts.{key_bytes, kind_word, IsAtMost}
 use Rattle.log_records.specs.Parts.{change_block, IsOfKind}
 use Rattle.log_records.proofs.Frames.{one_frame}
 use Rattle.block_parts.proofs.OneParts.{one_block, one_key, one_at_most, one_time, one_kind, one_name, one_size}

@@ -15,7 +15,7 @@ use Rattle.log_model.proofs.Lists.{here, there, in_cons, in_nothing, each, each_
 use Rattle.log_model.proofs.Part.{chain_good, numbered, Numbered}
 use Rattle.log_records.proofs.OneRecord.{one_record}
 use Rattle.turn_model.specs.Known.{EndsAt}
-use Rattle.turn_model.specs.Candidates.{PassesThrough, MakeChain, IsPassedOver}
+use Rattle.turn_model.specs.Candidates.{PassesThrough, MakeChain, IsPassedOver, Reading}
 use Rattle.turn_laws.proofs.ChainRules.{made_known, named_known, first_known, follows_known, stamp_known}
 use Rattle.turn_laws.proofs.RecordReading.{Known, both_known, record_or_not}
 
@@ -205,7 +205,10 @@ module _ (view : View) (owner : PubKey) (blocks : List (List ℕ)) where
       omega (arith, number, same, size, length-append ends.0 (ends.1 ∷ []))
 
   module _ (floor : Vector) (head : Stamp) where
-    make_known : (rs : List Record) → AllByRecursion IsOwn rs → (xs : List Record) → AllIn rs xs → Known (MakeChain blocks view owner floor head xs)
+    abbrev read : Reading
+    read = record { blocks = blocks; view = view; floor = floor }
+
+    make_known : (rs : List Record) → AllByRecursion IsOwn rs → (xs : List Record) → AllIn rs xs → Known (MakeChain read owner head xs)
     make_known rs own xs all =
         let good : AllByRecursion (IsGood view owner) xs = each_from (IsGood view owner) xs (λ x c. (each IsOwn rs x own (each (λ y. Contains rs y) xs x all c)).0) in
         let stand : Stand blocks xs = each_from (λ r. StandsAmong blocks r) xs (λ x c. (each IsOwn rs x own (each (λ y. Contains rs y) xs x all c)).1) in
@@ -214,10 +217,10 @@ module _ (view : View) (owner : PubKey) (blocks : List (List ℕ)) where
           | inr none ↦ inr (λ m. none (m.chain_of_log, (m.ends, m.passes)))
         ]
 
-    pub chain_or_not : ((chain : List Record) × MakeChain blocks view owner floor head chain) ⊎ IsPassedOver blocks view owner floor head
+    pub chain_or_not : ((chain : List Record) × MakeChain read owner head chain) ⊎ IsPassedOver read owner head
     chain_or_not =
         let own = gather blocks (λ b c. c) in
-        elim (some_list own.records head.seq (MakeChain blocks view owner floor head) (make_known own.records own.own)) [
+        elim (some_list own.records head.seq (MakeChain read owner head) (make_known own.records own.own)) [
           | inl z ↦ inl (z.0, z.3)
           | inr none ↦ inr (λ chain makes. none (
             chain,

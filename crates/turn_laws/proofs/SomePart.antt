@@ -1,17 +1,15 @@
 -- Of what is known and of candidates there is a largest closed part.
-use Rattle.std.proofs.Common.{◌≡◌, ◌⊎◌, inl, inr, ℕ, true, List, [], ◌∷◌, ◌++◌, map, refl, sym, ap, ◌∙◌, subst, Contains}
+use Rattle.std.proofs.Common.{◌≡◌, ◌⊎◌, inl, inr, true, List, [], ◌∷◌, ◌++◌, map, refl, sym, ap, ◌∙◌, subst, Contains}
 use Rattle.std.specs.Prelude.{IsTrue}
 use Rattle.std.specs.Cmp.{tied_itself}
 use Rattle.std.specs.List.{AllByRecursion, list_all}
 use Rattle.std.specs.Ordering.{eq_by_cmp, is_lt}
 use Rattle.std.proofs.lemmas.List.Elements.{Contains-append_left, Contains-append_right, Contains-append_cases}
-use Rattle.ivy_base.specs.declared.key.Key.{Key}
 use Rattle.ivy_base.specs.declared.key.PubKey.{PubKey}
 use Rattle.ivy_base.specs.Naming.{owner_cmp}
 use Rattle.tree_model.proofs.Sound.{both_true}
 use Rattle.wire_model.proofs.OneReading.{whole}
 use Rattle.log_model.specs.View.{View, ascend}
-use Rattle.log_model.specs.Vector.{Stamp, Vector}
 use Rattle.log_model.specs.Record.{Record}
 use Rattle.log_model.specs.Spelling.{record_block}
 use Rattle.log_model.specs.Chain.{IsGood, IsChain}
@@ -25,7 +23,7 @@ use Rattle.log_model.proofs.Part.{chain_good, numbered, closed_part_is}
 use Rattle.log_model.proofs.Sets.{in_order_ascends, in_order_in, in_order_has, same_list, chain_ascends, filter_ascends, numbered_one, same_rank_is}
 use Rattle.log_records.proofs.OneRecord.{one_record}
 use Rattle.turn_model.specs.Turn.{Candidate, IsPrefixOf, IsAtHand}
-use Rattle.turn_model.specs.Candidates.{IsCandidate, own_log, newest, as_known}
+use Rattle.turn_model.specs.Candidates.{Evidence, IsCandidate, own_log, newest, as_known}
 use Rattle.turn_laws.proofs.Deciding.{same_or_not}
 use Rattle.turn_laws.specs.Some.{ThereIsALargestPart}
 use Rattle.turn_laws.proofs.RecordReading.{Known, both_known}
@@ -237,18 +235,17 @@ module _ (view : View) (known : List Record) (closed : IsClosed view known) wher
 
 -- ---- of candidates
 
-chain_of : (heads : Key → List Stamp) (blocks : List (List ℕ)) (view : View) (own : PubKey) (floor : Vector) (known : List Record) → IsClosed view known → (owner : PubKey) (chain : List Record)
-    → IsCandidate heads blocks view own floor known owner chain → IsChain view owner chain
-chain_of heads blocks view own floor known closed owner _ (own_log e) = closed.chains owner
-chain_of heads blocks view own floor known closed owner _ (newest head chain apart tried makes first) = makes.chain_of_log
-chain_of heads blocks view own floor known closed owner _ (as_known apart none) = closed.chains owner
+chain_of : (e : Evidence) → IsClosed e.view e.known → (owner : PubKey) (chain : List Record) → IsCandidate e owner chain → IsChain e.view owner chain
+chain_of e closed owner _ (own_log mine) = closed.chains owner
+chain_of e closed owner _ (newest head chain apart tried makes first) = makes.chain_of_log
+chain_of e closed owner _ (as_known apart none) = closed.chains owner
 
 pub there_is_a_largest_part : ThereIsALargestPart
-there_is_a_largest_part heads blocks view own floor known candidates is_view closed are =
-    let ours : AllByRecursion (IsOurs view known closed) candidates = each_from (IsOurs view known closed) candidates (λ c within. (
+there_is_a_largest_part e candidates is_view closed are =
+    let ours : AllByRecursion (IsOurs e.view e.known closed) candidates = each_from (IsOurs e.view e.known closed) candidates (λ c within. (
       subst (λ (l : List PubKey). Contains l c.owner) are.of_members (in_owners candidates c within),
-      chain_of heads blocks view own floor known closed c.owner c.chain (each (λ d. IsCandidate heads blocks view own floor known d.owner d.chain) candidates c are.each within),
+      chain_of e closed c.owner c.chain (each (λ d. IsCandidate e d.owner d.chain) candidates c are.each within),
     )) in
-    let apart = apart_owners view.members candidates is_view.members_ascend are.of_members in
-    let n = some_news view known closed candidates ours in
-    (closed_part view (in_order (known ++ n.news)), largest view known closed candidates ours apart n)
+    let apart = apart_owners e.view.members candidates is_view.members_ascend are.of_members in
+    let n = some_news e.view e.known closed candidates ours in
+    (closed_part e.view (in_order (e.known ++ n.news)), largest e.view e.known closed candidates ours apart n)

@@ -4,7 +4,6 @@ use Rattle.std.specs.Prelude.{◌&&◌, is_some, IfSome, nat_le, nat_lt}
 use Rattle.std.specs.List.{AllByRecursion}
 use Rattle.std.specs.Ordering.{eq_by_cmp}
 use Rattle.std.proofs.lemmas.List.{append-nil}
-use Rattle.ivy_base.specs.declared.key.Key.{Key}
 use Rattle.ivy_base.specs.declared.key.PubKey.{PubKey}
 use Rattle.ivy_base.specs.Naming.{NamesTellApart, head_key_of, owner_cmp}
 use Rattle.log_model.specs.View.{View, IsView}
@@ -21,9 +20,9 @@ use Rattle.turn_model.specs.Known.{EndsAt}
 use Rattle.turn_model.specs.Turn.{Candidate, IsAtHand, IsPrefixOf}
 use Rattle.causal_order.specs.AtHand.{above, IsNewPart}
 use Rattle.agent_model.specs.Agent.{Agent, joined}
-use Rattle.agent_model.specs.Standing.{Standing, Chain, Refresh, dominates, go_on_from, going_on, beyond}
-use Rattle.agent_model.specs.Candidates.{MayTurn, StandsWithin, IsCandidateOf, BringsOf}
-use Rattle.agent_model.specs.Taking.{refresh_with, with_new, within}
+use Rattle.agent_model.specs.Standing.{Chain, Refresh, dominates, go_on_from, going_on, beyond}
+use Rattle.agent_model.specs.Candidates.{Grounds, MayTurn, StandsWithin, IsCandidateOf, BringsOf}
+use Rattle.turn_laws.specs.Taking.{refresh_with, with_new, within}
 use Rattle.agent_model.specs.Turning.{is_behind, is_below_tide}
 use Rattle.turn_laws.specs.Laws.{IsGoneOn, IsTakenBy, OwnLogEndsAtFloor, TakenIsByDefinition}
 use Rattle.turn_laws.proofs.Brought.{IsTold, IsOfHead, choose, brought_row}
@@ -104,26 +103,26 @@ ends_from : (o : Option Stamp) (xs : List Record) → EndsAt o xs → last_from 
 ends_from None xs ends = ap (last_from None) ends
 ends_from (Some t) xs ends = ap (last_from None) ends.2 ∙ last_from-append None ends.0 (ends.1 ∷ []) ∙ ap Some ends.3
 
-module _ (heads : Key → List Stamp) (met : List (List ℕ)) (view : View) (own : PubKey) (floor : Vector) (holding h : Holding) (s : Standing) (knew known : List Record)
-    (brought : Refresh) (apart : NamesTellApart met) (well : IsView view) (k : Knows view floor holding known) (gone : IsGoneOn holding brought.basis h) (may : MayTurn heads met view own s knew known brought)
+module _ (grounds : Grounds) (view : View) (own : PubKey) (floor : Vector) (holding h : Holding) (known : List Record)
+    (brought : Refresh) (apart : NamesTellApart grounds.met) (well : IsView view) (k : Knows view floor holding known) (gone : IsGoneOn holding brought.basis h) (may : MayTurn grounds view own known brought)
     (caught_up : is_behind view own floor h brought ≡ false) (none_below : is_below_tide own floor h brought ≡ false) where
   pub held : IsHeldPart view known h
   held = held_part view floor known holding h brought.basis k gone may.loaded
 
   -- ---- the candidates
 
-  chosen : (cs : List Candidate) × (map (λ c. c.owner) cs ≡ view.members) × AllByRecursion (λ c. IsTold heads met view own s knew known brought c.owner c.chain) cs
-  chosen = choose heads met view own s knew known brought may.same_own may.knew_before may.brings.once view.members may.brings.each
+  chosen : (cs : List Candidate) × (map (λ c. c.owner) cs ≡ view.members) × AllByRecursion (λ c. IsTold grounds view own known brought c.owner c.chain) cs
+  chosen = choose grounds view own known brought may.same_own may.knew_before may.brings.once view.members may.brings.each
 
-  is_told : (d : Candidate) → Contains chosen.0 d → IsTold heads met view own s knew known brought d.owner d.chain
-  is_told d c = each (λ (x : Candidate). IsTold heads met view own s knew known brought x.owner x.chain) chosen.0 d chosen.2 c
+  is_told : (d : Candidate) → Contains chosen.0 d → IsTold grounds view own known brought d.owner d.chain
+  is_told d c = each (λ (x : Candidate). IsTold grounds view own known brought x.owner x.chain) chosen.0 d chosen.2 c
 
   member_of : (c : Chain) → Contains brought.chains c → Contains view.members c.owner
   member_of c stands = each (λ (x : Chain). Contains view.members x.owner) brought.chains c may.brings.members stands
 
   -- what was brought of a log is known, or of a head that its candidate is told by
   abbrev Told : PubKey → List Record → List Record → Type 0
-  Told owner chain records = ((r : Record) → Contains records r → Contains known r) ⊎ IsOfHead met view own s.floor owner chain records
+  Told owner chain records = ((r : Record) → Contains records r → Contains known r) ⊎ IsOfHead grounds.met view own grounds.standing.floor owner chain records
 
   told_of : (c : Chain) → Contains brought.chains c → (d : Candidate) × Contains chosen.0 d × (d.owner ≡ c.owner) × Told c.owner d.chain c.records
   told_of c stands =
@@ -133,7 +132,7 @@ module _ (heads : Key → List Stamp) (met : List (List ℕ)) (view : View) (own
   -- ---- what was brought
 
   row_of : (c : Chain) → Contains brought.chains c → IsRow view c.owner c.records
-  row_of c stands = brought_row heads met view s knew brought may.by_floor may.brings.once c.owner (each (BringsOf heads met view s knew brought) view.members c.owner may.brings.each (member_of c stands)) c stands refl
+  row_of c stands = brought_row grounds view brought may.by_floor may.brings.once c.owner (each (BringsOf grounds view brought) view.members c.owner may.brings.each (member_of c stands)) c stands refl
 
   within_floor : (r : Record) → Contains known r → (o : Option Stamp) → stamp_at floor (head_key_of r.owner) ≡ o → EndsAt o (log_of r.owner known) → r.seq ≤ seq_of floor (head_key_of r.owner)
   within_floor r c None e ends = absurd (in_nothing r (subst (λ (l : List Record). Contains l r) ends (in_log r.owner known r c refl)))
@@ -152,7 +151,7 @@ module _ (heads : Key → List Stamp) (met : List (List ℕ)) (view : View) (own
       (λ o. absurd (o.other (same_owner own c.owner mine)))
       t.3
 
-  pub going : IsGoing view met own floor known h brought held.part
+  pub going : IsGoing view grounds.met own floor known h brought held.part
   going = record {
     well = well;
     apart = apart;
@@ -168,7 +167,7 @@ module _ (heads : Key → List Stamp) (met : List (List ℕ)) (view : View) (own
     members = member_of;
     rows = row_of;
     standing = λ c stands. ⊎_elim
-        (λ all. each_from (λ r. StandsAmong met r) c.records (λ r d. each (λ r. StandsAmong met r) known r may.stand (all r d)))
+        (λ all. each_from (λ r. StandsAmong grounds.met r) c.records (λ r d. each (λ r. StandsAmong grounds.met r) known r may.stand (all r d)))
         (λ o. o.stand)
         (told_of c stands).3;
     once = may.brings.once;
@@ -192,7 +191,7 @@ module _ (heads : Key → List Stamp) (met : List (List ℕ)) (view : View) (own
       (λ w.
       let t = told_of w.0 w.1 in
       inr (t.0, t.1, subst (λ (o : PubKey). IsPrefixOf (log_of o known) t.0.chain) (sym t.2) w.2.0, w.2.1))
-      (hand_is_known going knew s.floor may.by_floor may.knew_before r hand
+      (hand_is_known going grounds.knew grounds.standing.floor may.by_floor may.knew_before r hand
       (λ c stands. let t = told_of c stands in (t.0.chain, t.3)))
 
   to_hand : (r : Record) → IsAtHand known chosen.0 r → Contains below r ⊎ OverFront r
@@ -231,12 +230,12 @@ module _ (heads : Key → List Stamp) (met : List (List ℕ)) (view : View) (own
       above = each_from (IsAboveTide h.basis) (in_order (h.held ++ new)) (λ r c. hand_above going r (part.largest.part r c));
     }
 
-    pub is_taken : IsTakenBy heads met view s knew known brought.started (with_new h new) taken
+    pub is_taken : IsTakenBy (record { grounds = grounds; started = brought.started }) view known (with_new h new) taken
     is_taken = record {
       candidates = chosen.0;
       of_heads = record {
         of_members = chosen.1;
-        each = each_from (λ (d : Candidate). IsCandidateOf heads met view s knew brought.started d.owner d.chain) chosen.0 (λ d c. (is_told d c).is_candidate);
+        each = each_from (λ (d : Candidate). IsCandidateOf grounds view brought.started d.owner d.chain) chosen.0 (λ d c. (is_told d c).is_candidate);
       };
       largest = largest_part;
       holds = all_held;
@@ -257,9 +256,9 @@ module _ (heads : Key → List Stamp) (met : List (List ℕ)) (view : View) (own
         ∙ ends_from (stamp_at floor (head_key_of own)) (log_of own known) (k.by_floor.ends own member)
 
 pub taken_is_by_definition : TakenIsByDefinition
-taken_is_by_definition heads met view own floor holding h s knew known batch basis edges new apart well k gone may under takes =
-    (_, is_taken heads met view own floor holding h s knew known (refresh_with batch basis) apart well k gone may takes.caught_up takes.above new takes.part)
+taken_is_by_definition grounds view own floor holding h known batch basis edges new apart well k gone may under takes =
+    (_, is_taken grounds view own floor holding h known (refresh_with batch basis) apart well k gone may takes.caught_up takes.above new takes.part)
 
 pub own_log_ends_at_floor : OwnLogEndsAtFloor
-own_log_ends_at_floor heads met view own floor holding h s knew known batch basis edges new apart well k gone may under takes =
-    own_ends heads met view own floor holding h s knew known (refresh_with batch basis) apart well k gone may takes.caught_up takes.above new takes.part
+own_log_ends_at_floor grounds view own floor holding h known batch basis edges new apart well k gone may under takes =
+    own_ends grounds view own floor holding h known (refresh_with batch basis) apart well k gone may takes.caught_up takes.above new takes.part

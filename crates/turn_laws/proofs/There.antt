@@ -29,7 +29,7 @@ use Rattle.turn_laws.proofs.RecordReading.{Known, both_known, key_known, number_
 use Rattle.turn_laws.proofs.SomeCandidate.{owner_known}
 use Rattle.agent_model.specs.Agent.{joined}
 use Rattle.agent_model.specs.Standing.{Chain, Refresh}
-use Rattle.agent_model.specs.Taking.{within}
+use Rattle.turn_laws.specs.Taking.{within}
 use Rattle.turn_laws.specs.Laws.{ThereIsATaking}
 use Rattle.turn_laws.proofs.Fronts.{in_log, from_log}
 use Rattle.turn_laws.proofs.Going.{IsGoing, below, full, full_chain, in_part}
@@ -273,6 +273,6 @@ module _ {view : View} {met : List (List ℕ)} {own : PubKey} {floor : Vector} {
   )
 
 pub there_is_a_taking : ThereIsATaking
-there_is_a_taking heads met view own floor holding h s knew known brought apart well k gone may caught_up none_below =
-    let part = new_part (going heads met view own floor holding h s knew known brought apart well k gone may caught_up none_below) in
+there_is_a_taking grounds view own floor holding h known brought apart well k gone may caught_up none_below =
+    let part = new_part (going grounds view own floor holding h known brought apart well k gone may caught_up none_below) in
     (part.0, record { caught_up = caught_up; above = none_below; part = part.1 })

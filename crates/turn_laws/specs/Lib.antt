@@ -4,4 +4,5 @@ pub mod One
 pub mod Verified
 pub mod Some
 pub mod Reading
+pub mod Taking
 pub mod Laws

@@ -2,14 +2,12 @@
 use Rattle.std.specs.Prelude.{◌≡◌, ℕ, List, Contains}
 use Rattle.std.specs.List.{AllByRecursion}
 use Rattle.ivy_base.specs.declared.key.Key.{Key}
-use Rattle.ivy_base.specs.declared.key.PubKey.{PubKey}
 use Rattle.ivy_base.specs.declared.operation.Moment.{Moment}
 use Rattle.log_model.specs.Closed.{log_of, IsClosed, IsClosedPart}
 use Rattle.log_model.specs.Rank.{front}
 use Rattle.log_model.specs.Record.{Record}
 use Rattle.log_model.specs.Vector.{Stamp, Entry, Vector}
-use Rattle.log_model.specs.View.{View}
-use Rattle.turn_model.specs.Candidates.{AreCandidates}
+use Rattle.turn_model.specs.Candidates.{AreCandidates, Evidence}
 use Rattle.turn_model.specs.Known.{IsBacked, IsVerified}
 use Rattle.turn_model.specs.Turn.{Inputs, Asked, Candidate, IsAtHand, turn_on}
 
@@ -21,18 +19,22 @@ AreAmong {A = A} xs ys = (x : A) → Contains xs x → Contains ys x
 abbrev pub WereReceived : (Key → List Stamp) → List Entry → Type 0
 WereReceived heads received = (log : Key) (t : Stamp) → Contains (heads log) t → Contains received (log, t)
 
+-- the front of what is known is its floor
+abbrev pub by_front : Evidence → Evidence
+by_front e = record e { floor = front e.known }
+
 -- The set that a turn takes is verified by the floor of what was known, the heads and the blocks, where what was known is.
 abbrev pub TakenIsVerified : Type 0
-TakenIsVerified = (heads : Key → List Stamp) (blocks : List (List ℕ)) (view : View) (own : PubKey) (known : List Record) (candidates : List Candidate) (received : List Entry) (taken : List Record)
-    → AreCandidates heads blocks view own (front known) known candidates → WereReceived heads received
-    → IsClosed view known → AllByRecursion (IsBacked blocks own (front known) received) known
-    → IsClosedPart view (IsAtHand known candidates) taken → IsVerified blocks view own (front known) received taken
+TakenIsVerified = (e : Evidence) (candidates : List Candidate) (received : List Entry) (taken : List Record)
+    → AreCandidates (by_front e) candidates → WereReceived e.heads received
+    → IsClosed e.view e.known → AllByRecursion (IsBacked e.blocks e.own (front e.known) received) e.known
+    → IsClosedPart e.view (IsAtHand e.known candidates) taken → IsVerified e.blocks e.view e.own (front e.known) received taken
 
 -- Of the own log it has just what was known.
 abbrev pub OwnLogIsKnown : Type 0
-OwnLogIsKnown = (heads : Key → List Stamp) (blocks : List (List ℕ)) (view : View) (own : PubKey) (known : List Record) (candidates : List Candidate) (taken : List Record)
-    → AreCandidates heads blocks view own (front known) known candidates → IsClosed view known
-    → IsClosedPart view (IsAtHand known candidates) taken → log_of own taken ≡ log_of own known
+OwnLogIsKnown = (e : Evidence) (candidates : List Candidate) (taken : List Record)
+    → AreCandidates (by_front e) candidates → IsClosed e.view e.known
+    → IsClosedPart e.view (IsAtHand e.known candidates) taken → log_of e.own taken ≡ log_of e.own e.known
 
 -- What is known after the turn, its own new records included, is backed by the floor of that, the same heads and blocks and whatever came to these.
 abbrev pub KnownStaysBacked : Type 0

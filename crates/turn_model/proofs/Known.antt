@@ -1,16 +1,14 @@
 -- There is one turn at most, and where the candidates bring nothing that isn't known it is on what is known. They bring nothing where the agent is its
 -- view's only member.
-use Rattle.std.proofs.Common.{◌≡◌, ⊎_elim, inl, ℕ, List, [], ◌∷◌, map, Contains, refl, sym, ap, ◌∙◌, subst}
+use Rattle.std.proofs.Common.{◌≡◌, ⊎_elim, inl, List, [], ◌∷◌, map, Contains, refl, sym, ap, ◌∙◌, subst}
 use Rattle.ivy_base.specs.declared.operation.Moment.{Moment}
 use Rattle.log_model.specs.View.{View}
 use Rattle.log_model.specs.Record.{Record}
 use Rattle.log_model.specs.Closed.{IsClosed, IsClosedPart}
 use Rattle.std.specs.Ordering.{eq_by_cmp}
-use Rattle.ivy_base.specs.declared.key.Key.{Key}
 use Rattle.ivy_base.specs.declared.key.PubKey.{PubKey}
 use Rattle.ivy_base.specs.Naming.{owner_cmp}
-use Rattle.log_model.specs.Vector.{Stamp, Vector}
-use Rattle.turn_model.specs.Candidates.{IsCandidate, own_log, newest, as_known, OnlyMemberHasNothingNew}
+use Rattle.turn_model.specs.Candidates.{Evidence, IsCandidate, own_log, newest, as_known, OnlyMemberHasNothingNew}
 use Rattle.log_model.proofs.Lists.{here, there, in_cons, in_nothing, each, from_filter}
 use Rattle.log_model.proofs.Sets.{same_list}
 use Rattle.turn_model.specs.Turn.{Inputs, Asked, Candidate, Turned, IsAtHand, IsTurn, BringNothing, TurnIsOne, TurnIsOnKnown, turn_on}
@@ -57,14 +55,13 @@ in_owners (d ∷ candidates) c within = ⊎_elim
     (λ more. there d.owner (map (λ y. y.owner) candidates) c.owner (in_owners candidates c more))
     (in_cons d candidates c within)
 
-own_chain : (heads : Key → List Stamp) (blocks : List (List ℕ)) (view : View) (own : PubKey) (floor : Vector) (known : List Record) (owner : PubKey) (chain : List Record)
-    → IsCandidate heads blocks view own floor known owner chain → owner ≡ own → (r : Record) → Contains chain r → Contains known r
-own_chain heads blocks view own floor known owner _ (own_log e) same r c = (from_filter (λ (x : Record). eq_by_cmp owner_cmp owner x.owner) known r c).0
-own_chain heads blocks view own floor known owner _ (newest head chain apart tried makes first) same r c = absurd (apart same)
-own_chain heads blocks view own floor known owner _ (as_known apart none) same r c = absurd (apart same)
+own_chain : (e : Evidence) (owner : PubKey) (chain : List Record) → IsCandidate e owner chain → owner ≡ e.own → (r : Record) → Contains chain r → Contains e.known r
+own_chain e owner _ (own_log mine) same r c = (from_filter (λ (x : Record). eq_by_cmp owner_cmp owner x.owner) e.known r c).0
+own_chain e owner _ (newest head chain apart tried makes first) same r c = absurd (apart same)
+own_chain e owner _ (as_known apart none) same r c = absurd (apart same)
 
 pub only_member_has_nothing_new : OnlyMemberHasNothingNew
-only_member_has_nothing_new heads blocks view own floor known candidates alone are c within r in_chain =
-    let named : Contains (own ∷ []) c.owner = subst (λ (owners : List PubKey). Contains owners c.owner) (are.of_members ∙ alone) (in_owners candidates c within) in
-    let same : c.owner ≡ own = ⊎_elim (λ e. sym e) (λ none. absurd (in_nothing c.owner none)) (in_cons own [] c.owner named) in
-    own_chain heads blocks view own floor known c.owner c.chain (each (λ (d : Candidate). IsCandidate heads blocks view own floor known d.owner d.chain) candidates c are.each within) same r in_chain
+only_member_has_nothing_new e candidates alone are c within r in_chain =
+    let named : Contains (e.own ∷ []) c.owner = subst (λ (owners : List PubKey). Contains owners c.owner) (are.of_members ∙ alone) (in_owners candidates c within) in
+    let same : c.owner ≡ e.own = ⊎_elim (λ is. sym is) (λ none. absurd (in_nothing c.owner none)) (in_cons e.own [] c.owner named) in
+    own_chain e c.owner c.chain (each (λ (d : Candidate). IsCandidate e d.owner d.chain) candidates c are.each within) same r in_chain

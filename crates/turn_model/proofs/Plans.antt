@@ -14,7 +14,7 @@ use Rattle.ivy_base.specs.declared.operation.Op.{Op}
 use Rattle.ivy_base.specs.declared.operation.Op.TheVariants as op
 use Rattle.ivy_base.specs.Naming.{inode_number, IsFileName}
 use Rattle.ivy_base.proofs.NameLemmas.{length-digest, bytes-digest}
-use Rattle.tree_model.specs.Tree.{Tree, Inode, inode_at, entry, is_directory, is_file, is_live, directory_kind, file_kind, name_count}
+use Rattle.tree_model.specs.Tree.{Tree, Inode, inode_at, entry, is_directory, is_file, is_live, directory_kind, file_kind, name_count, longest_file}
 use Rattle.tree_model.proofs.Sound.{both_false, not_false}
 use Rattle.log_model.specs.View.{View, view_name}
 use Rattle.log_model.specs.Spelling.{IsKey, IsMode, IsMoment, IsTarget, OperationFits, IsEndOp}
@@ -34,7 +34,7 @@ use Rattle.nfs_model.specs.declared.replies.NfsStatus.TheVariants.{BadHandle, St
 use Rattle.nfs_model.specs.declared.replies.Tail.{Tail}
 use Rattle.nfs_model.specs.Arguments.{ArgumentsFit, IsSetWhat, IsTime, IsHow}
 use Rattle.nfs_model.specs.Checks.{Check, same_bytes, is_dot, is_dot_dot, too_long_name, invalid_name}
-use Rattle.nfs_model.specs.Objects.{Object, object_of, may_write, is_owner}
+use Rattle.nfs_model.specs.Objects.{Object, object_of, may_write, is_owner, handle_tag}
 use Rattle.nfs_model.specs.Changing.{Plan, Refuse, Nothing, Operations, unless, about, plan, make, given_mode, new_owner, given_time, is_invalid_time, set_times, plan_directory, plan_symbolic_link, plan_file, plan_file_at, plan_create, plan_attributes, plan_write, plan_remove, plan_remove_directory, plan_rename, plan_rename_between, plan_link, directory_checks, set_attribute_checks, move_checks, inode_under, is_empty_under, same_target, may_change, may_cut, is_positive, permission_bits, invalid_times, too_large, taken, name_checks}
 use Rattle.turn_model.specs.Turn.{PlanMayBeWritten}
 
@@ -89,7 +89,7 @@ live_number t k o false m at e keys = cc
 
 object_number : (t : Tree) (view : View) (handle : List ℕ) (o : Object) → NumbersAreKeys t → object_of t view handle ≡ Ok o → IsKey o.number
 object_number t view handle o keys e =
-    let tagged = ok_not (not (length handle == 44 && same_bytes (take 4 handle) (73 ∷ 86 ∷ 89 ∷ 49 ∷ []))) BadHandle _ o e in
+    let tagged = ok_not (not (length handle == 44 && same_bytes (take 4 handle) handle_tag)) BadHandle _ o e in
     let here = ok_not (not (same_bytes (take 20 (drop 4 handle)) (view_name view).0)) Stale _ o tagged in
     live_number t (record { 0 = drop 24 handle }) o (is_live t (record { 0 = drop 24 handle })) (inode_at t (record { 0 = drop 24 handle })) refl here keys
 
@@ -144,11 +144,11 @@ bits_fit : (mode : Option ℕ) → IfSome (option_map permission_bits mode) IsMo
 bits_fit None = tt
 bits_fit (Some mode) = omega arith
 
-size_fits : (size : Option ℕ) → (too_large size).0 ≡ false → IfSome size (λ n. n ≤ 16777216)
+size_fits : (size : Option ℕ) → (too_large size).0 ≡ false → IfSome size (λ n. n ≤ longest_file)
 size_fits None small = tt
-size_fits (Some n) small = ltb-false 16777216 n small
+size_fits (Some n) small = ltb-false longest_file n small
 
-chosen_size : (b : Bool) (size : Option ℕ) → IfSome size (λ n. n ≤ 16777216) → IfSome (cond b size None) (λ n. n ≤ 16777216)
+chosen_size : (b : Bool) (size : Option ℕ) → IfSome size (λ n. n ≤ longest_file) → IfSome (cond b size None) (λ n. n ≤ longest_file)
 chosen_size true size fits = fits
 chosen_size false size fits = tt
 
@@ -299,9 +299,9 @@ module _ (t : Tree) (view : View) (who : Identity) (now : Moment) (own : PubKey)
       ((not (file_kind o.inode.kind), Inval)
       ∷ (not (may_write who o.inode || is_owner who o.inode), Acces)
       ∷ (not (count == length bytes), Inval)
-      ∷ (nat_lt 16777216 (offset + length (take 8192 bytes)), FBig) ∷ []) _ _ (λ passed.
+      ∷ (nat_lt longest_file (offset + length (take 8192 bytes)), FBig) ∷ []) _ _ (λ passed.
       fits_if own seq (length bytes == 0) _ _ (λ none. tt) (λ some.
-      let end = ltb-false 16777216 (offset + length (take 8192 bytes)) passed.1.1.1.0 in
+      let end = ltb-false longest_file (offset + length (take 8192 bytes)) passed.1.1.1.0 in
       let more = eqb-false (length bytes) 0 some in
       let part = length-take 8192 bytes in
       (record { fits = (object_number t view handle o keys e, omega arith, omega arith, end); no_end = λ h. h; number = tt }, tt))))

@@ -1,13 +1,12 @@
 -- What an agent knows: by its floor, and by which heads.
-use Rattle.std.specs.Prelude.{◌≡◌, ◌⊎◌, ℕ, ◌+◌, ◌≤◌, List, [], ◌∷◌, ◌++◌, Option, Some, None, Contains}
+use Rattle.std.specs.Prelude.{◌≡◌, ◌⊎◌, ℕ, ◌≤◌, List, [], ◌∷◌, ◌++◌, Option, Some, None, Contains}
 use Rattle.std.specs.List.{AllByRecursion}
-use Rattle.ivy_base.specs.declared.key.Key.{Key}
 use Rattle.ivy_base.specs.declared.key.PubKey.{PubKey}
 use Rattle.ivy_base.specs.Naming.{head_key_of}
 use Rattle.log_model.specs.View.{View}
 use Rattle.log_model.specs.Vector.{Stamp, Entry, Vector, stamp_at, seq_of}
 use Rattle.log_model.specs.Record.{Record}
-use Rattle.log_model.specs.Spelling.{no_name, HasSpelling}
+use Rattle.log_model.specs.Spelling.{no_name}
 use Rattle.log_model.specs.Rank.{own_entry}
 use Rattle.log_model.specs.Chain.{IsChain, LinkedFrom}
 use Rattle.log_model.specs.Closed.{log_of, IsAscending}

@@ -17,7 +17,7 @@ use Rattle.log_model.proofs.Lists.{both}
 use Rattle.version_vectors.specs.declared.entry.Entry as kept_entry
 use Rattle.version_vectors.specs.Entries.{vector_of}
 use Rattle.log_records.specs.declared.record.Record as kept
-use Rattle.log_records.specs.Batches.{owner_of}
+use Rattle.log_model.specs.Fetched.{owner_of}
 use Rattle.log_records.specs.Records.{record_of, records_of}
 use Rattle.causal_order.specs.AtHand.{IsLinked}
 use Rattle.agent_model.specs.Standing.{beyond, dominates}

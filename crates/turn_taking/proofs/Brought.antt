@@ -7,9 +7,9 @@ use Rattle.ivy_base.specs.Naming.{head_key_of}
 use Rattle.log_model.specs.View.{View}
 use Rattle.log_model.specs.Vector.{Stamp, Vector, reach, seq_of}
 use Rattle.log_model.specs.Record.{Record}
+use Rattle.log_model.specs.Fetched.{Edge, EndsAt, GoesOnFrom, owner_of, stamp_in}
 use Rattle.log_records.specs.declared.batch.Chain.{Chain}
-use Rattle.log_records.specs.declared.edge.Edge.{Edge}
-use Rattle.log_records.specs.Batches.{AreUnder, Batch, EndsAt, Extends, GoesOnFrom, IsBatch, owner_of, stamp_in}
+use Rattle.log_records.specs.Batches.{AreUnder, Batch, Extends, IsBatch}
 use Rattle.log_records.specs.Kept.{chain_of, chains_of}
 use Rattle.log_records.specs.Records.{records_of}
 use Rattle.causal_order.specs.AtHand.{BeginsBy, IsFetched, held_to}

@@ -13,13 +13,13 @@ use Rattle.log_model.specs.Vector.{Stamp, Vector, stamp_at, seq_of}
 use Rattle.log_model.specs.Record.{Record}
 use Rattle.log_model.specs.Chain.{IsGood}
 use Rattle.log_model.proofs.Lists.{here, each, from_filter}
-use Rattle.log_records.specs.Batches.{owner_of}
+use Rattle.log_model.specs.Fetched.{owner_of}
 use Rattle.causal_order.specs.AtHand.{IsLinked, BeginsBy}
 use Rattle.causal_order.specs.Started.{HaveOwnOwners}
 use Rattle.turn_model.specs.Basis.{Holding}
 use Rattle.agent_model.specs.Agent.{joined}
 use Rattle.agent_model.specs.Standing.{beyond, go_on_from, new_in}
-use Rattle.agent_model.specs.Taking.{within}
+use Rattle.turn_laws.specs.Taking.{within}
 use Rattle.agent_model.specs.Turning.{AreNext}
 use Rattle.turn_taking.specs.Chains.{AreNumbered, all_within, as_chain, new_of, some_of}
 use Rattle.turn_taking.proofs.Counting.{behind, counted, linked_numbered, none_up_to, up_to}

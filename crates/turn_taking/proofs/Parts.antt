@@ -19,7 +19,7 @@ use Rattle.log_model.proofs.Lists.{each, each_from, from_filter, here, in_cons, 
 use Rattle.log_model.proofs.Sets.{in_order_in}
 use Rattle.log_model.proofs.Weights.{Sorted}
 use Rattle.log_records.specs.declared.batch.Chain.{Chain}
-use Rattle.log_records.specs.Batches.{owner_of}
+use Rattle.log_model.specs.Fetched.{owner_of}
 use Rattle.log_records.specs.Records.{records_of}
 use Rattle.causal_order.specs.AtHand.{BeginsBy, IsAtHand, IsFetched, IsLinked, IsNewPart, held_to}
 use Rattle.causal_order.specs.Kept.{newest_name}

@@ -6,7 +6,7 @@ use Rattle.ivy_base.specs.declared.key.PubKey.{PubKey}
 use Rattle.log_model.specs.View.{View}
 use Rattle.log_model.specs.Record.{Record}
 use Rattle.log_model.specs.Chain.{IsGood, GoesOn}
-use Rattle.log_records.specs.Batches.{owner_of}
+use Rattle.log_model.specs.Fetched.{owner_of}
 use Rattle.causal_order.specs.AtHand.{IsLinked}
 use Rattle.causal_order.specs.Kept.{newest_name}
 use Rattle.agent_model.specs.Turning.{AreNext}

@@ -7,10 +7,10 @@ use Rattle.ivy_base.specs.declared.key.Key.{Key}
 use Rattle.ivy_base.specs.Naming.{head_key_of}
 use Rattle.log_model.specs.Vector.{Stamp, Vector, stamp_at, seq_of}
 use Rattle.log_model.specs.Record.{Record}
+use Rattle.log_model.specs.Fetched.{owner_of}
 use Rattle.version_vectors.specs.declared.entry.Entry as kept_entry
 use Rattle.version_vectors.specs.Entries.{entry_of, stamped}
 use Rattle.log_records.specs.declared.record.Record as kept
-use Rattle.log_records.specs.Batches.{owner_of}
 use Rattle.log_records.specs.Records.{record_of, records_of}
 use Rattle.causal_order.proofs.Starts.{held_at}
 use Rattle.agent_model.specs.Standing.{beyond, go_on_from}

@@ -17,7 +17,7 @@ use Rattle.log_model.specs.Record.{Record}
 use Rattle.log_model.specs.Chain.{IsGood}
 use Rattle.log_model.proofs.Lists.{each, each_from, from_filter, in_nothing, who_passes}
 use Rattle.log_records.specs.declared.record.Record as kept
-use Rattle.log_records.specs.Batches.{owner_of}
+use Rattle.log_model.specs.Fetched.{owner_of}
 use Rattle.log_records.specs.Records.{record_of, records_of}
 use Rattle.causal_order.specs.AtHand.{IsLinked}
 use Rattle.turn_laws.proofs.Heads.{one_member}

@@ -18,7 +18,8 @@ use Rattle.log_model.proofs.Later.{seq_with}
 use Rattle.log_model.proofs.Sets.{in_order_in}
 use Rattle.log_model.proofs.Weights.{Sorted, joins_reach}
 use Rattle.tree_model.proofs.Keys.{same_key_itself}
-use Rattle.log_records.specs.Batches.{Batch, owner_of}
+use Rattle.log_model.specs.Fetched.{owner_of}
+use Rattle.log_records.specs.Batches.{Batch}
 use Rattle.log_records.specs.Records.{records_of}
 use Rattle.causal_order.specs.AtHand.{IsLinked, IsNewPart, held_to}
 use Rattle.causal_order.specs.Over.{IsClosed}
@@ -26,7 +27,7 @@ use Rattle.causal_order.proofs.Meeting.{from_map}
 use Rattle.turn_model.specs.Basis.{Holding}
 use Rattle.agent_model.specs.Agent.{joined}
 use Rattle.agent_model.specs.Standing.{Chain as Brought, chain_of, dominates, new_in, new_records}
-use Rattle.agent_model.specs.Taking.{refresh_with, within}
+use Rattle.turn_laws.specs.Taking.{refresh_with, within}
 use Rattle.agent_model.specs.Turning.{is_behind, is_below_tide, lacks}
 use Rattle.turn_taking.specs.Chains.{all_within, as_chain, is_over, new_of}
 use Rattle.turn_taking.specs.Steps.{TakesOf, are_above, lacks_one}

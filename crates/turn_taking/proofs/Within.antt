@@ -15,11 +15,11 @@ use Rattle.log_model.proofs.Opening.{same_owner}
 use Rattle.log_model.proofs.Owners.{owner_itself}
 use Rattle.log_records.specs.declared.batch.Chain.{Chain}
 use Rattle.log_records.specs.declared.record.Record as kept
-use Rattle.log_records.specs.Batches.{owner_of}
+use Rattle.log_model.specs.Fetched.{owner_of}
 use Rattle.log_records.specs.Records.{record_of, records_of}
 use Rattle.causal_order.specs.AtHand.{IsLinked}
 use Rattle.dht_ids.specs.declared.judge.Judged.{Judged}
-use Rattle.agent_model.specs.Taking.{within}
+use Rattle.turn_laws.specs.Taking.{within}
 use Rattle.turn_taking.specs.Chains.{AreNamed, AreNumbered, IsRow, IsWhole, IsLeft, IsLeftRow, all_within, as_chain, chains_in, some_of}
 use Rattle.turn_taking.proofs.Counting.{up_to, counted}
 use Rattle.turn_taking.proofs.Rows.{linked_take, numbered_take, owner_take, named_take}

@@ -7,12 +7,12 @@ use Rattle.log_model.specs.View.{View}
 use Rattle.log_model.specs.Vector.{Vector, seq_of}
 use Rattle.log_model.specs.Record.{Record}
 use Rattle.log_model.specs.Rank.{full_vector}
+use Rattle.log_model.specs.Fetched.{owner_of}
 use Rattle.log_records.specs.declared.batch.Chain.{Chain}
-use Rattle.log_records.specs.Batches.{owner_of}
 use Rattle.log_records.specs.Records.{records_of}
 use Rattle.causal_order.specs.AtHand.{IsLinked}
 use Rattle.agent_model.specs.Standing.{Chain as Brought, beyond, dominates}
-use Rattle.agent_model.specs.Taking.{within}
+use Rattle.turn_laws.specs.Taking.{within}
 use Rattle.agent_model.specs.Turning.{AreNext}
 
 -- some records of one log as a chain of a refresh

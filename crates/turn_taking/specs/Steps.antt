@@ -5,7 +5,7 @@ use Rattle.ivy_base.specs.Naming.{head_key_of}
 use Rattle.log_model.specs.Record.{Record}
 use Rattle.log_model.specs.Rank.{full_vector}
 use Rattle.log_model.specs.Vector.{Vector, join}
-use Rattle.log_records.specs.Batches.{owner_of}
+use Rattle.log_model.specs.Fetched.{owner_of}
 use Rattle.log_records.specs.Records.{records_of}
 use Rattle.causal_order.specs.AtHand.{BeginsBy, IsNewPart, held_to}
 use Rattle.agent_model.specs.Turning.{lacks}

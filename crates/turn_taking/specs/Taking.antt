@@ -10,7 +10,7 @@ use Rattle.log_records.specs.Records.{records_of}
 use Rattle.turn_model.specs.Basis.{Holding}
 use Rattle.agent_model.specs.Agent.{joined}
 use Rattle.agent_model.specs.Turning.{is_behind, is_below_tide}
-use Rattle.agent_model.specs.Taking.{TakesNew, refresh_with, with_new}
+use Rattle.turn_laws.specs.Taking.{TakesNew, refresh_with, with_new}
 use Rattle.turn_taking.specs.declared.taking.Held.{Held}
 use Rattle.turn_taking.specs.declared.taking.Taken.{Taken}
 use Rattle.turn_taking.specs.declared.taking.Taken.TheVariants as taken

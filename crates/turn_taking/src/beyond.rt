@@ -3,7 +3,7 @@
 ghost use Rattle.std.specs.Prelude.{◌≡◌, option_map};
 ghost use Rattle.ivy_base.specs.Naming.{head_key_of};
 ghost use Rattle.version_vectors.specs.Entries.{stamped};
-ghost use Rattle.log_records.specs.Batches.{owner_of};
+ghost use Rattle.log_model.specs.Fetched.{owner_of};
 ghost use Rattle.log_records.specs.Records.{records_of};
 ghost use Rattle.agent_model.specs.Standing.{beyond, go_on_from};
 ghost use Rattle.turn_taking.specs.Chains.{AreNumbered, as_chain};

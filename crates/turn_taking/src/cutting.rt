@@ -3,7 +3,7 @@
 ghost use Rattle.std.specs.Prelude.{◌≡◌, nat_le, filter, IfOk};
 ghost use Rattle.std.specs.List.{AllByRecursion};
 ghost use Rattle.log_records.specs.Records.{records_of};
-ghost use Rattle.agent_model.specs.Taking.{within};
+ghost use Rattle.turn_laws.specs.Taking.{within};
 ghost use Rattle.turn_taking.specs.Chains.{IsRow, IsWhole, IsLeft, IsLeftRow, all_within, as_chain, chains_in};
 
 use crate::keys::is_owner;

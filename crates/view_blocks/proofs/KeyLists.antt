@@ -8,11 +8,11 @@ use Rattle.wire_model.specs.OneReading.{IsFront, HasNoFront}
 use Rattle.wire_model.proofs.Fronts.{none_of_fewer}
 use Rattle.wire_model.proofs.Arrays.{AreFew, counted, no_counted}
 use Rattle.log_model.specs.Spelling.{IsBlock}
-use Rattle.log_model.specs.View.{View, view_block}
+use Rattle.log_model.specs.View.{View, view_block, view_tag}
 use Rattle.block_parts.specs.Parts.{as_it_stands}
 use Rattle.block_parts.proofs.Blocks.{made_front, none_made}
 use Rattle.view_blocks.specs.Faults.{AreKeys, keys_block, keys_of, FitsBlock, HasNoForm}
-use Rattle.view_blocks.proofs.OneView.{mark, one_key, one_list}
+use Rattle.view_blocks.proofs.OneView.{one_key, one_list}
 
 few_keys : (keys : List PubKey) → AreKeys keys → AreFew one_key 4294967295 keys
 few_keys keys f = (omega (arith, f.0), f.1)
@@ -30,10 +30,10 @@ no_keys f absent = none_of_fewer few_keys (no_counted one_key 4294967295 (omega 
 
 -- ---- the block
 
-module _ (bytes after middle : List ℕ) (members : List PubKey) (marked : bytes ≡ mark ++ after) (first : IsFront AreKeys keys_block after members middle) where
+module _ (bytes after middle : List ℕ) (members : List PubKey) (marked : bytes ≡ view_tag ++ after) (first : IsFront AreKeys keys_block after members middle) where
   second_is : (view : View) → FitsBlock view → bytes ≡ view_block view → middle ≡ keys_block view.former
   second_is view fits e =
-      let same : after ≡ keys_block view.members ++ keys_block view.former = append_cancel_left mark after (keys_block view.members ++ keys_block view.former) (sym marked ∙ e) in
+      let same : after ≡ keys_block view.members ++ keys_block view.former = append_cancel_left view_tag after (keys_block view.members ++ keys_block view.former) (sym marked ∙ e) in
       (one_list.one members view.members middle (keys_block view.former) first.fits fits.members (sym first.spelled ∙ same)).1
 
   pub no_former : HasNoFront AreKeys keys_block middle → HasNoForm bytes

@@ -1,9 +1,10 @@
 -- A view that may be made fails no test, and what fails has one fault.
 use Rattle.std.proofs.Common.{◌≡◌, ◌≢◌, ℕ, ◌<◌, ◌≤◌, ◌⊎◌, inl, inr, true, List, [], ◌++◌, length, refl, sym, ap, ◌∙◌, subst, arith}
 use Rattle.log_model.specs.View.{View, IsView, view_block, have_own_head_keys, most_members, most_former}
+use Rattle.log_model.specs.ViewKeys.{HasKeys}
 use Rattle.view_blocks.specs.declared.fault.ViewFault.{ViewFault}
 use Rattle.view_blocks.specs.declared.fault.ViewFault.TheVariants.{Malformed, NoMember, TooMany, Order, Overlap, Memory}
-use Rattle.view_blocks.specs.Faults.{HasKeys, FitsBlock, HasFewKeys, FailsAs, BlockFailsAs}
+use Rattle.view_blocks.specs.Faults.{FitsBlock, HasFewKeys, FailsAs, BlockFailsAs}
 use Rattle.view_blocks.specs.Laws.{LegalViewsPass, FaultsAreOne}
 use Rattle.view_blocks.proofs.OneView.{fits_block, one_view_of_block}
 

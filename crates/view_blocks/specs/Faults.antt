@@ -4,14 +4,10 @@ use Rattle.std.specs.List.{AllByRecursion}
 use Rattle.ivy_base.specs.declared.key.Key.{Key}
 use Rattle.ivy_base.specs.declared.key.PubKey.{PubKey}
 use Rattle.wire_model.specs.Xdr.{array}
-use Rattle.log_model.specs.Spelling.{IsBlock}
 use Rattle.log_model.specs.View.{View, IsView, view_block, view_name, ascend, have_own_head_keys, most_members, most_former}
+use Rattle.log_model.specs.ViewKeys.{IsPubKey, HasKeys}
 use Rattle.view_blocks.specs.declared.fault.ViewFault.{ViewFault}
 use Rattle.view_blocks.specs.declared.fault.ViewFault.TheVariants.{Malformed, NoMember, TooMany, Order, Overlap, Memory}
-
--- a public key as it stands in a block: 60 bytes
-abbrev pub IsPubKey : PubKey → Type 0
-IsPubKey key = IsBlock 60 key.0
 
 -- keys whose count a word holds, and how they stand in a block (RFC 4506, section 4.13)
 abbrev pub AreKeys : List PubKey → Type 0
@@ -23,11 +19,6 @@ keys_block keys = array (λ key. key.0) keys
 -- the keys of these bytes each
 abbrev pub keys_of : List (List ℕ) → List PubKey
 keys_of each = map (λ bytes. record { 0 = bytes }) each
-
--- each key of the view has 60 bytes
-pub record HasKeys (view : View) : Type 0 where
-  pub members : AllByRecursion IsPubKey view.members
-  pub former : AllByRecursion IsPubKey view.former
 
 -- the form of a view's block: any two lists of keys, whether or not a view may be made of them
 pub record FitsBlock (view : View) : Type 0 where

@@ -2,9 +2,10 @@
 use Rattle.std.specs.Prelude.{◌≡◌, ◌≢◌, List, ℕ}
 use Rattle.wire_model.specs.OneReading.{ReadsOne}
 use Rattle.log_model.specs.View.{View, IsView, view_block}
+use Rattle.log_model.specs.ViewKeys.{HasKeys}
 use Rattle.view_blocks.specs.declared.fault.ViewFault.{ViewFault}
 use Rattle.view_blocks.specs.declared.fault.ViewFault.TheVariants.{Memory}
-use Rattle.view_blocks.specs.Faults.{HasKeys, FitsBlock, FailsAs, BlockFailsAs}
+use Rattle.view_blocks.specs.Faults.{FitsBlock, FailsAs, BlockFailsAs}
 
 -- a block is that of one view, and no block begins another
 abbrev pub OneViewForEachBlock : Type 0

@@ -4,7 +4,7 @@ use Rattle.std.specs.List.{AllByRecursion}
 use Rattle.ivy_base.specs.declared.key.Key.{Key}
 use Rattle.ivy_base.specs.declared.key.PubKey.{PubKey}
 use Rattle.ivy_base.specs.Naming.{head_key_of}
-use Rattle.view_blocks.specs.Faults.{IsPubKey}
+use Rattle.log_model.specs.ViewKeys.{IsPubKey}
 
 -- the keys have 60 bytes each, and the heads are theirs
 pub record AreHeads (heads : List Key) (keys : List PubKey) : Type 0 where

@@ -1,6 +1,6 @@
 //! Views: whose logs make up the file system, as values and as blocks (Ivy, section 4).
 //!
-//! Layer: a format above `xdr_codec`, `block_parts` and `log_model`, whose view (`specs/View.antt` there) is what contracts see.
+//! Layer: a format above `xdr_codec`, `block_parts` and `log_model`, whose view (`specs/View.antt` there) contracts see.
 //! For the layers above: [`View::make`] and [`View::read`] give a view exactly where one may be made, and else the
 //! first test that fails; [`View::write`] is its block, [`View::name`] the block's name, which is kept, and
 //! [`View::is_member`] answers by head keys, which are kept too. [`views_have_blocks`] is the laws: a block is that of
@@ -22,4 +22,4 @@ pub mod view;
 
 pub use fault::ViewFault;
 pub use laws::views_have_blocks;
-pub use view::View;
+pub use view::{MOST_FORMER, MOST_MEMBERS, View};

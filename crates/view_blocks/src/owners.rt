@@ -3,7 +3,8 @@
 ghost use Rattle.std.specs.Prelude.{◌≡◌, ◌++◌, not, IfOk};
 ghost use Rattle.std.specs.List.{AllByRecursion, list_all};
 ghost use Rattle.log_model.specs.View.{is_log_of, ascend, have_own_head_keys};
-ghost use Rattle.view_blocks.specs.Faults.{IsPubKey, keys_of};
+ghost use Rattle.log_model.specs.ViewKeys.{IsPubKey};
+ghost use Rattle.view_blocks.specs.Faults.{keys_of};
 
 use crate::form::KEY_LEN;
 use block_parts::check_block;

@@ -2,7 +2,8 @@
 
 ghost use Rattle.std.specs.Prelude.{◌≡◌, ◌≢◌, ◌≤◌, IfOk, IfErr, OnOk};
 ghost use Rattle.log_model.specs.View.{IsView, view_block, view_name, is_member, is_former, most_members, most_former};
-ghost use Rattle.view_blocks.specs.Faults.{HasKeys, HasFewKeys, CountsFailAs, FailsAs, BlockFailsAs};
+ghost use Rattle.log_model.specs.ViewKeys.{HasKeys};
+ghost use Rattle.view_blocks.specs.Faults.{HasFewKeys, CountsFailAs, FailsAs, BlockFailsAs};
 
 use crate::fault::ViewFault;
 use crate::form::{block_of, key_lists};
@@ -12,10 +13,10 @@ use std::alloc::Global;
 use std::marker::Model;
 
 /// The most members that a view has.
-const MOST_MEMBERS: usize = 16;
+pub const MOST_MEMBERS: usize = 16;
 
 /// The most former members that a view has.
-const MOST_FORMER: usize = 16;
+pub const MOST_FORMER: usize = 16;
 
 /// The participants whose logs make up the file system, and those whose logs did once (Ivy, section 4): 1 to 16
 /// members and up to 16 former ones, in the order of their keys' bytes, no two of which name one log.

@@ -7,16 +7,16 @@ use Rattle.ivy_base.specs.Naming.{name}
 use Rattle.log_model.specs.View.{View}
 use Rattle.log_model.specs.Vector.{Stamp, Vector}
 use Rattle.log_model.specs.Record.{Record}
-use Rattle.log_records.specs.declared.chain_fault.ChainFault.{ChainFault}
-use Rattle.log_records.specs.declared.edge.Edge.{Edge}
+use Rattle.log_model.specs.declared.chain_fault.ChainFault.{ChainFault}
+use Rattle.log_model.specs.Fetched.{Edge}
 use Rattle.ring_model.specs.Gets.{Got, Right, Damaged, Missing, EndsBlock}
 use Rattle.dht_ids.specs.declared.ask.Heard.{Heard}
 use Rattle.dht_ids.specs.declared.judge.Judged.{Judged}
 use Rattle.dht_ids.specs.declared.peer.Peer.{Peer}
-use Rattle.dhash_client.specs.declared.miss.Miss.{Miss}
-use Rattle.dhash_client.specs.Course.{Told, result_of}
-use Rattle.dhash_client.specs.Course.IsCourse.{no_route, of_owners}
-use Rattle.dhash_client.specs.GetBlock.{IsGetOfBlock, block_in as block_answered}
+use Rattle.dhash_model.specs.declared.miss.Miss.{Miss}
+use Rattle.dhash_model.specs.Course.{Told, result_of}
+use Rattle.dhash_model.specs.Course.IsCourse.{no_route, of_owners}
+use Rattle.dhash_model.specs.GetBlock.{IsGetOfBlock, block_in as block_answered}
 use Rattle.agent_model.specs.Standing.{Chain, Standing}
 use Rattle.session_model.specs.Brought.{Brought, BlockOf, HeadsOf, Part, Want, brought_in}
 use Rattle.session_model.specs.Walks.{LogEnd, Misses, Stops, Tries, WalkEnd, Walks}

@@ -6,7 +6,7 @@ use Rattle.log_model.specs.Vector.{Vector}
 use Rattle.dht_ids.specs.declared.ask.Ask.{Ask}
 use Rattle.dht_ids.specs.declared.ask.Heard.{Heard}
 use Rattle.dht_ids.specs.declared.peer.Peer.{Peer}
-use Rattle.dhash_client.specs.declared.miss.Miss.{Miss}
+use Rattle.dhash_model.specs.declared.miss.Miss.{Miss}
 use Rattle.dhash_client.specs.GetHead.{Judges}
 use Rattle.agent_model.specs.Standing.{Chain, Standing}
 use Rattle.session_model.specs.Brought.{Brought, Part, Want, Content, brought_in}

@@ -11,11 +11,10 @@ use Rattle.dht_ids.specs.declared.peer.Peer.{Peer}
 use Rattle.ring_model.specs.Route.{Route}
 use Rattle.ring_model.specs.Lookup.{IsLookup}
 use Rattle.ring_model.specs.Lookup.IsLookup.{over, spent, known, silent, answered}
-use Rattle.dhash_client.specs.declared.miss.Miss.{Miss}
-use Rattle.dhash_client.specs.declared.miss.Miss.TheVariants as miss
-use Rattle.dhash_client.specs.Course.{Told, IsCourse, told_all}
-use Rattle.dhash_client.specs.Machine.{outcome}
-use Rattle.dhash_client.specs.Course.IsCourse.{no_route, of_owners}
+use Rattle.dhash_model.specs.declared.miss.Miss.TheVariants as miss
+use Rattle.dhash_model.specs.declared.miss.Miss.{Miss}
+use Rattle.dhash_model.specs.Course.{Told, IsCourse, told_all, outcome}
+use Rattle.dhash_model.specs.Course.IsCourse.{no_route, of_owners}
 use Rattle.session_model.specs.Asking.{AsksNext}
 use Rattle.session_model.specs.Brought.{Brought, BlockOf, HeadsOf, Want}
 use Rattle.session_model.specs.Sessions.{Gets, IsGet, wanted_key}

@@ -11,7 +11,7 @@ use Rattle.dht_ids.specs.declared.ask.Want.{Want as Next}
 use Rattle.dht_ids.specs.declared.ask.Want.TheVariants as next
 use Rattle.dht_ids.specs.declared.judge.Judged.{Judged}
 use Rattle.dht_ids.specs.declared.peer.Peer.{Peer}
-use Rattle.dhash_client.specs.declared.miss.Miss.{Miss}
+use Rattle.dhash_model.specs.declared.miss.Miss.{Miss}
 use Rattle.dhash_client.specs.GetHead.{Judges}
 use Rattle.log_records.specs.Batches.{Batch, AreUnder, owners_in}
 use Rattle.agent_model.specs.Standing as agent

@@ -1,7 +1,7 @@
 -- What a line that goes on does; and a command by which no session goes on and no snapshot is made leaves a world that keeps what it should.
 use Rattle.std.proofs.Common.{◌≡◌, ◌⊎◌, inl, inr, ⊎_elim, ℕ, Bool, true, false, List, [], ◌∷◌, Option, Some, None, refl, nat_lt}
 use Rattle.std.specs.Prelude.{MatchBool, length, sum_by}
-use Rattle.log_heads.specs.Signed.{hss_judged}
+use Rattle.dhash_model.specs.Signed.{hss_judged}
 use Rattle.script_driver.specs.Run.{Goes, Ends, Refuses, Exceeds}
 use Rattle.script_model.specs.declared.command.Command.{Command}
 use Rattle.script_model.specs.declared.command.Command.TheVariants as command

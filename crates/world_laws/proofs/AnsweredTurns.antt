@@ -47,7 +47,7 @@ use Rattle.world_laws.proofs.AnsweredTurnsFit.{all_of, all_owned, lost_fits, mor
 use Rattle.world_laws.proofs.TurnsKept.{after_of}
 use Rattle.world_laws.proofs.TurnsKnown.{KnowsThen, same_own_log, taken, taken_known, turned_is, writes, written_verified}
 use Rattle.world_laws.proofs.TurnsScene.{is_by, is_found, met_grows}
-use Rattle.world_laws.proofs.TurnsSets.{lost_set, read_set, saved_set}
+use Rattle.agent_laws.proofs.Sets.{lost_set, read_set, saved_set}
 use Rattle.world_laws.proofs.TurnsSigning.{turned_to}
 use Rattle.world_laws.proofs.TurnsWorld.{FitsTurn, apart_before, goes_then, keeps_then, sound_session, told_named, told_now, world_then}
 
@@ -217,7 +217,7 @@ module _ (c : Scene) (r : ℕ) (p : Participant) (keeps : Keeps (c.world, c.stor
     read_leaves by_definition = still_leaves [] by_definition (λ apart.
         let its = is_turn apart in
         ap (λ (x : Turned). x.set) (turned_is c r p keeps hand is_p notes given xid asked reply done asks h [] by_definition turned apart its)
-        ∙ read_set a view its.taken asked c.world.now (fails_next p.keeper) (writes c r p keeps hand is_p notes given xid asked reply done asks h [] by_definition turned apart its))
+        ∙ read_set hss a view its.taken asked c.world.now (fails_next p.keeper) (writes c r p keeps hand is_p notes given xid asked reply done asks h [] by_definition turned apart its))
         a.has_failed p.keeper refl
 
     module _ (before : List Record) (last : Record) (may_write : MayWrite hss c.session.standing.view p.agent before last)
@@ -252,7 +252,7 @@ module _ (c : Scene) (r : ℕ) (p : Participant) (keeps : Keeps (c.world, c.stor
           set_is apart =
               let its = is_turn apart in
               ap (λ (x : Turned). x.set) (turned_is c r p keeps hand is_p notes given xid asked reply done asks h (before ++ last ∷ []) by_definition turned apart its)
-              ∙ saved_set a view its.taken asked c.world.now (fails_next p.keeper) fine ∙ sym (writes c r p keeps hand is_p notes given xid asked reply done asks h (before ++ last ∷ []) by_definition turned apart its)
+              ∙ saved_set hss a view its.taken asked c.world.now (fails_next p.keeper) fine ∙ sym (writes c r p keeps hand is_p notes given xid asked reply done asks h (before ++ last ∷ []) by_definition turned apart its)
 
       abbrev lost_keeper : Keeper
       lost_keeper = asked_to_save p.keeper (Some (saving c r p keeps hand is_p notes given xid asked reply done asks applied h basis_is may turned is_turn before last may_write by_definition))
@@ -270,7 +270,7 @@ module _ (c : Scene) (r : ℕ) (p : Participant) (keeps : Keeps (c.world, c.stor
       lost_is fails apart =
           let its = is_turn apart in
           ap (λ (x : Turned). x.set) (turned_is c r p keeps hand is_p notes given xid asked reply done asks h (before ++ last ∷ []) by_definition turned apart its)
-          ∙ lost_set a view its.taken asked c.world.now (fails_next p.keeper) fails
+          ∙ lost_set hss a view its.taken asked c.world.now (fails_next p.keeper) fails
 
       kept_by : (o : Option Bool) → memory.planned_next p.keeper ≡ o → lost_keeper.kept ≡ (memory.after_planned o p.keeper (kept_bytes saved_now)).kept
       kept_by o planned = ap (λ x. (memory.after_planned x p.keeper (kept_bytes saved_now)).kept) planned

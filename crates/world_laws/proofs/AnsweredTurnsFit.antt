@@ -37,7 +37,7 @@ use Rattle.world_model.specs.Steps.{Scene, met_by, turning_of}
 use Rattle.world_laws.specs.Keeps.{AreParticipants, IsInHand, IsKeptSo, IsMetPost, IsSoundIn, IsSoundKeptIn, Keeps, SignsOnce}
 use Rattle.world_laws.proofs.Frames.{into_map}
 use Rattle.world_laws.proofs.MoreMet.{more_posts, more_snapshot, some_weaker}
-use Rattle.world_laws.proofs.TurnsFloors.{IsSpelledIn, joined_first, joined_no_more, joined_second, records_no_more, records_reach, records_spelled}
+use Rattle.agent_laws.proofs.Floors.{IsSpelledIn, joined_first, joined_no_more, joined_second, records_no_more, records_reach, records_spelled}
 use Rattle.world_laws.proofs.TurnsKept.{after_of, log_with_own, new_kept_sound, stays_sound, still_kept_in}
 use Rattle.world_laws.proofs.TurnsKnown.{KnowsThen, knows_more, same_own_log, taken, taken_known, written_known}
 use Rattle.world_laws.proofs.TurnsScene.{agent_owned, anyway, heads_now, in_view, is_found, kept_sound, kept_viewed_now, keeper_owned, met_grows, of_view, pending_met, post_met, saved, snapshot_now, snapshots_now, so}

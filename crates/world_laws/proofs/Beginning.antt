@@ -2,7 +2,7 @@
 use Rattle.std.proofs.Common.{◌≡◌, ℕ, List, [], ◌∷◌, ◌++◌, Option, Some, refl, subst, arith, le_refl}
 use Rattle.std.specs.Prelude.{IfSome, Contains}
 use Rattle.std.specs.List.{AllByRecursion}
-use Rattle.dhash_client.specs.declared.miss.Miss.{Miss}
+use Rattle.dhash_model.specs.declared.miss.Miss.{Miss}
 use Rattle.log_model.proofs.Lists.{each, in_nothing}
 use Rattle.log_model.specs.Vector.{seq_of}
 use Rattle.log_model.specs.View.{View}

@@ -14,12 +14,12 @@ use Rattle.log_model.specs.Standing.{Stand, StandsAmong}
 use Rattle.log_records.proofs.Standing.{block_is_met}
 use Rattle.log_model.proofs.Lists.{here, there, each, each_from}
 use Rattle.turn_model.specs.Basis.{Basis, nothing_held}
-use Rattle.view_blocks.specs.Faults.{HasKeys}
+use Rattle.log_model.specs.ViewKeys.{HasKeys}
 use Rattle.agent_model.specs.Standing.{Refresh}
 use Rattle.agent_model.specs.Candidates.{Brings, MayTurn, StandsWithin}
-use Rattle.session_model.specs.Brought.{brought_in, heads_at}
+use Rattle.session_model.specs.Brought.{brought_in}
 use Rattle.session_model.specs.Refreshing.{Note, Done}
-use Rattle.session_model.specs.Courses.{HasRefreshed}
+use Rattle.session_model.specs.Courses.{grounds_of, HasRefreshed}
 use Rattle.session_laws.specs.Bringing.{AreMet, StartsFrom}
 use Rattle.session_laws.specs.Loading.{IsSnapshotOf}
 use Rattle.session_laws.proofs.Loading.{basis_is_known}
@@ -111,11 +111,11 @@ module _ (c : Scene) (keeps : Keeps (c.world, c.story)) (apart : NamesTellApart 
     starts = start_is_known c.session.standing sound.of c.began.knew (brought_in c.session.parts) notes given Done in_a_view sound.knows sound.held sound.edges
         (only_held (sound.of ≡ nothing_held) (IsSnapshotOf c.world.met c.session.standing.view c.began.knew) c.session.standing.to_load sound.to_load) basis_known done.1
 
-    brings : Brings (heads_at (brought_in c.session.parts)) (named_bytes c.world) c.session.standing.view c.session.standing c.began.knew given
+    brings : Brings (grounds_of (named_bytes c.world) c.session c.began.knew) c.session.standing.view given
     brings = refreshed_is_brought (named_bytes c.world) c.session.standing c.began.knew (brought_in c.session.parts) notes given apart in_a_view sound.knows.by_floor knew_stand starts are_named done.1
 
     may_turn : c.session.standing.own ≡ own p.agent
-        → MayTurn (heads_at (brought_in c.session.parts)) (named_bytes c.world) c.session.standing.view (own p.agent) c.session.standing c.began.knew (known_of c.story p.name) given
+        → MayTurn (grounds_of (named_bytes c.world) c.session c.began.knew) c.session.standing.view (own p.agent) (known_of c.story p.name) given
     may_turn same = record {
       same_own = same;
       by_floor = sound.knows.by_floor;

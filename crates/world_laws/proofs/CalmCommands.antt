@@ -7,7 +7,7 @@ use Rattle.ivy_base.specs.declared.key.Key.{Key}
 use Rattle.ivy_base.specs.declared.key.PubKey.{PubKey}
 use Rattle.ring_model.specs.Ring.{Links}
 use Rattle.hash_signature_model.specs.declared.set.Set.{Set}
-use Rattle.log_heads.specs.Signed.{hss_judged}
+use Rattle.dhash_model.specs.Signed.{hss_judged}
 use Rattle.log_model.proofs.Lists.{each, each_append, each_from}
 use Rattle.log_model.specs.View.{View, view_block, view_name}
 use Rattle.snapshot_model.specs.Spelling.{root_name, snapshot_blocks}
@@ -18,9 +18,9 @@ use Rattle.dht_ids.specs.declared.ask.Ask.TheVariants as ask
 use Rattle.dht_ids.specs.declared.ask.Heard.{Heard}
 use Rattle.dht_ids.specs.declared.peer.Peer.{Peer}
 use Rattle.dht_ids.specs.declared.post.Post.{Post}
-use Rattle.dhash_client.specs.Course.{IsCourse, Told, told_all}
-use Rattle.dhash_client.specs.Puts.{EndsPut}
-use Rattle.dhash_client.specs.declared.miss.Miss.{Miss}
+use Rattle.dhash_model.specs.Course.{IsCourse, Told, told_all}
+use Rattle.dhash_model.specs.Puts.{EndsPut}
+use Rattle.dhash_model.specs.declared.miss.Miss.{Miss}
 use Rattle.agent_model.specs.Agent.{entered, failed, is_head, kept_of, restored}
 use Rattle.agent_model.specs.Others.{basis_of, block_post, is_pending_block, snapped, snapping}
 use Rattle.agent_model.specs.Views.{entering_with, is_own_member, not_named}

@@ -8,19 +8,20 @@ use Rattle.ivy_base.specs.declared.key.PubKey.{PubKey}
 use Rattle.ivy_base.specs.declared.operation.Moment.{Moment}
 use Rattle.ivy_base.specs.Naming.{NamesTellApart, head_key_of}
 use Rattle.ring_model.proofs.Lists.{all-among}
-use Rattle.log_heads.specs.Signed.{IsSignedHead, hss_judged}
+use Rattle.dhash_model.specs.Signed.{hss_judged}
+use Rattle.log_heads.specs.Signed.{IsSignedHead}
 use Rattle.log_heads.proofs.SignedHeads.{signed_heads}
 use Rattle.log_model.proofs.Lists.{both, each}
-use Rattle.log_model.specs.Spelling.{IsMoment, head_block}
+use Rattle.log_model.specs.Spelling.{IsMoment, head_block, head_tag}
 use Rattle.log_model.specs.Vector.{Stamp}
 use Rattle.wire_model.specs.Xdr.{opaque, word}
 use Rattle.wire_model.proofs.OneReading.{same_fronts}
-use Rattle.hss_keys.specs.Signer.{Signer, hss_key_of, owner_of}
+use Rattle.hash_signature_model.specs.Signer.{Signer, hss_key_of, owner_of}
 use Rattle.dht_ids.specs.declared.judge.Judged.{Judged}
 use Rattle.dht_ids.specs.declared.post.Post.{Post}
 use Rattle.agent_model.specs.Agent.{is_head}
-use Rattle.node_store.specs.Stores.{Block}
-use Rattle.node_store.specs.declared.kind.Kind.TheVariants.{Content, Head}
+use Rattle.dhash_model.specs.Stores.{Block}
+use Rattle.dhash_model.specs.declared.kind.Kind.TheVariants.{Content, Head}
 use Rattle.script_driver.specs.Run.{Goes}
 use Rattle.script_model.specs.declared.command.Command.TheVariants as command
 use Rattle.world_model.specs.Agents.{own}
@@ -29,13 +30,13 @@ use Rattle.world_model.specs.World.{Participant, World, empty_world, named_bytes
 use Rattle.world_model.specs.Story.{empty_story}
 use Rattle.world_model.specs.Logs.{Played, beside, goes_if}
 use Rattle.world_model.specs.Ring.{RingLine}
+use Rattle.world_model.specs.Holding.{rank}
 use Rattle.round_laws.specs.RingOf.{links_in}
-use Rattle.round_laws.specs.Holding.{rank}
 use Rattle.round_laws.proofs.Nodes.{Shape, at_among}
 use Rattle.round_laws.proofs.Rounding.{shapes_of}
 use Rattle.std.specs.FinMap.Entries.{find as value_at}
 use Rattle.ivy_base.specs.Naming.{key_cmp}
-use Rattle.node_store.specs.Stores.{Blocks}
+use Rattle.dhash_model.specs.Stores.{Blocks}
 use Rattle.world_laws.specs.Calm.{Calmly, HasSameRing, IsCalmAt, Since, Stopped, post_rank}
 use Rattle.world_laws.specs.Calm.Calmly.{none as calmly_none, more as calmly_more}
 use Rattle.world_laws.specs.Keeps.{IsKeptSo, Keeps, SignsOnce, sealed_with}
@@ -80,7 +81,7 @@ calmly_keeps lines_keep r w since lines calm =
 same_key : (s t : Signer) → (s.id ≡ t.id) × (s.seed ≡ t.seed) × (s.sets ≡ t.sets) → owner_of s ≡ owner_of t
 same_key s t e = λ i. hss_key_of (e.0 i) (e.1 i) (e.2 i)
 
-tail_of : (a b : List ℕ) → 73 ∷ 86 ∷ 72 ∷ 49 ∷ a ≡ 73 ∷ 86 ∷ 72 ∷ 49 ∷ b → a ≡ b
+tail_of : (a b : List ℕ) → head_tag ++ a ≡ head_tag ++ b → a ≡ b
 tail_of a b e = cc e
 
 -- a head tells its owner
@@ -88,7 +89,7 @@ owner_told : (o u : PubKey) (s t : Stamp) (a b : List ℕ) → length o.0 ≡ 60
 owner_told o u s t a b size other same = tail_of o.0 u.0 (same_fronts (tagged o) (tagged u) (word s.seq ++ (s.name.0 ++ opaque a)) (word t.seq ++ (t.name.0 ++ opaque b)) lengths (sym (whole o s a) ∙ same ∙ whole u t b)).0
   where
     tagged : PubKey → List ℕ
-    tagged p = 73 ∷ 86 ∷ 72 ∷ 49 ∷ p.0
+    tagged p = head_tag ++ p.0
 
     lengths : length (tagged o) ≡ length (tagged u)
     lengths = ap (λ n. suc (suc (suc (suc n)))) (size ∙ sym other)

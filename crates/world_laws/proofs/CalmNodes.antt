@@ -14,7 +14,7 @@ use Rattle.ring_model.specs.Members.{IsAmong}
 use Rattle.ring_model.specs.Ring.{Links, IsSettledRing}
 use Rattle.ring_model.specs.Lookup.{IsFate}
 use Rattle.ring_model.proofs.Lists.{all-among, some_same, none_some}
-use Rattle.log_heads.specs.Signed.{hss_judged}
+use Rattle.dhash_model.specs.Signed.{hss_judged}
 use Rattle.log_model.proofs.Lists.{in_nothing}
 use Rattle.dht_ids.specs.Asked.{IsForData, route_in}
 use Rattle.dht_ids.specs.Peers.{place}
@@ -25,18 +25,19 @@ use Rattle.dht_ids.specs.declared.ask.StoreFault.{StoreFault}
 use Rattle.dht_ids.specs.declared.ask.StoreFault.TheVariants.{WrongName}
 use Rattle.dht_ids.specs.declared.judge.Judged.{Judged}
 use Rattle.dht_ids.specs.declared.peer.Peer.{Peer}
-use Rattle.dhash_client.specs.Puts.{holds, is_of_put}
-use Rattle.node_store.specs.Stores.{Block, content, content_fault, full, head, head_fault, not_judged, number_at, older}
-use Rattle.node_store.specs.declared.kind.Kind.{Kind}
-use Rattle.node_store.specs.declared.kind.Kind.TheVariants.{Content, Head}
+use Rattle.dhash_model.specs.Puts.{holds, is_of_put}
+use Rattle.dhash_model.specs.Stores.{Block, content, content_fault, full, head, head_fault, not_judged, number_at, older}
+use Rattle.dhash_model.specs.declared.kind.Kind.{Kind}
+use Rattle.dhash_model.specs.declared.kind.Kind.TheVariants.{Content, Head}
 use Rattle.node_store.proofs.Maps.{keys_total}
 use Rattle.world_model.specs.Nodes.{Node, answered, stored}
 use Rattle.world_model.specs.World.{World, node_at, peer_of, with_node}
 use Rattle.world_model.specs.Fates.{FateOf, counted}
 use Rattle.world_model.specs.Fates.FateOf.{lost, stopped, answers}
 use Rattle.world_model.specs.Rounds.{question_as}
-use Rattle.round_laws.specs.RingOf.{AreApart, links_in, own_node}
-use Rattle.round_laws.specs.Holding.{held_in, rank}
+use Rattle.world_model.specs.RingOf.{own_node}
+use Rattle.world_model.specs.Holding.{held_in, rank}
+use Rattle.round_laws.specs.RingOf.{AreApart, links_in}
 use Rattle.round_laws.proofs.Nodes.{Shape, at, at_among, at_id, at_other, at_same, lives_by, made_by, order_by, replaced, same_id, same_or_not, shape}
 use Rattle.round_laws.proofs.Standing.{IsBase, IsWithin, KeepsRing, fated, peer_or_not, stands, still_asked, node_made}
 use Rattle.round_laws.proofs.Fixing.{routed}

@@ -17,7 +17,14 @@ use Rattle.ring_model.specs.Route.{Route}
 use Rattle.ring_model.proofs.Lists.{all-among, all-both, all-left, all-right, among_take, cons_head, cons_tail, filter_all, nil_cons, some_same}
 use Rattle.ring_model.proofs.Members.{from_place_live}
 use Rattle.ring_model.proofs.Rounds.{lookup_right}
-use Rattle.log_heads.specs.Signed.{hss_judged}
+use Rattle.dhash_model.specs.Signed.{hss_judged}
+use Rattle.dhash_model.specs.Course.{Told, told_all, outcome}
+use Rattle.dhash_model.specs.Course.IsCourse.{no_route, of_owners}
+use Rattle.dhash_model.specs.Puts.{holds, is_of_put}
+use Rattle.dhash_model.specs.declared.miss.Miss.{Miss}
+use Rattle.dhash_model.specs.Stores.{Block}
+use Rattle.dhash_model.specs.declared.kind.Kind.{Kind}
+use Rattle.dhash_model.specs.declared.kind.Kind.TheVariants.{Content, Head}
 use Rattle.dht_ids.specs.Asked.{route_in, routes}
 use Rattle.dht_ids.specs.Peers.{place}
 use Rattle.dht_ids.specs.declared.ask.Answer.{Answer}
@@ -27,19 +34,11 @@ use Rattle.dht_ids.specs.declared.ask.AskKind.TheVariants as kind
 use Rattle.dht_ids.specs.declared.ask.Heard.{Heard}
 use Rattle.dht_ids.specs.declared.peer.Peer.{Peer}
 use Rattle.dht_ids.specs.declared.post.Post.{Post}
-use Rattle.dhash_client.specs.Course.{Told, told_all}
-use Rattle.dhash_client.specs.Course.IsCourse.{no_route, of_owners}
-use Rattle.dhash_client.specs.Machine.{outcome}
-use Rattle.dhash_client.specs.Puts.{holds, is_of_put}
-use Rattle.dhash_client.specs.declared.miss.Miss.{Miss}
 use Rattle.agent_model.specs.Agent.{is_head}
-use Rattle.node_store.specs.Stores.{Block}
-use Rattle.node_store.specs.declared.kind.Kind.{Kind}
-use Rattle.node_store.specs.declared.kind.Kind.TheVariants.{Content, Head}
 use Rattle.session_model.specs.Sessions.{IsPutOfPost, acknowledged, put_question}
 use Rattle.world_model.specs.World.{World, with_numbered}
 use Rattle.world_model.specs.Rounds.{question_as}
-use Rattle.round_laws.specs.Holding.{rank}
+use Rattle.world_model.specs.Holding.{rank}
 use Rattle.round_laws.proofs.Nodes.{Shape, lives_by, made_by, order_by}
 use Rattle.round_laws.proofs.Order.{lives_made}
 use Rattle.round_laws.proofs.Standing.{node_made, stands}

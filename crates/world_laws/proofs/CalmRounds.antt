@@ -9,13 +9,13 @@ use Rattle.ring_model.specs.Ring.{IsCoveredRing, IsSettledRing, Links}
 use Rattle.ring_model.proofs.Lists.{all_from, among_filter, filter_none}
 use Rattle.ring_model.proofs.Members.{ascending_filter}
 use Rattle.ring_model.proofs.Settled.{few_stops_covered}
-use Rattle.log_heads.specs.Signed.{hss_judged}
+use Rattle.dhash_model.specs.Signed.{hss_judged}
 use Rattle.log_model.proofs.Lists.{in_nothing}
 use Rattle.dht_ids.specs.Peers.{place}
 use Rattle.dht_ids.specs.declared.ask.Answer.{Answer}
 use Rattle.dht_ids.specs.declared.ask.Ask.{Ask}
 use Rattle.dht_ids.specs.declared.peer.Peer.{Peer}
-use Rattle.chord_core.specs.State.{alone_node}
+use Rattle.dhash_model.specs.State.{alone_node}
 use Rattle.script_driver.specs.Run.{Outcome, Goes, Ends, Refuses, Exceeds}
 use Rattle.script_model.specs.declared.command.Command.{Command}
 use Rattle.script_model.specs.Lines.{command_of}
@@ -32,7 +32,8 @@ use Rattle.world_model.specs.Ring.JoinLine.{before_ring as join_before_ring, kno
 use Rattle.world_model.specs.Rounds.{IsRoundOf, RoundLine}
 use Rattle.world_model.specs.Rounds.RoundLine.{before_ring as round_before_ring, goes as round_goes}
 use Rattle.world_model.specs.Step.{Does}
-use Rattle.round_laws.specs.RingOf.{AreNamed, AreNodes, IsCoveredIn, IsSettledIn, LosesNone, links_in, lives_in}
+use Rattle.world_model.specs.RingOf.{lives_in}
+use Rattle.round_laws.specs.RingOf.{AreNamed, AreNodes, IsCoveredIn, IsSettledIn, LosesNone, links_in}
 use Rattle.round_laws.proofs.Nodes.{Shape, lives_by, lives_shape, made_by, made_shape, order_by, order_shape, replaced}
 use Rattle.round_laws.proofs.Joining.{join_line_joins}
 use Rattle.round_laws.proofs.Order.{same_lists}

@@ -8,7 +8,7 @@ use Rattle.ivy_base.specs.Naming.{name}
 use Rattle.ring_model.specs.Members.{first}
 use Rattle.ring_model.specs.Ring.{Links}
 use Rattle.ring_model.proofs.Lists.{all_weaker}
-use Rattle.log_heads.specs.Signed.{hss_judged}
+use Rattle.dhash_model.specs.Signed.{hss_judged}
 use Rattle.log_model.proofs.Lists.{each_from}
 use Rattle.dht_ids.specs.Asked.{IsForData}
 use Rattle.dht_ids.specs.declared.ask.Answer.{Answer}

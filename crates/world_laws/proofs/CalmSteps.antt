@@ -5,7 +5,7 @@ use Rattle.std.specs.List.{AllByRecursion}
 use Rattle.ivy_base.specs.declared.key.Key.{Key}
 use Rattle.ring_model.specs.Members.{IsAmong, first}
 use Rattle.ring_model.specs.Ring.{Links}
-use Rattle.log_heads.specs.Signed.{hss_judged}
+use Rattle.dhash_model.specs.Signed.{hss_judged}
 use Rattle.log_model.proofs.Lists.{each, each_append, each_from, from_filter}
 use Rattle.dht_ids.specs.Asked.{IsForData, told}
 use Rattle.dht_ids.specs.declared.ask.Answer.{Answer}
@@ -15,7 +15,8 @@ use Rattle.dht_ids.specs.declared.ask.Heard.{Heard}
 use Rattle.dht_ids.specs.declared.peer.Peer.{Peer}
 use Rattle.dht_ids.specs.declared.post.Ack.{Ack}
 use Rattle.dht_ids.specs.declared.post.Post.{Post}
-use Rattle.dhash_client.specs.Puts.{holds, is_of_put}
+use Rattle.dhash_model.specs.Puts.{holds, is_of_put}
+use Rattle.dhash_model.specs.declared.kind.Kind.TheVariants.{Content, Head}
 use Rattle.agent_model.specs.Agent.{is_head}
 use Rattle.session_model.specs.Courses.{Fails, LacksMemory}
 use Rattle.session_model.specs.Courses.Fails.{fails, goes_on}
@@ -29,7 +30,6 @@ use Rattle.world_model.specs.World.{World, Participant, participant, with_partic
 use Rattle.world_model.specs.Story.{Began, Story}
 use Rattle.world_model.specs.Fates.{FateOf}
 use Rattle.world_model.specs.Steps.{Scene, acked_by}
-use Rattle.node_store.specs.declared.kind.Kind.TheVariants.{Content, Head}
 use Rattle.round_laws.proofs.Nodes.{Shape, made_by}
 use Rattle.world_laws.proofs.CalmNodes.{Fits, HeldStays, HoldKinds, IsMadeRing, IsOfKind, IsRing, KeepsRings, is_routed, put_is_held, same_rings}
 use Rattle.world_laws.proofs.CalmPuts.{AreTrue, IsAckHeld, IsHeldFor, IsTrueAt, kind_of, put_ends, question_is}

@@ -1,7 +1,7 @@
 -- Each line does something in each world that keeps what it should, whichever story fits it.
 use Rattle.std.proofs.Common.{◌≡◌, ◌≢◌, ℕ, ◌+◌, Bool, true, false, List, [], ◌∷◌, length, Option, Some, None, refl, sym, ◌∙◌, subst}
 use Rattle.std.specs.Prelude.{IfSome, MatchBool, nat_lt, sum_by}
-use Rattle.log_heads.specs.Signed.{hss_judged}
+use Rattle.dhash_model.specs.Signed.{hss_judged}
 use Rattle.script_driver.specs.Run.{Outcome, Goes, Ends, Refuses, Exceeds, Ran, Runs, behind, ended, limited, refused, shown}
 use Rattle.script_driver.specs.Seen.{HasStory, SeenStep, seen}
 use Rattle.script_model.specs.declared.command.Command.{Command}

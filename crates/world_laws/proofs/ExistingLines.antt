@@ -9,8 +9,8 @@ use Rattle.std.proofs.lemmas.Slice.Eq.{bytes_eq-Decides}
 use Rattle.ivy_base.specs.declared.key.PubKey.{PubKey}
 use Rattle.ivy_base.specs.Naming.{HasClash, NamesTellApart}
 use Rattle.hash_signature_model.specs.declared.set.Set.{Set}
-use Rattle.hss_keys.specs.Signer.{hss_key_of}
-use Rattle.log_heads.specs.Signed.{hss_judged}
+use Rattle.hash_signature_model.specs.Signer.{hss_key_of}
+use Rattle.dhash_model.specs.Signed.{hss_judged}
 use Rattle.log_model.proofs.Lists.{each, here, there}
 use Rattle.log_model.specs.Chain.{opening}
 use Rattle.log_model.specs.Rank.{own_entry}

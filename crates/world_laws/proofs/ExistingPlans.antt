@@ -10,9 +10,9 @@ use Rattle.dht_ids.specs.declared.peer.Peer.{Peer}
 use Rattle.ring_model.specs.Members.{IsAmong}
 use Rattle.ring_model.specs.Gets.{AreAsks, answered_in}
 use Rattle.ring_model.proofs.Lists.{all-left, all-right, cons_head, cons_tail, nil_cons}
-use Rattle.dhash_client.specs.Course.{IsCourse, Told}
-use Rattle.dhash_client.specs.Puts.{EndsPut, is_of_put}
-use Rattle.dhash_client.specs.declared.miss.Miss.{Miss}
+use Rattle.dhash_model.specs.Course.{IsCourse, Told}
+use Rattle.dhash_model.specs.Puts.{EndsPut, is_of_put}
+use Rattle.dhash_model.specs.declared.miss.Miss.{Miss}
 use Rattle.session_laws.proofs.AskedPlans.{Entries, Follows, IsToldBy, Plan, asking, ended, entry}
 use Rattle.session_laws.proofs.AskedCourses.{IsWhole, after_plan, course_back, course_fits}
 use Rattle.session_laws.proofs.AskedOwners.{choose, owners_plan}

@@ -5,7 +5,7 @@ use Rattle.std.specs.List.{AllByRecursion}
 use Rattle.std.specs.Ordering.{eq_by_cmp}
 use Rattle.ivy_base.specs.declared.key.Key.{Key}
 use Rattle.ivy_base.specs.Naming.{key_cmp}
-use Rattle.log_heads.specs.Signed.{hss_judged}
+use Rattle.dhash_model.specs.Signed.{hss_judged}
 use Rattle.ring_model.specs.Gets.{answered_in, nodes}
 use Rattle.ring_model.specs.Members.{IsAmong}
 use Rattle.ring_model.proofs.Lists.{all-among, all_from}
@@ -13,9 +13,9 @@ use Rattle.dht_ids.specs.declared.ask.Answer.{Answer}
 use Rattle.dht_ids.specs.declared.ask.Answer.TheVariants as answer
 use Rattle.dht_ids.specs.declared.ask.Ask.{Ask}
 use Rattle.dht_ids.specs.declared.peer.Peer.{Peer}
-use Rattle.dhash_client.specs.Course.{Told}
-use Rattle.dhash_client.specs.Puts.{is_of_put}
-use Rattle.node_store.specs.Stores.{Block, Blocks, without}
+use Rattle.dhash_model.specs.Course.{Told}
+use Rattle.dhash_model.specs.Puts.{is_of_put}
+use Rattle.dhash_model.specs.Stores.{Block, Blocks, without}
 use Rattle.script_driver.specs.Run.{Outcome, Goes, Refuses}
 use Rattle.world_model.specs.Fates.{Fates, asking}
 use Rattle.world_model.specs.Fates.Fates.{none as fates_none, more as fates_more}

@@ -3,15 +3,15 @@ use Rattle.std.proofs.Common.{◌≡◌, ◌⊎◌, inl, inr, ℕ, zero, suc, �
 use Rattle.std.specs.Prelude.{◌==◌, is_some, fold}
 use Rattle.std.specs.List.{last_or}
 use Rattle.std.proofs.lemmas.Bool.{leb-false, lt-ltb}
-use Rattle.log_heads.specs.Signed.{hss_judged}
+use Rattle.dhash_model.specs.Signed.{hss_judged}
 use Rattle.log_model.proofs.Lists.{or_right}
 use Rattle.ring_model.specs.Members.{IsAmong, first, following, from_place}
 use Rattle.ring_model.specs.Ring.{start}
 use Rattle.ring_model.proofs.Lists.{among-left, among-right, among_filter, first_of}
 use Rattle.dht_ids.specs.Peers.{place}
 use Rattle.dht_ids.specs.declared.peer.Peer.{Peer}
-use Rattle.chord_core.specs.Settled.{IsSettledNode}
-use Rattle.chord_core.specs.State.{State}
+use Rattle.dhash_model.specs.Settled.{IsSettledNode}
+use Rattle.dhash_model.specs.State.{State}
 use Rattle.script_driver.specs.Run.{Outcome, Refuses, Exceeds}
 use Rattle.world_model.specs.Nodes.{Node}
 use Rattle.world_model.specs.Ring.{AreSettled, FindsNobody, JoinLine, LooksUp, RingLine, empty_node, first_peers, in_ring_order, is_known_id, is_refused_ring, least, peer_numbered, with_peer}

@@ -6,7 +6,7 @@ use Rattle.std.proofs.Math.Nat.{div-lt_iff_lt-mul, mod-lt}
 use Rattle.std.proofs.lemmas.Bool.{lt-ltb}
 use Rattle.std.proofs.lemmas.Nat.{div-add-mod'}
 use Rattle.ivy_base.specs.declared.key.Key.{Key}
-use Rattle.log_heads.specs.Signed.{hss_judged}
+use Rattle.dhash_model.specs.Signed.{hss_judged}
 use Rattle.log_model.proofs.Lists.{both}
 use Rattle.log_model.specs.Spelling.{IsKey}
 use Rattle.ring_model.specs.Circle.{be_number, number}
@@ -20,7 +20,7 @@ use Rattle.dht_ids.specs.declared.ask.Answer.TheVariants as answer
 use Rattle.dht_ids.specs.declared.ask.Ask.{Ask}
 use Rattle.dht_ids.specs.declared.ask.Ask.TheVariants as ask
 use Rattle.dht_ids.specs.declared.peer.Peer.{Peer}
-use Rattle.chord_core.specs.State.{State, stabilised, with_links}
+use Rattle.dhash_model.specs.State.{State, stabilised, with_links}
 use Rattle.world_model.specs.Fates.{FateOf}
 use Rattle.world_model.specs.Fates.FateOf.{lost, stopped, answers}
 use Rattle.world_model.specs.Nodes.{Node}

@@ -11,11 +11,11 @@ use Rattle.log_model.specs.Record.{Record}
 use Rattle.log_model.specs.Vector.{Stamp, Vector, seq_of, stamp_at}
 use Rattle.log_model.specs.View.{View}
 use Rattle.log_model.proofs.Lists.{each, here, in_cons, in_nothing, there}
-use Rattle.log_records.specs.declared.chain_fault.ChainFault.{ChainFault}
-use Rattle.log_records.specs.declared.edge.Edge.{Edge}
+use Rattle.log_model.specs.declared.chain_fault.ChainFault.{ChainFault}
+use Rattle.log_model.specs.Fetched.{Edge}
 use Rattle.turn_model.specs.Candidates.{IsTriedBefore}
 use Rattle.dht_ids.specs.declared.judge.Judged.{Judged}
-use Rattle.dhash_client.specs.declared.miss.Miss.{Miss}
+use Rattle.dhash_model.specs.declared.miss.Miss.{Miss}
 use Rattle.agent_model.specs.Standing.{Chain, Standing}
 use Rattle.session_model.specs.Brought.{BlockOf, Brought, Content, Heads, HeadsOf, Want, stamp_of}
 use Rattle.session_model.specs.Walks.{Gives, GivesNone, InTryingOrder, Lacks, LogEnd, Stops, Tries, WalkEnd, Walks, Wants}

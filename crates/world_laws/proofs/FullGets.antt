@@ -2,7 +2,8 @@
 use Rattle.std.proofs.Common.{◌≡◌, ◌⊎◌, inl, inr, ℕ, suc, Bool, true, false, List, [], ◌∷◌, ◌++◌, map, get_or, Some, refl, sym, ap, ◌∙◌, subst, Contains}
 use Rattle.std.specs.List.{AllByRecursion}
 use Rattle.std.proofs.lemmas.List.{append_assoc, append-nil}
-use Rattle.log_heads.specs.Signed.{hss_judged}
+use Rattle.dhash_model.specs.Signed.{hss_judged}
+use Rattle.dhash_model.specs.declared.miss.Miss.{Miss}
 use Rattle.wire_model.specs.Rpc.{Success, SystemError, reply}
 use Rattle.nfs_model.specs.declared.replies.Reply.{Reply}
 use Rattle.dht_ids.specs.Asked.{IsForData, told}
@@ -11,7 +12,6 @@ use Rattle.dht_ids.specs.declared.ask.Ask.{Ask}
 use Rattle.dht_ids.specs.declared.ask.Ask.TheVariants as ask
 use Rattle.dht_ids.specs.declared.ask.Heard.{Heard}
 use Rattle.dht_ids.specs.declared.peer.Peer.{Peer}
-use Rattle.dhash_client.specs.declared.miss.Miss.{Miss}
 use Rattle.ring_model.proofs.Lists.{all_weaker, nil_cons}
 use Rattle.agent_model.specs.Standing.{Refresh}
 use Rattle.session_model.specs.Asking.{AsksNext, IsBegun}

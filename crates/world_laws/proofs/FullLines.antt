@@ -5,7 +5,7 @@ use Rattle.std.specs.List.{AllByRecursion, flat_map}
 use Rattle.std.specs.Str.{bytes_eq}
 use Rattle.ivy_base.specs.Naming.{HasClash}
 use Rattle.wire_model.specs.Rpc.{SystemError, reply}
-use Rattle.log_heads.specs.Signed.{hss_judged}
+use Rattle.dhash_model.specs.Signed.{hss_judged}
 use Rattle.log_model.proofs.Lists.{each, each_append, each_from, from_filter}
 use Rattle.turn_laws.specs.Laws.{HasRoom}
 use Rattle.session_model.specs.Replies.{said_no_memory}

@@ -3,7 +3,7 @@ use Rattle.std.proofs.Common.{◌≡◌, inl, inr, ℕ, zero, suc, List, [], ◌
 use Rattle.ivy_base.specs.declared.key.Key.{Key}
 use Rattle.ivy_base.specs.declared.operation.Kind.{Kind}
 use Rattle.ivy_base.specs.declared.operation.Kind.TheVariants.{Reg, Dir, Lnk}
-use Rattle.dhash_client.specs.declared.miss.Miss.{Miss}
+use Rattle.dhash_model.specs.declared.miss.Miss.{Miss}
 use Rattle.snapshot_model.specs.Reading.{AnInode, Entries, Listing, Names, Part, Piece, Root, item_of, part_below, top_of}
 use Rattle.session_model.specs.Brought.{BlockOf, Brought}
 use Rattle.session_model.specs.Refreshing.{LoadEnd, LoadWants, Loaded, Loads}

@@ -2,16 +2,17 @@
 use Rattle.std.proofs.Common.{ℕ, ◌≤◌, List, Result, refl}
 use Rattle.std.specs.List.{AllByRecursion}
 use Rattle.ivy_base.specs.Naming.{head_key_of}
-use Rattle.log_heads.specs.Signed.{hss_judged}
+use Rattle.dhash_model.specs.Signed.{hss_judged}
+use Rattle.dhash_model.specs.Course.{IsCourse}
+use Rattle.dhash_model.specs.GetBlock.{EndsGet, is_of_get}
+use Rattle.dhash_model.specs.GetHead.{EndsHeadGet}
+use Rattle.dhash_model.specs.declared.miss.Miss.{Miss}
 use Rattle.dht_ids.specs.declared.ask.Ask.TheVariants as ask
 use Rattle.dht_ids.specs.declared.ask.Heard.{Heard}
 use Rattle.dht_ids.specs.declared.judge.Judged.{Judged}
 use Rattle.dht_ids.specs.declared.peer.Peer.{Peer}
 use Rattle.ring_model.specs.Gets.{answered_in}
-use Rattle.dhash_client.specs.Course.{IsCourse}
-use Rattle.dhash_client.specs.GetBlock.{EndsGet, IsEnoughBlock, is_of_get}
-use Rattle.dhash_client.specs.GetHead.{EndsHeadGet}
-use Rattle.dhash_client.specs.declared.miss.Miss.{Miss}
+use Rattle.dhash_client.specs.GetBlock.{IsEnoughBlock}
 use Rattle.session_model.specs.Brought.{BlockOf, Brought, Content, Heads, HeadsOf, Want}
 use Rattle.session_model.specs.Sessions.{Gets, IsGet, wanted_key}
 use Rattle.session_model.specs.Sessions.Gets.{heads as got_heads, content as got_content}

@@ -3,7 +3,7 @@ use Rattle.std.proofs.Common.{◌≡◌, ℕ, List, [], ◌∷◌, ◌++◌, Opt
 use Rattle.std.proofs.lemmas.List.{append-nil}
 use Rattle.ivy_base.specs.declared.key.Key.{Key}
 use Rattle.agent_model.specs.Standing.{Refresh, Standing}
-use Rattle.dhash_client.specs.declared.miss.Miss.{Miss}
+use Rattle.dhash_model.specs.declared.miss.Miss.{Miss}
 use Rattle.snapshot_model.specs.Reading.{Root}
 use Rattle.turn_model.specs.Basis.{Basis}
 use Rattle.session_model.specs.Brought.{BlockOf, Brought, Content, Heads, HeadsOf, Want}

@@ -2,10 +2,10 @@
 use Rattle.std.proofs.Common.{◌≡◌, ◌⊎◌, inl, inr, ⊎_elim, ℕ, zero, List, [], ◌∷◌, ◌++◌, Option, Some, None, Ok, refl, sym, ap, ◌∙◌, subst}
 use Rattle.ivy_base.specs.declared.key.Key.{Key}
 use Rattle.ivy_base.specs.declared.key.PubKey.{PubKey}
-use Rattle.block_cache.specs.Blocks.{block_of, moved_to_front}
-use Rattle.log_heads.specs.Signed.{hss_judged}
+use Rattle.dhash_model.specs.Cache.{block_of, moved_to_front}
+use Rattle.dhash_model.specs.Signed.{hss_judged}
+use Rattle.dhash_model.specs.declared.miss.Miss.{Miss}
 use Rattle.dht_ids.specs.declared.ask.Heard.{Heard}
-use Rattle.dhash_client.specs.declared.miss.Miss.{Miss}
 use Rattle.ring_model.proofs.Lists.{nil_cons}
 use Rattle.agent_model.specs.Standing.{Refresh}
 use Rattle.session_model.specs.Brought.{BlockOf, Brought, Content, Heads, Part, Want, brought_in}

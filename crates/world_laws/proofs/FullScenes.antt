@@ -1,7 +1,7 @@
 -- A session in hand, at whatever stage, goes to its end with memory there, or names clash there; so it goes so many steps.
 use Rattle.std.proofs.Common.{◌≡◌, ◌≢◌, ◌⊎◌, inl, inr, ℕ, zero, suc, List, Option, Some, None, refl, sym, ◌∙◌, subst}
 use Rattle.ivy_base.specs.Naming.{HasClash, NamesTellApart}
-use Rattle.log_heads.specs.Signed.{hss_judged}
+use Rattle.dhash_model.specs.Signed.{hss_judged}
 use Rattle.dht_ids.specs.declared.post.Ack.{Ack}
 use Rattle.dht_ids.specs.declared.post.Post.{Post}
 use Rattle.turn_laws.specs.Laws.{HasRoom}

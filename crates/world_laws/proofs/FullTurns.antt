@@ -3,7 +3,7 @@ use Rattle.std.proofs.Common.{◌≡◌, inl, inr, ℕ, ◌+◌, Bool, List, ◌
 use Rattle.std.proofs.lemmas.Bool.{cases_lt}
 use Rattle.ivy_base.specs.declared.operation.Moment.{Moment}
 use Rattle.ivy_base.specs.Naming.{NamesTellApart}
-use Rattle.log_heads.specs.Signed.{hss_judged}
+use Rattle.dhash_model.specs.Signed.{hss_judged}
 use Rattle.log_model.proofs.Lists.{each}
 use Rattle.log_model.specs.Record.{Record}
 use Rattle.log_model.specs.View.{View}
@@ -13,8 +13,7 @@ use Rattle.turn_model.specs.Turn.{Asked}
 use Rattle.agent_model.specs.Standing.{Refresh, anew_in}
 use Rattle.agent_model.specs.Turning.{Answered, BelowTide, Behind, IsByDefinition, TurnEnd, Turns}
 use Rattle.agent_model.specs.Turning.Turns.{behind, below, answers as turn_answers}
-use Rattle.session_model.specs.Brought.{brought_in, heads_at}
-use Rattle.session_model.specs.Courses.{HasRefreshed, IsRefusal, answered, anew, ended}
+use Rattle.session_model.specs.Courses.{grounds_of, HasRefreshed, IsRefusal, answered, anew, ended}
 use Rattle.session_model.specs.Courses.TakesTurn.{answers, begins_anew, gives_up}
 use Rattle.session_model.specs.Refreshing.{Note}
 use Rattle.session_model.specs.Replies.{Asks, said_no_memory, said_of}
@@ -87,7 +86,7 @@ module _ (c : Scene) (r : ℕ) (p : Participant) (taken : Session) (cache : Cach
   had reply applied after saving turn =
       let may = refresh_may_turn then_c then_p r notes given then_so.0 then_apart then_so.1 found done in
       let d = is_defined reply applied turn refl in
-      let of = d.defined (heads_at (brought_in taken.parts)) (named_bytes then_c.world) taken.standing c.began.knew (known_of c.story p.name) then_apart may.0 may.1 in (
+      let of = d.defined (grounds_of (named_bytes then_c.world) taken c.began.knew) (known_of c.story p.name) then_apart may.0 may.1 in (
         _,
         acts p taken cache _ is_p all (turns taken.standing.view reply applied after saving (answered taken (said_of xid reply) notes after.pending) of.turned in_view
             (answers notes given xid asked reply applied after saving done asks turn) (sym of.replies)

@@ -9,7 +9,7 @@ use Rattle.std.proofs.lemmas.Slice.Eq.{bytes_eq-Decides}
 use Rattle.ring_model.proofs.Lists.{all_weaker}
 use Rattle.ivy_base.specs.declared.key.Key.{Key}
 use Rattle.ivy_base.specs.Naming.{NamesTellApart}
-use Rattle.log_heads.specs.Signed.{hss_judged}
+use Rattle.dhash_model.specs.Signed.{hss_judged}
 use Rattle.log_model.proofs.Lists.{each, each_append, in_cons, in_nothing}
 use Rattle.log_model.specs.Record.{Record}
 use Rattle.log_model.specs.Vector.{Entry}
@@ -22,7 +22,7 @@ use Rattle.dht_ids.specs.declared.ask.Heard.{Heard}
 use Rattle.dht_ids.specs.declared.peer.Peer.{Peer}
 use Rattle.dht_ids.specs.declared.post.Ack.{Ack}
 use Rattle.dht_ids.specs.declared.post.Post.{Post}
-use Rattle.dhash_client.specs.declared.miss.Miss.{Miss}
+use Rattle.dhash_model.specs.declared.miss.Miss.{Miss}
 use Rattle.agent_model.specs.Standing.{Refresh}
 use Rattle.session_model.specs.Asking.{AsksNext}
 use Rattle.session_model.specs.Brought.{Brought, BlockOf, Part, Want, all_heads, brought_in, heads_of}

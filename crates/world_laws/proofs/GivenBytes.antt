@@ -11,7 +11,7 @@ use Rattle.ivy_base.specs.declared.operation.Op.{Op}
 use Rattle.ivy_base.specs.declared.operation.Op.TheVariants as op
 use Rattle.ivy_base.specs.Naming.{inode_number, digest}
 use Rattle.tree_model.proofs.Sound.{both_false, not_false}
-use Rattle.tree_model.specs.Tree.{Tree, Inode, entry, inode_at, is_directory, is_file, listing, name_count, directory_kind, file_kind}
+use Rattle.tree_model.specs.Tree.{Tree, Inode, entry, inode_at, is_directory, is_file, listing, name_count, directory_kind, file_kind, longest_file}
 use Rattle.wire_model.specs.Rpc.{Identity}
 use Rattle.wire_model.specs.Xdr.{word}
 use Rattle.log_model.specs.Laws.{NumbersAreKeys}
@@ -175,7 +175,7 @@ module _ (t : Tree) (keys : NumbersAreKeys t) (view : View) (who : Identity) (no
       ((not (file_kind o.inode.kind), Inval)
       ∷ (not (may_write who o.inode || is_owner who o.inode), Acces)
       ∷ (not (count == length bytes), Inval)
-      ∷ (nat_lt 16777216 (offset + length (take 8192 bytes)), FBig) ∷ []) _ _ (λ passed. plan_test PlanGives gives_refused (length bytes == 0) _ _ (tt, tt) tt))
+      ∷ (nat_lt longest_file (offset + length (take 8192 bytes)), FBig) ∷ []) _ _ (λ passed. plan_test PlanGives gives_refused (length bytes == 0) _ _ (tt, tt) tt))
   gives_plan (call.Remove handle name) = plan_object PlanGives gives_refused (object_of t view handle) _ _ (λ dir. plan_checks PlanGives gives_refused
       (directory_checks who dir ++ name_checks name
       ++ (is_dot name || is_dot_dot name, Inval) ∷ (not (is_some (entry t dir.number name)), NoEnt) ∷ (is_directory (inode_under t (entry t dir.number name)), IsDir) ∷ []) _ _ (λ passed. tt))

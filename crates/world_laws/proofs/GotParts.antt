@@ -6,7 +6,7 @@ use Rattle.ring_model.proofs.Lists.{all-among, all_weaker, filter_gives}
 use Rattle.ring_model.specs.Gets.{Got, Right, Damaged, Missing, IsHeadGet, IsBlockGet, given}
 use Rattle.ivy_base.specs.declared.key.Key.{Key}
 use Rattle.ivy_base.specs.Naming.{head_key_of}
-use Rattle.log_heads.specs.Signed.{hss_judged}
+use Rattle.dhash_model.specs.Signed.{hss_judged}
 use Rattle.log_model.proofs.Lists.{each_right}
 use Rattle.dht_ids.specs.declared.ask.Answer.{Answer}
 use Rattle.dht_ids.specs.declared.ask.Answer.TheVariants as answer
@@ -14,13 +14,12 @@ use Rattle.dht_ids.specs.declared.ask.Ask.TheVariants as ask
 use Rattle.dht_ids.specs.declared.ask.Heard.{Heard}
 use Rattle.dht_ids.specs.declared.judge.Judged.{Judged}
 use Rattle.dht_ids.specs.declared.peer.Peer.{Peer}
-use Rattle.dhash_client.specs.declared.miss.Miss.{Miss}
-use Rattle.dhash_client.specs.Course.{Told, result_of, told_all}
-use Rattle.dhash_client.specs.Course.IsCourse.{no_route, of_owners}
-use Rattle.dhash_client.specs.GetBlock.{IsGetOfBlock, block_in, is_of_get}
-use Rattle.dhash_client.specs.GetHead.{IsGetOfHead}
-use Rattle.block_cache.specs.Blocks.{others}
-use Rattle.block_cache.specs.Blocks.{same_key as same_cached}
+use Rattle.dhash_model.specs.declared.miss.Miss.{Miss}
+use Rattle.dhash_model.specs.Course.{Told, result_of, told_all}
+use Rattle.dhash_model.specs.Course.IsCourse.{no_route, of_owners}
+use Rattle.dhash_model.specs.GetBlock.{IsGetOfBlock, block_in, is_of_get}
+use Rattle.dhash_model.specs.GetHead.{IsGetOfHead}
+use Rattle.dhash_model.specs.Cache.{others, same_key as same_cached}
 use Rattle.block_cache.proofs.Pairs.{kept_valid}
 use Rattle.session_model.specs.Brought.{Brought, HeadsOf, BlockOf, Want, heads_of, stamp_of}
 use Rattle.session_model.specs.Sessions.{Cache, Gets, keeping}

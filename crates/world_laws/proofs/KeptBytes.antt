@@ -1,5 +1,5 @@
 -- What may be saved is told by its bytes.
-use Rattle.hss_keys.specs.Saved.{IsSigner}
+use Rattle.hash_signature_model.specs.Saved.{IsSigner}
 use Rattle.hss_keys.specs.ToldApart.{signers_told_apart}
 use Rattle.agent_saves.proofs.Agents.{told_apart_by_bytes}
 use Rattle.agent_saves.proofs.HssSaves.{counted}

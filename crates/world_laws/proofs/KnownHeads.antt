@@ -10,10 +10,10 @@ use Rattle.log_model.proofs.Part.{Numbered, numbered, numbers_below, numbers_fro
 use Rattle.log_model.specs.Chain.{IsChain}
 use Rattle.log_model.specs.Rank.{own_entry}
 use Rattle.log_model.specs.Record.{Record}
-use Rattle.log_model.specs.Spelling.{head_block}
+use Rattle.log_model.specs.Spelling.{head_block, head_tag}
 use Rattle.log_model.specs.Vector.{Stamp, reach}
 use Rattle.log_model.specs.View.{View}
-use Rattle.hss_keys.specs.Signer.{Signer}
+use Rattle.hash_signature_model.specs.Signer.{Signer}
 use Rattle.turn_model.specs.Known.{EndsAt}
 use Rattle.world_model.specs.Agents.{hss}
 use Rattle.world_laws.specs.Keeps.{AreSignedOnce, NamesOneOf, sealed_with}
@@ -25,10 +25,10 @@ seq_told : (owner : PubKey) (s t : Stamp) (a b : List ℕ) → length owner.0 �
 seq_told owner s t a b size small small_too same = ap (λ (x : (Unit {0} × List ℕ) × ℕ). x.1) read.0
   where
     front : ℕ → List ℕ
-    front n = (73 ∷ 86 ∷ 72 ∷ 49 ∷ owner.0) ++ word n
+    front n = (head_tag ++ owner.0) ++ word n
 
     read : ◌≡◌ {A = (Unit {0} × List ℕ) × ℕ} ((tt, owner.0), s.seq) ((tt, owner.0), t.seq) × (s.name.0 ++ opaque a ≡ t.name.0 ++ opaque b)
-    read = (always (73 ∷ 86 ∷ 72 ∷ 49 ∷ []) ▷ one_raw 60 ▷ one_word).one ((tt, owner.0), s.seq) ((tt, owner.0), t.seq) (s.name.0 ++ opaque a) (t.name.0 ++ opaque b)
+    read = (always head_tag ▷ one_raw 60 ▷ one_word).one ((tt, owner.0), s.seq) ((tt, owner.0), t.seq) (s.name.0 ++ opaque a) (t.name.0 ++ opaque b)
         ((tt, size), small) ((tt, size), small_too)
         (sym (append_assoc (front s.seq) s.name.0 (opaque a)) ∙ same ∙ append_assoc (front t.seq) t.name.0 (opaque b))
 

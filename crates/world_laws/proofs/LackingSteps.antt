@@ -5,7 +5,7 @@ use Rattle.log_model.proofs.Lists.{each}
 use Rattle.log_model.specs.Record.{Record}
 use Rattle.turn_model.specs.Basis.{Holding}
 use Rattle.dht_ids.specs.declared.ask.Heard.{Heard}
-use Rattle.dhash_client.specs.declared.miss.Miss.{Miss}
+use Rattle.dhash_model.specs.declared.miss.Miss.{Miss}
 use Rattle.session_model.specs.Brought.{Part}
 use Rattle.session_model.specs.Courses.{LacksMemory}
 use Rattle.session_model.specs.Courses.LacksMemory.{lacks}

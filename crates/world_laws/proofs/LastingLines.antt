@@ -3,7 +3,7 @@ use Rattle.std.proofs.Common.{◌≡◌, ℕ, Bool, true, false, cond, List, [],
 use Rattle.std.specs.Prelude.{if◌then◌else◌, ◌==◌, is_some, nat_le, nat_lt}
 use Rattle.std.specs.List.{AllByRecursion}
 use Rattle.std.specs.Str.{bytes_eq}
-use Rattle.log_heads.specs.Signed.{hss_judged}
+use Rattle.dhash_model.specs.Signed.{hss_judged}
 use Rattle.log_model.proofs.Lists.{each, each_append}
 use Rattle.dht_ids.specs.declared.ask.Answer.{Answer}
 use Rattle.dht_ids.specs.declared.ask.Ask.{Ask}
@@ -25,10 +25,10 @@ use Rattle.world_laws.proofs.Bringing.{found_named}
 use Rattle.ivy_base.specs.declared.key.Key.{Key}
 use Rattle.ivy_base.specs.declared.key.PubKey.{PubKey}
 use Rattle.hash_signature_model.specs.declared.set.Set.{Set}
-use Rattle.hss_keys.specs.Saved.{IsSigner}
+use Rattle.hash_signature_model.specs.Saved.{IsSigner}
 use Rattle.log_model.specs.View.{View, IsView}
-use Rattle.view_blocks.specs.Faults.{HasKeys}
-use Rattle.node_store.specs.Stores.{Blocks, with_byte}
+use Rattle.log_model.specs.ViewKeys.{HasKeys}
+use Rattle.dhash_model.specs.Stores.{Blocks, with_byte}
 use Rattle.round_laws.proofs.Rounding.{leaves_the_rest}
 use Rattle.agent_model.specs.Agent.{entered, failed, kept_of, restored}
 use Rattle.agent_model.specs.Views.{Entered, KeeperFailed, NotMember, entering_with, is_own_member, not_named}
@@ -60,7 +60,7 @@ use Rattle.world_laws.proofs.Lines.{ToSuch}
 use Rattle.world_laws.proofs.LogLines.{kept_whole}
 use Rattle.world_laws.proofs.UseLines.{view_in, whole}
 use Rattle.world_laws.proofs.LineFits.{Fits, command_fits}
-use Rattle.hss_keys.specs.Signer.{Signer}
+use Rattle.hash_signature_model.specs.Signer.{Signer}
 use Rattle.ivy_base.specs.declared.operation.Moment.{Moment}
 use Rattle.script_model.specs.declared.command.Command.TheVariants as command
 use Rattle.ivy_io.specs.Keepers as memory

@@ -2,7 +2,8 @@
 use Rattle.std.proofs.Common.{◌≡◌, ℕ, zero, suc, List, [], ◌∷◌, take, refl, sym, ap, subst}
 use Rattle.hash_signature_model.specs.declared.set.Set.{Set}
 use Rattle.hash_signature_model.specs.declared.keys.PrivateKey.{PrivateKey}
-use Rattle.hss_keys.specs.Signer.{leaf_used, leaves_used, lower_key, signed_lower}
+use Rattle.hash_signature_model.specs.Signer.{leaf_used, lower_key, signed_lower}
+use Rattle.hss_keys.specs.Signer.{leaves_used}
 use Rattle.world_laws.specs.Laws.{keys_signed, keys_by, UpperLeavesSignOnce}
 
 same_leaf : (levels a b : ℕ) (xs ys : List ℕ) → take (suc levels) (a ∷ xs) ≡ take (suc levels) (b ∷ ys) → a ≡ b

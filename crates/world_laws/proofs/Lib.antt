@@ -56,10 +56,8 @@ pub mod SessionLines
 pub mod HeadlineOfPublishing
 pub mod HeadlineOfLines
 pub mod OneAsked
-pub mod TurnsFloors
 pub mod TurnsTaken
 mod TurnsBlocks
-pub mod TurnsSets
 pub mod TurnsWorld
 mod TurnsSigning
 pub mod TurnsKnown

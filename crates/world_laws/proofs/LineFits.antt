@@ -4,7 +4,7 @@ use Rattle.std.specs.Prelude.{◌==◌, IfSome, codes}
 use Rattle.std.specs.List.{AllByRecursion}
 use Rattle.std.specs.Str.{bytes_eq}
 use Rattle.std.proofs.lemmas.List.Splits.{length-slice_split}
-use Rattle.hss_keys.specs.Saved.{IsSigner}
+use Rattle.hash_signature_model.specs.Saved.{IsSigner}
 use Rattle.script_driver.specs.Run.{line_limit}
 use Rattle.script_model.specs.declared.command.Command.{Command}
 use Rattle.script_model.specs.declared.command.Command.TheVariants as command

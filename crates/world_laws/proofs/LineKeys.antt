@@ -10,7 +10,7 @@ use Rattle.hex.proofs.HexLemmas.{decode_of-ok}
 use Rattle.tree_model.proofs.Sound.{both_true}
 use Rattle.log_model.proofs.Lists.{both}
 use Rattle.hash_signature_model.specs.declared.set.Set.{Set}
-use Rattle.hss_keys.specs.Saved.{AreLevels, AreOctets, IsSigner}
+use Rattle.hash_signature_model.specs.Saved.{AreLevels, AreOctets, IsSigner}
 use Rattle.script_model.specs.Words.{◌>>=◌, each_of, hex_bytes, is_lower_hex, ok_value, parts_at, set_of, sets_of}
 use Rattle.world_model.specs.Logs.{fresh_signer}
 

@@ -17,8 +17,9 @@ use Rattle.ivy_base.specs.declared.key.Key.{Key}
 use Rattle.ivy_base.specs.Naming.{key_cmp}
 use Rattle.log_model.proofs.Lists.{each, here, who_passes}
 use Rattle.dht_ids.specs.declared.peer.Peer.{Peer}
-use Rattle.chord_core.specs.State.{State}
-use Rattle.node_store.specs.Stores.{Block, Blocks, IsStore, bytes_at, spoiled, with_byte}
+use Rattle.dhash_model.specs.State.{State}
+use Rattle.dhash_model.specs.Stores.{Block, Blocks, bytes_at, spoiled, with_byte}
+use Rattle.node_store.specs.Stores.{IsStore}
 use Rattle.node_store.proofs.Held.{put_is_held}
 use Rattle.node_store.proofs.Maps.{find-lookup}
 use Rattle.node_store.proofs.Sums.{held_after_put, size}

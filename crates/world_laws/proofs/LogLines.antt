@@ -11,8 +11,8 @@ use Rattle.hash_signature_model.specs.declared.set.Height.{Height}
 use Rattle.hash_signature_model.specs.declared.set.Height.TheVariants.{H5, H10}
 use Rattle.hash_signature_model.specs.declared.set.Set.{Set}
 use Rattle.hash_signature_model.specs.Parameters.{leaves}
-use Rattle.hss_keys.specs.Saved.{AreLevels, AreOctets, IsSigner}
-use Rattle.hss_keys.specs.Signer.{Signer, capacity, one_more_made}
+use Rattle.hash_signature_model.specs.Saved.{AreLevels, AreOctets, IsSigner}
+use Rattle.hash_signature_model.specs.Signer.{Signer, capacity, one_more_made}
 use Rattle.log_model.proofs.Later.{name_is_key}
 use Rattle.log_records.proofs.Standing.{stands_where_met}
 use Rattle.log_model.proofs.Lists.{here, in_cons, in_nothing, there}
@@ -22,7 +22,7 @@ use Rattle.log_model.specs.Rank.{own_entry}
 use Rattle.log_model.specs.Record.{Record}
 use Rattle.log_model.specs.Spelling.{IsKey, IsMoment, record_block}
 use Rattle.log_model.specs.Vector.{Stamp, reach}
-use Rattle.log_heads.specs.Signed.{hss_judged}
+use Rattle.dhash_model.specs.Signed.{hss_judged}
 use Rattle.snapshot_model.specs.Blocks.{IsStamped}
 use Rattle.dht_ids.specs.declared.post.Post.{Post}
 use Rattle.agent_model.specs.Agent.{head_post, kept_of, own_key, record_post}

@@ -1,11 +1,10 @@
 -- Of each line it is decided whether memory was there: by how the sessions of the line end.
-use Rattle.std.proofs.Common.{◌≡◌, ◌≢◌, ◌⊎◌, inl, inr, ℕ, Bool, true, false, cond, List, [], ◌∷◌, ◌++◌, map, Option, Some, None, refl, sym, ap, ◌∙◌, subst, Contains}
-use Rattle.std.specs.Prelude.{is_some}
-use Rattle.std.specs.List.{AllByRecursion, flat_map}
+use Rattle.std.proofs.Common.{◌≡◌, ◌≢◌, ◌⊎◌, inl, inr, ℕ, Bool, cond, List, [], ◌∷◌, ◌++◌, map, Option, Some, None, refl, sym, ap, ◌∙◌, subst, Contains}
+use Rattle.std.specs.List.{flat_map}
 use Rattle.std.specs.Str.{bytes_eq}
 use Rattle.std.proofs.lemmas.Slice.Eq.{bytes_eq-Decides}
 use Rattle.wire_model.specs.Rpc.{SystemError, reply}
-use Rattle.log_heads.specs.Signed.{hss_judged}
+use Rattle.dhash_model.specs.Signed.{hss_judged}
 use Rattle.dht_ids.specs.declared.post.Ack.{Ack}
 use Rattle.dht_ids.specs.declared.post.Post.{Post}
 use Rattle.log_model.proofs.Lists.{each_append, from_filter}
@@ -22,7 +21,7 @@ use Rattle.world_model.specs.Calls.OpenLine.{sends_nothing as opening_sends_noth
 use Rattle.world_model.specs.Calls.StepLine.{not_open as stepping_not_open, out_of_range, steps}
 use Rattle.world_model.specs.Calls.FinishLine.{not_open as finishing_not_open, ends}
 use Rattle.world_model.specs.Logs.{Played}
-use Rattle.world_model.specs.Step.{Does, IvyStep}
+use Rattle.world_model.specs.Step.{Does}
 use Rattle.world_model.specs.Steps.{RunsOut, Scene, StepsOn}
 use Rattle.world_model.specs.Steps.RunsOut.{is_over as runs_over, more as runs_more}
 use Rattle.world_model.specs.Story.{beginning, having_begun, with_began, without_began}
@@ -34,13 +33,12 @@ use Rattle.world_laws.specs.Laws.{HadMemory, HasMemoryIn}
 use Rattle.world_laws.proofs.AllLines.{does_line}
 use Rattle.world_laws.proofs.BytesLines.{IsWhich, another, as_command, finish_command, open_command, step_command, which}
 use Rattle.world_laws.proofs.CallScenes.{begun_scene, begun_well, open_scene, open_well}
-use Rattle.world_laws.proofs.ExistingCalls.{some_open}
 use Rattle.world_laws.proofs.Frames.{into_map}
 use Rattle.world_laws.proofs.FullLines.{IsFull, as_before, full, it_stands, no_text, over_stays, put_before, replied_sessions}
 use Rattle.world_laws.proofs.FullScenes.{begins_memory}
-use Rattle.world_laws.proofs.OneCalls.{begins_by, found_session, shows_so}
+use Rattle.world_laws.proofs.OneCalls.{begins_by, shows_so}
 use Rattle.world_laws.proofs.OneSteps.{GoesWell, over_steps}
-use Rattle.world_laws.proofs.QuietLines.{IsOfSessions, Quietly, quiet_command, runs_same, steps_same}
+use Rattle.world_laws.proofs.QuietLines.{Quietly, quiet_command, runs_same, steps_same}
 use Rattle.world_laws.proofs.SessionLinesSteps.{runs_lead, steps_on_lead}
 use Rattle.world_laws.proofs.ShownReplies.{ShowsOther, cause_shows, lack_shown, said_other}
 

@@ -10,7 +10,7 @@ use Rattle.log_model.specs.Record.{Record}
 use Rattle.log_model.specs.Spelling.{most_records}
 use Rattle.log_model.specs.Vector.{Vector, join, seq_of}
 use Rattle.log_model.specs.View.{View, IsView, is_named}
-use Rattle.view_blocks.specs.Faults.{HasKeys}
+use Rattle.log_model.specs.ViewKeys.{HasKeys}
 use Rattle.turn_model.specs.Basis.{Holding}
 use Rattle.agent_model.specs.Agent.{joined, kept_of}
 use Rattle.agent_model.specs.Turning.{MayTake, MayWrite, with_held, written_by}
@@ -20,7 +20,7 @@ use Rattle.world_laws.specs.Laws.{TurnsAreSaved}
 use Rattle.log_model.proofs.Lists.{each, here}
 use Rattle.log_model.specs.Chain.{IsGood}
 use Rattle.std.proofs.lemmas.List.Elements.{Contains-append_right}
-use Rattle.world_laws.proofs.TurnsFloors.{IsSpelledIn, joined_second, records_no_more, records_reach, records_spelled}
+use Rattle.agent_laws.proofs.Floors.{IsSpelledIn, joined_second, records_no_more, records_reach, records_spelled}
 use Rattle.world_laws.proofs.TurnsSigning.{kept_still, kept_then, next_each, next_last}
 use Rattle.ring_model.proofs.Lists.{all_weaker}
 

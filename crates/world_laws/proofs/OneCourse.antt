@@ -19,14 +19,14 @@ use Rattle.dht_ids.specs.declared.ask.Heard.{Heard}
 use Rattle.dht_ids.specs.declared.judge.Judged.{Judged}
 use Rattle.dht_ids.specs.declared.peer.Peer.{Peer}
 use Rattle.dht_ids.specs.declared.post.Post.{Post}
-use Rattle.dhash_client.specs.Course.{IsCourse, Told, result_of, told_all}
-use Rattle.dhash_client.specs.Course.IsCourse.{no_route, of_owners}
-use Rattle.dhash_client.specs.GetBlock.{EndsGet, IsGetOfBlock, block_in}
-use Rattle.dhash_client.specs.GetHead.{EndsHeadGet, IsGetOfHead}
-use Rattle.dhash_client.specs.Machine.{outcome}
-use Rattle.dhash_client.specs.Puts.{EndsPut, holds, is_of_put, question_of}
-use Rattle.dhash_client.specs.declared.miss.Miss.{Miss}
-use Rattle.dhash_client.specs.declared.miss.Miss.TheVariants as miss
+use Rattle.dhash_client.specs.Puts.{question_of}
+use Rattle.dhash_model.specs.declared.miss.Miss.TheVariants as miss
+use Rattle.dhash_model.specs.Course.{IsCourse, Told, result_of, told_all, outcome}
+use Rattle.dhash_model.specs.Course.IsCourse.{no_route, of_owners}
+use Rattle.dhash_model.specs.GetBlock.{EndsGet, IsGetOfBlock, block_in}
+use Rattle.dhash_model.specs.GetHead.{EndsHeadGet, IsGetOfHead}
+use Rattle.dhash_model.specs.Puts.{EndsPut, holds, is_of_put}
+use Rattle.dhash_model.specs.declared.miss.Miss.{Miss}
 use Rattle.dhash_client.specs.declared.put.PutKind.{PutKind}
 use Rattle.agent_model.specs.Agent.{is_head}
 use Rattle.session_model.specs.Sessions.{IsPutOfPost}

@@ -25,7 +25,7 @@ module _ (met : List (List ℕ)) (apart : NamesTellApart met) (view : View) (flo
     where
       by : (o : Option Stamp) → EndsAt o (log_of owner known) → EndsAt o (log_of owner other) → log_of owner known ≡ log_of owner other
       by None none none_too = none ∙ sym none_too
-      by (Some t) ends ends_too = one_chain met apart view owner [] t (log_of owner known) (log_of owner other)
+      by (Some t) ends ends_too = one_chain (record { blocks = met; view = view; floor = [] }) apart owner t (log_of owner known) (log_of owner other)
           (record { chain_of_log = f.chains owner; stand = stand_in_log met owner known stands; ends = ends; passes = tt })
           (record { chain_of_log = g.chains owner; stand = stand_in_log met owner other stands_too; ends = ends_too; passes = tt })
 

@@ -5,7 +5,7 @@ use Rattle.std.proofs.lemmas.List.Elements.{Contains-append_left}
 use Rattle.ivy_base.specs.declared.key.PubKey.{PubKey}
 use Rattle.ivy_base.specs.Naming.{NamesTellApart}
 use Rattle.hash_signature_model.specs.declared.set.Set.{Set}
-use Rattle.log_heads.specs.Signed.{hss_judged}
+use Rattle.dhash_model.specs.Signed.{hss_judged}
 use Rattle.log_model.proofs.Lists.{each}
 use Rattle.log_model.specs.View.{View, view_block, view_name}
 use Rattle.dht_ids.specs.declared.ask.Ask.TheVariants as ask

@@ -9,7 +9,7 @@ use Rattle.ivy_base.specs.Naming.{key_cmp}
 use Rattle.ring_model.proofs.Lists.{among_take, cons_head, cons_tail, nil_cons}
 use Rattle.ring_model.specs.Gets.{AreAsks, AreFirsts, IsPut, answered_in, nodes}
 use Rattle.ring_model.specs.Gets.AreFirsts.{none as firsts_none, again as firsts_again, new as firsts_new}
-use Rattle.dhash_client.specs.Puts.{holds, is_of_put}
+use Rattle.dhash_model.specs.Puts.{holds, is_of_put}
 use Rattle.round_laws.specs.RingOf.{AreNodes}
 use Rattle.round_laws.proofs.Fixing.{look_up, one_at_place}
 use Rattle.round_laws.proofs.Nodes.{Shape, made_by, order_shape, same_id, same_place}
@@ -28,10 +28,10 @@ use Rattle.dht_ids.specs.declared.ask.Answer.TheVariants as answer
 use Rattle.dht_ids.specs.declared.ask.Ask.{Ask}
 use Rattle.dht_ids.specs.declared.judge.Judged.{Judged}
 use Rattle.dht_ids.specs.declared.peer.Peer.{Peer}
-use Rattle.dhash_client.specs.Course.{Told}
-use Rattle.chord_core.specs.Settled.{IsSettledNode}
-use Rattle.chord_core.specs.State.{State, stabilised, with_links}
-use Rattle.node_store.specs.Stores.{Block, Blocks, without}
+use Rattle.dhash_model.specs.Course.{Told}
+use Rattle.dhash_model.specs.Settled.{IsSettledNode}
+use Rattle.dhash_model.specs.State.{State, stabilised, with_links}
+use Rattle.dhash_model.specs.Stores.{Block, Blocks, without}
 use Rattle.script_driver.specs.Run.{Goes}
 use Rattle.world_model.specs.Fates.{FateOf, Fates}
 use Rattle.world_model.specs.Nodes.{Node}

@@ -1,5 +1,5 @@
 -- What an agent knows of a log is the beginning of the chain that the log's own keeper names.
-use Rattle.std.proofs.Common.{◌≡◌, ◌⊎◌, inl, inr, ⊎_elim, ℕ, ◌+◌, ◌<◌, ◌^◌, cond, List, [], ◌∷◌, ◌++◌, length, map, Option, Some, None, refl, sym, ap, ◌∙◌, subst, arith, Contains}
+use Rattle.std.proofs.Common.{◌≡◌, ◌⊎◌, inl, inr, ⊎_elim, ℕ, ◌<◌, ◌^◌, cond, List, [], ◌∷◌, ◌++◌, length, map, Option, Some, None, refl, sym, ap, ◌∙◌, subst, arith, Contains}
 use Rattle.std.specs.Prelude.{IfSome, IsTrue, is_some}
 use Rattle.std.specs.List.{AllByRecursion, find}
 use Rattle.std.specs.Option.{option_map_or}
@@ -15,7 +15,7 @@ use Rattle.log_model.specs.Chain.{LinkedFrom}
 use Rattle.log_model.specs.Closed.{log_of}
 use Rattle.log_model.specs.Rank.{own_entry}
 use Rattle.log_model.specs.Record.{Record}
-use Rattle.log_model.specs.Spelling.{HasSpelling, head_block, no_name}
+use Rattle.log_model.specs.Spelling.{HasSpelling, head_block, no_name, head_tag}
 use Rattle.log_model.specs.Standing.{Stand}
 use Rattle.log_model.proofs.Standing.{stands_among_more}
 use Rattle.log_model.specs.Vector.{Entry, Stamp, Vector, stamp_at}
@@ -24,11 +24,12 @@ use Rattle.log_model.proofs.Later.{name_is_key}
 use Rattle.log_model.proofs.Lists.{each, each_left, from_filter, here, in_nothing}
 use Rattle.dht_ids.specs.declared.judge.Judged.{Judged}
 use Rattle.dht_ids.specs.declared.post.Post.{Post}
-use Rattle.log_heads.specs.Signed.{IsSignedHead, hss_judged}
+use Rattle.dhash_model.specs.Signed.{hss_judged}
+use Rattle.log_heads.specs.Signed.{IsSignedHead}
 use Rattle.log_heads.proofs.SignedHeads.{signed_heads}
 use Rattle.round_laws.proofs.Nodes.{ties}
-use Rattle.hss_keys.specs.Signer.{hss_key_of}
-use Rattle.view_blocks.specs.Faults.{HasKeys}
+use Rattle.hash_signature_model.specs.Signer.{hss_key_of}
+use Rattle.log_model.specs.ViewKeys.{HasKeys}
 use Rattle.turn_model.specs.Known.{EndsAt, IsBacked, IsUnderHead}
 use Rattle.turn_model.specs.Turn.{IsPrefixOf}
 use Rattle.turn_laws.proofs.LinkedLogs.{chain_linked, each_linked, ends_some, one_linked, prefix_linked}
@@ -58,7 +59,7 @@ head_tells log bytes j owner t signature judged spelled owned numbered named = �
     f = (signed_heads log bytes j).0 judged
 
     read : ◌≡◌ {A = ((Unit {0} × List ℕ) × ℕ) × List ℕ} (((tt, f.owner.0), j.seq), j.name.0) (((tt, owner.0), t.seq), t.name.0) × (opaque f.signature ≡ opaque signature)
-    read = (always (73 ∷ 86 ∷ 72 ∷ 49 ∷ []) ▷ one_raw 60 ▷ one_word ▷ one_raw 20).one (((tt, f.owner.0), j.seq), j.name.0) (((tt, owner.0), t.seq), t.name.0) (opaque f.signature) (opaque signature)
+    read = (always head_tag ▷ one_raw 60 ▷ one_word ▷ one_raw 20).one (((tt, f.owner.0), j.seq), j.name.0) (((tt, owner.0), t.seq), t.name.0) (opaque f.signature) (opaque signature)
         (((tt, f.head.owner_is_key.size), omega (arith, f.head.few)), f.head.name.size) (((tt, owned), numbered), named) (sym f.head.spelled ∙ spelled)
 
 -- ---- what a keeper names

@@ -22,8 +22,8 @@ use Rattle.agent_model.specs.Standing.{Refresh, anew_in, going_on}
 use Rattle.agent_model.specs.Turning.{Answered, Becomes, IsByDefinition, TurnEnd, Turns, inputs_before, written_by}
 use Rattle.agent_model.specs.Turning.Becomes.{reads, saves, loses}
 use Rattle.agent_model.specs.Turning.Turns.{behind, below, answers as turn_answers}
-use Rattle.session_model.specs.Brought.{brought_in, heads_at}
-use Rattle.session_model.specs.Courses.{HasRefreshed, IsRefusal, anew, answered, ended}
+use Rattle.session_model.specs.Brought.{brought_in}
+use Rattle.session_model.specs.Courses.{grounds_of, HasRefreshed, IsRefusal, anew, answered, ended}
 use Rattle.session_model.specs.Courses.TakesTurn.{answers, begins_anew, gives_up}
 use Rattle.session_model.specs.Refreshing.{Done, Note}
 use Rattle.session_model.specs.Replies.{Asks, said_no_memory, said_of}
@@ -37,7 +37,7 @@ use Rattle.world_model.specs.Steps.{Scene, after_turn, turn_told, turning_of, wo
 use Rattle.world_laws.specs.Keeps.{IsInHand, Keeps}
 use Rattle.world_laws.proofs.Bringing.{in_a_view, its_view}
 use Rattle.world_laws.proofs.OneAsked.{one_asked, one_xid}
-use Rattle.world_laws.proofs.TurnsFloors.{own_number}
+use Rattle.agent_laws.proofs.Floors.{own_number}
 use Rattle.world_laws.proofs.TurnsKnown.{are_candidates, taken_known, turned_is, writes}
 use Rattle.world_laws.proofs.TurnsTaken.{one_candidates, one_taken}
 
@@ -166,7 +166,7 @@ module _ (c : Scene) (p : Participant) where
       same_taken : its.taken ≡ too.taken
       same_taken = one_taken view (known_of c.story p.name) too.is_turn.candidates its.taken too.taken
           (subst (λ (l : List Candidate). IsClosedPart view (IsAtHand (known_of c.story p.name) l) its.taken)
-          (one_candidates (heads_at (brought_in c.session.parts)) (named_bytes c.world) view c.session.standing c.began.knew given.started apart its.is_turn.candidates too.is_turn.candidates
+          (one_candidates (grounds_of (named_bytes c.world) c.session c.began.knew) view given.started apart its.is_turn.candidates too.is_turn.candidates
           (are_candidates c r p keeps hand is_p notes given xid asked reply done asks h written defined turned apart its)
           (are_candidates c r p keeps hand is_p notes given xid asked also done asks g wrote definition then_it apart too)) its.is_turn.largest) too.is_turn.largest
 

@@ -11,13 +11,12 @@ use Rattle.log_model.specs.Chain.{GoesOn, IsChain}
 use Rattle.log_model.specs.Spelling.{HasSpelling}
 use Rattle.log_model.specs.Standing.{Stand, StandsAmong}
 use Rattle.log_model.proofs.Lists.{each, each_from, here, in_cons, in_nothing, there}
-use Rattle.log_records.specs.Batches.{GoesOnFrom}
-use Rattle.log_records.specs.declared.edge.Edge.{Edge}
+use Rattle.log_model.specs.Fetched.{GoesOnFrom, Edge}
 use Rattle.turn_model.specs.Candidates.{IsCandidate, IsPassedOver, IsTried, MakeChain}
 use Rattle.turn_model.specs.Candidates.IsCandidate.{own_log, newest, as_known}
 use Rattle.turn_model.specs.Turn.{Candidate}
 use Rattle.agent_model.specs.Standing.{Standing}
-use Rattle.agent_model.specs.Candidates.{AreTaken, IsCandidateOf, IsMisled}
+use Rattle.agent_model.specs.Candidates.{AreTaken, Grounds, IsCandidateOf, IsMisled, evidence_in, reading_in}
 use Rattle.agent_model.specs.Candidates.IsCandidateOf.{misled, by_heads}
 use Rattle.world_laws.specs.Laws.{OtherLogsDontCount}
 
@@ -49,7 +48,7 @@ stand_there owner met more to [] spelled h = tt
 stand_there owner met more to (r ∷ rs) spelled h = (to r spelled.0.0 spelled.0.1 h.0, stand_there owner met more to rs spelled.1 h.1)
 
 module _ (view : View) (owner : PubKey) (met more : List (List ℕ)) (to : AreThere owner met more) where
-  make_there : (floor : Vector) (head : Stamp) (chain : List Record) → MakeChain met view owner floor head chain → MakeChain more view owner floor head chain
+  make_there : (floor : Vector) (head : Stamp) (chain : List Record) → MakeChain (record { blocks = met; view = view; floor = floor }) owner head chain → MakeChain (record { blocks = more; view = view; floor = floor }) owner head chain
   make_there floor head chain h = record {
     chain_of_log = h.chain_of_log;
     stand = stand_there owner met more to chain (chain_spelled view owner chain h.chain_of_log) h.stand;
@@ -57,7 +56,7 @@ module _ (view : View) (owner : PubKey) (met more : List (List ℕ)) (to : AreTh
     passes = h.passes;
   }
 
-  taken_there : (started floor : Vector) (head : Stamp) (records : List Record) → AreTaken met view owner started floor head records → AreTaken more view owner started floor head records
+  taken_there : (started floor : Vector) (head : Stamp) (records : List Record) → AreTaken (record { blocks = met; view = view; floor = floor }) owner started head records → AreTaken (record { blocks = more; view = view; floor = floor }) owner started head records
   taken_there started floor head records h = record {
     owned = h.owned;
     sound = h.sound;
@@ -70,11 +69,17 @@ tried_there heads others log same floor t h = (subst (λ (l : List Stamp). Conta
 
 -- both ways
 module _ (view : View) (owner : PubKey) (heads others : Key → List Stamp) (met more : List (List ℕ)) (same : heads (head_key_of owner) ≡ others (head_key_of owner))
-    (to : AreThere owner met more) (from : AreThere owner more met) (s : Standing) where
-  over_there : (head : Stamp) → IsPassedOver met view owner s.floor head → IsPassedOver more view owner s.floor head
+    (to : AreThere owner met more) (from : AreThere owner more met) (s : Standing) (knew : List Record) where
+  abbrev grounds : Grounds
+  grounds = record { heads = heads; met = met; standing = s; knew = knew }
+
+  abbrev other_grounds : Grounds
+  other_grounds = record { heads = others; met = more; standing = s; knew = knew }
+
+  over_there : (head : Stamp) → IsPassedOver (reading_in grounds view) owner head → IsPassedOver (reading_in other_grounds view) owner head
   over_there head none chain h = none chain (make_there view owner more met from s.floor head chain h)
 
-  misled_there : (started : Vector) (records : List Record) → IsMisled heads met view s started owner records → IsMisled others more view s started owner records
+  misled_there : (started : Vector) (records : List Record) → IsMisled grounds view started owner records → IsMisled other_grounds view started owner records
   misled_there started records h = record {
     of_other = h.of_other;
     from = h.from;
@@ -87,18 +92,19 @@ module _ (view : View) (owner : PubKey) (heads others : Key → List Stamp) (met
     no_chain = over_there h.head h.no_chain;
   }
 
-  candidate_there : (own : PubKey) (knew chain : List Record) → IsCandidate heads met view own s.floor knew owner chain → IsCandidate others more view own s.floor knew owner chain
-  candidate_there own knew _ (own_log mine) = own_log mine
-  candidate_there own knew _ (newest head chain other tried makes before) = newest head chain other (tried_there heads others (head_key_of owner) same s.floor head tried) (make_there view owner met more to s.floor head chain makes)
+  candidate_there : (chain : List Record) → IsCandidate (evidence_in grounds view) owner chain → IsCandidate (evidence_in other_grounds view) owner chain
+  candidate_there _ (own_log mine) = own_log mine
+  candidate_there _ (newest head chain other tried makes before) = newest head chain other (tried_there heads others (head_key_of owner) same s.floor head tried) (make_there view owner met more to s.floor head chain makes)
       (λ t is_tried sooner. over_there t (before t (tried_there others heads (head_key_of owner) (sym same) s.floor t is_tried) sooner))
-  candidate_there own knew _ (as_known other none) = as_known other (λ t is_tried. over_there t (none t (tried_there others heads (head_key_of owner) (sym same) s.floor t is_tried)))
+  candidate_there _ (as_known other none) = as_known other (λ t is_tried. over_there t (none t (tried_there others heads (head_key_of owner) (sym same) s.floor t is_tried)))
 
 module _ (view : View) (owner : PubKey) (heads others : Key → List Stamp) (met more : List (List ℕ)) (same : heads (head_key_of owner) ≡ others (head_key_of owner))
-    (to : AreThere owner met more) (from : AreThere owner more met) (s : Standing) where
-  of_owner : (knew : List Record) (started : Vector) (chain : List Record) → IsCandidateOf heads met view s knew started owner chain → IsCandidateOf others more view s knew started owner chain
-  of_owner knew started _ (misled records h) = misled records (misled_there view owner heads others met more same to from s started records h)
-  of_owner knew started _ (by_heads chain none is) = by_heads chain (λ rs h. none rs (misled_there view owner others heads more met (sym same) from to s started rs h))
-      (candidate_there view owner heads others met more same to from s s.own knew chain is)
+    (to : AreThere owner met more) (from : AreThere owner more met) (s : Standing) (knew : List Record) where
+  of_owner : (started : Vector) (chain : List Record) → IsCandidateOf (record { heads = heads; met = met; standing = s; knew = knew }) view started owner chain
+      → IsCandidateOf (record { heads = others; met = more; standing = s; knew = knew }) view started owner chain
+  of_owner started _ (misled records h) = misled records (misled_there view owner heads others met more same to from s knew started records h)
+  of_owner started _ (by_heads chain none is) = by_heads chain (λ rs h. none rs (misled_there view owner others heads more met (sym same) from to s knew started rs h))
+      (candidate_there view owner heads others met more same to from s knew chain is)
 
 -- a candidate's owner is a member
 owner_in : (cs : List Candidate) (c : Candidate) → Contains cs c → Contains (map (λ x. x.owner) cs) c.owner
@@ -108,12 +114,12 @@ owner_in (x ∷ cs) c h = ⊎_elim
     (λ later. there x.owner (map (λ y. y.owner) cs) c.owner (owner_in cs c later)) (in_cons x cs c h)
 
 pub other_logs : OtherLogsDontCount
-other_logs view heads others met more s knew started candidates agree are = record {
+other_logs view g others more started candidates agree are = record {
   of_members = are.of_members;
-  each = each_from (λ c. IsCandidateOf others more view s knew started c.owner c.chain) candidates (λ c within.
+  each = each_from (λ c. IsCandidateOf (record g { heads = others; met = more }) view started c.owner c.chain) candidates (λ c within.
       let member : Contains view.members c.owner = subst (λ (l : List PubKey). Contains l c.owner) are.of_members (owner_in candidates c within) in
-      of_owner view c.owner heads others met more (agree.same_heads c.owner member)
+      of_owner view c.owner g.heads others g.met more (agree.same_heads c.owner member)
       (λ r owned spelled. (agree.records r (subst (Contains view.members) (sym owned) member) spelled).0)
-      (λ r owned spelled. (agree.records r (subst (Contains view.members) (sym owned) member) spelled).1) s knew started c.chain
-      (each (λ (x : Candidate). IsCandidateOf heads met view s knew started x.owner x.chain) candidates c are.each within));
+      (λ r owned spelled. (agree.records r (subst (Contains view.members) (sym owned) member) spelled).1) g.standing g.knew started c.chain
+      (each (λ (x : Candidate). IsCandidateOf g view started x.owner x.chain) candidates c are.each within));
 }

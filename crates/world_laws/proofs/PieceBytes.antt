@@ -23,6 +23,7 @@ use Rattle.script_model.specs.Words.{◌>>=◌, byte_of, call_of, each_of, is_lo
 use Rattle.world_laws.specs.FullTurns.{AreBytes}
 use Rattle.world_laws.specs.FullRuns.{GivesBytes}
 use Rattle.world_laws.proofs.LineKeys.{all_bytes, is_value}
+use Rattle.rpc_wire.specs.Frames.{longest_message}
 
 -- ---- pieces of a line
 
@@ -257,6 +258,6 @@ module _ (replies : List Given) (given : AllByRecursion GivesBytes replies) (vie
       in_size true bytes f e = subst AreBytes (some_is bytes message e) f
       in_size false bytes f e = cc e
 
-      by : (o : Option (List ℕ)) → SomeBytes o → (o >>= λ bytes. cond (nat_le (length bytes) 65536) (Some bytes) None) ≡ Some message → AreBytes message
+      by : (o : Option (List ℕ)) → SomeBytes o → (o >>= λ bytes. cond (nat_le (length bytes) longest_message) (Some bytes) None) ≡ Some message → AreBytes message
       by None f e = cc e
-      by (Some bytes) f e = in_size (nat_le (length bytes) 65536) bytes f e
+      by (Some bytes) f e = in_size (nat_le (length bytes) longest_message) bytes f e

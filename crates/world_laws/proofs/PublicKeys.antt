@@ -13,8 +13,8 @@ use Rattle.hash_signature_model.specs.declared.set.Set.{Set}
 use Rattle.hash_signature_model.specs.OneTime.{word}
 use Rattle.hash_signature_model.specs.Nodes.{node}
 use Rattle.hash_signature_model.specs.Parameters.{levels, lms_type, ots_type}
-use Rattle.hss_keys.specs.Saved.{AreOctets, IsSigner}
-use Rattle.hss_keys.specs.Signer.{Signer, hss_key_of, owner_of, tree_public}
+use Rattle.hash_signature_model.specs.Saved.{AreOctets, IsSigner}
+use Rattle.hash_signature_model.specs.Signer.{Signer, hss_key_of, owner_of, tree_public}
 
 abbrev pub is_byte : ℕ → Bool
 is_byte b = nat_lt b 256

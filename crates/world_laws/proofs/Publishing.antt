@@ -9,7 +9,7 @@ use Rattle.std.proofs.lemmas.Slice.Eq.{bytes_eq-Decides}
 use Rattle.ring_model.proofs.Lists.{all_weaker}
 use Rattle.ivy_base.specs.declared.key.Key.{Key}
 use Rattle.ivy_base.specs.declared.operation.Moment.{Moment}
-use Rattle.log_heads.specs.Signed.{hss_judged}
+use Rattle.dhash_model.specs.Signed.{hss_judged}
 use Rattle.log_model.proofs.Lists.{each, each_append, each_from, from_filter, here, in_cons, in_nothing, there}
 use Rattle.log_model.specs.View.{View}
 use Rattle.dht_ids.specs.Asked.{IsForData, told}

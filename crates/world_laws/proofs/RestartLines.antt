@@ -13,7 +13,7 @@ use Rattle.log_model.specs.Record.{Record}
 use Rattle.log_model.specs.Standing.{Stand}
 use Rattle.log_model.specs.Vector.{Dominates, seq_of}
 use Rattle.log_model.specs.View.{View}
-use Rattle.hss_keys.specs.Signer.{hss_key_of}
+use Rattle.hash_signature_model.specs.Signer.{hss_key_of}
 use Rattle.turn_model.specs.Known.{IsKnown, IsVerified}
 use Rattle.dht_ids.specs.declared.post.Post.{Post}
 use Rattle.agent_model.specs.Agent.{restored}

@@ -8,7 +8,9 @@ use Rattle.std.proofs.lemmas.List.Elements.{Contains-append_left}
 use Rattle.ring_model.specs.Members.{IsAmong, is_other}
 use Rattle.ring_model.proofs.Lists.{all-among, all_from, all_weaker, all-both, among-left, among-right, among_filtered}
 use Rattle.ivy_base.specs.declared.key.Key.{Key}
-use Rattle.log_heads.specs.Signed.{hss_judged}
+use Rattle.dhash_model.specs.Signed.{hss_judged}
+use Rattle.dhash_model.specs.State.{alone_node}
+use Rattle.dhash_model.specs.Stores.{Blocks}
 use Rattle.dht_ids.specs.Asked.{routes}
 use Rattle.dht_ids.specs.NodeIds.{node_id_of}
 use Rattle.dht_ids.specs.Peers.{place}
@@ -16,8 +18,7 @@ use Rattle.dht_ids.specs.declared.ask.Answer.{Answer}
 use Rattle.dht_ids.specs.declared.ask.Ask.{Ask}
 use Rattle.dht_ids.specs.declared.judge.Judged.{Judged}
 use Rattle.dht_ids.specs.declared.peer.Peer.{Peer}
-use Rattle.chord_core.specs.State.{alone_node}
-use Rattle.node_store.specs.Stores.{Blocks, IsStore}
+use Rattle.node_store.specs.Stores.{IsStore}
 use Rattle.node_store.proofs.Held.{empty_valid}
 use Rattle.round_laws.specs.Holding.{AreStores}
 use Rattle.round_laws.specs.RingOf.{AreNamed, AreNodes, IsSettledIn, KnowsOnly}

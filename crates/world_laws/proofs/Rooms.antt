@@ -5,7 +5,7 @@ use Rattle.std.specs.List.{AllByRecursion, list_any}
 use Rattle.ivy_base.specs.declared.operation.Moment.{Moment}
 use Rattle.ivy_base.specs.Naming.{head_key_of}
 use Rattle.ivy_io.specs.Keepers as memory
-use Rattle.hss_keys.specs.Signer.{Signer}
+use Rattle.hash_signature_model.specs.Signer.{Signer}
 use Rattle.round_laws.proofs.Nodes.{ties}
 use Rattle.log_model.proofs.Lists.{each, each_from}
 use Rattle.log_model.specs.Record.{Record}
@@ -37,7 +37,7 @@ use Rattle.world_laws.proofs.KeptBytes.{kept_once}
 use Rattle.world_laws.proofs.LastingLines.{AllLast, IsLasting, lines_last}
 use Rattle.world_laws.proofs.NoSnapshotLines.{fewer_spelled}
 use Rattle.world_laws.proofs.NoSnapshotSaved.{reached, turns_are_saved}
-use Rattle.world_laws.proofs.TurnsFloors.{joined_first}
+use Rattle.agent_laws.proofs.Floors.{joined_first}
 
 -- ---- counting
 

@@ -13,7 +13,7 @@ use Rattle.ivy_base.specs.Naming.{head_key_of}
 use Rattle.wire_model.specs.Xdr.{moment, opaque, padding}
 use Rattle.log_model.proofs.Lists.{both}
 use Rattle.log_model.specs.Chain.{opening}
-use Rattle.log_model.specs.Spelling.{IsBlock, IsKey, head_message, no_name, record_block, record_tag}
+use Rattle.log_model.specs.Spelling.{IsBlock, IsKey, head_message, no_name, record_block, record_tag, head_tag}
 use Rattle.log_model.specs.Vector.{Stamp}
 use Rattle.hash_signature_model.specs.declared.keys.PrivateKey.{PrivateKey}
 use Rattle.hash_signature_model.specs.declared.set.Height.{Height}
@@ -25,8 +25,8 @@ use Rattle.hash_signature_model.specs.Nodes.{above, beside, node}
 use Rattle.hash_signature_model.specs.OneTime.{chain, coefficient, derived, joined, randomizer_of, signed_value, word}
 use Rattle.hash_signature_model.specs.Parameters.{chains, leaves, levels, lms_type, ots_type}
 use Rattle.hash_signature_model.specs.Signatures.{code_of, path_of}
-use Rattle.hss_keys.specs.Saved.{AreOctets, IsSigner}
-use Rattle.hss_keys.specs.Signer.{Signer, hss_signature_of, leaf_signature, leaf_used, lower_key, next_signature, signed_by, signed_lower, tree_public}
+use Rattle.hash_signature_model.specs.Saved.{AreOctets, IsSigner}
+use Rattle.hash_signature_model.specs.Signer.{Signer, hss_signature_of, leaf_signature, leaf_used, lower_key, next_signature, signed_by, signed_lower, tree_public}
 use Rattle.agent_model.specs.Agent.{own_key}
 use Rattle.agent_model.specs.SavedBytes.{AreOpaque}
 use Rattle.world_model.specs.Agents.{hss, sealed}
@@ -160,9 +160,9 @@ to_opaque most bytes fits h = (omega (arith, fits, h.few), h.each)
 pub sealed_opaque : (s : Signer) → IsSigner s → (t : Stamp) → IsKey t.name → AreOpaque (sealed s t)
 sealed_opaque s whole t named =
     to_opaque 8095 (sealed s t) (omega arith)
-    (after 88 8007 (((73 ∷ 86 ∷ 72 ∷ 49 ∷ owner) ++ word t.seq) ++ t.name.0) (opaque signature)
-    (after 68 20 ((73 ∷ 86 ∷ 72 ∷ 49 ∷ owner) ++ word t.seq) t.name.0
-    (after 64 4 (73 ∷ 86 ∷ 72 ∷ 49 ∷ owner) (word t.seq) (after 4 60 (73 ∷ 86 ∷ 72 ∷ 49 ∷ []) owner (record { few = omega arith; each = refl }) (record { few = omega (arith, key.size); each = key.each })) (a_word t.seq))
+    (after 88 8007 (((head_tag ++ owner) ++ word t.seq) ++ t.name.0) (opaque signature)
+    (after 68 20 ((head_tag ++ owner) ++ word t.seq) t.name.0
+    (after 64 4 (head_tag ++ owner) (word t.seq) (after 4 60 head_tag owner (record { few = omega arith; each = refl }) (record { few = omega (arith, key.size); each = key.each })) (a_word t.seq))
     (key_short t.name named))
     (opaque_short 8000 signature (signature_short s.id s.seed s.sets s.made _ whole.sets.few)))
   where

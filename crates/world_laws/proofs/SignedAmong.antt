@@ -6,7 +6,7 @@ use Rattle.std.specs.Str.{bytes_eq}
 use Rattle.std.proofs.lemmas.List.Elements.{Contains-append_cases}
 use Rattle.log_model.proofs.Lists.{each, each_from, here, in_cons, in_nothing, there}
 use Rattle.log_model.specs.Vector.{Stamp}
-use Rattle.hss_keys.specs.Signer.{Signer}
+use Rattle.hash_signature_model.specs.Signer.{Signer}
 use Rattle.world_model.specs.World.{meets}
 use Rattle.world_laws.specs.Keeps.{AreSignedOnce, sealed_with}
 use Rattle.world_laws.proofs.Lines.{meets_it, meets_more}

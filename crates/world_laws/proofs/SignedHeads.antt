@@ -2,7 +2,8 @@
 use Rattle.std.proofs.Common.{◌≡◌, ◌⊎◌, inl, inr, ⊎_elim, ℕ, ◌<◌, ◌≤◌, List, [], ◌∷◌, map, Some, sym, ◌∙◌, subst, arith, Contains}
 use Rattle.log_model.specs.Vector.{Stamp}
 use Rattle.log_model.proofs.Lists.{each, here, in_cons, in_nothing, there}
-use Rattle.hss_keys.specs.Signer.{capacity, leaves_used}
+use Rattle.hash_signature_model.specs.Signer.{capacity}
+use Rattle.hss_keys.specs.Signer.{leaves_used}
 use Rattle.hss_keys.proofs.Signing.{no_leaf_twice}
 use Rattle.world_model.specs.Agents.{IsKept, Kept, kept_bytes, own_reach}
 use Rattle.world_model.specs.World.{Participant}

@@ -10,13 +10,13 @@ use Rattle.std.proofs.lemmas.List.Elements.{Contains-append_cases, Contains-appe
 use Rattle.ivy_base.specs.declared.key.Key.{Key}
 use Rattle.ivy_base.specs.Naming.{NamesTellApart}
 use Rattle.ivy_io.specs.Keepers as memory
-use Rattle.log_heads.specs.Signed.{hss_judged}
+use Rattle.dhash_model.specs.Signed.{hss_judged}
 use Rattle.log_model.specs.Closed.{log_of}
 use Rattle.log_model.specs.Record.{Record}
 use Rattle.log_model.specs.View.{View, IsView, is_named}
 use Rattle.log_model.specs.Vector.{Dominates}
 use Rattle.log_model.proofs.Lists.{each, each_from, from_filter, in_filter, in_nothing, who_passes}
-use Rattle.view_blocks.specs.Faults.{HasKeys}
+use Rattle.log_model.specs.ViewKeys.{HasKeys}
 use Rattle.turn_model.specs.Basis.{Holding, fresh_basis, nothing_held}
 use Rattle.dht_ids.specs.declared.post.Post.{Post}
 use Rattle.snapshot_model.specs.Spelling.{root_name, snapshot_blocks, snapshot_of}

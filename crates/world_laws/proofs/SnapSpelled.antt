@@ -13,14 +13,14 @@ use Rattle.log_model.proofs.Later.{good_of}
 use Rattle.log_model.proofs.Lists.{each, each_from, here, in_nothing, there}
 use Rattle.turn_model.specs.Basis.{Basis, Holding, HoldsAll, Knows, StandsFor, nothing_held, tide_of}
 use Rattle.turn_model.proofs.Kept.{kept_tree_is_replay}
-use Rattle.view_blocks.specs.Faults.{HasKeys, IsPubKey}
+use Rattle.log_model.specs.ViewKeys.{HasKeys, IsPubKey}
 use Rattle.agent_model.specs.Others.{basis_of}
 use Rattle.session_laws.proofs.Starting.{joined_front}
 use Rattle.snapshot_model.specs.Blocks.{IsRankSpelled, IsVectorSpelled}
 use Rattle.snapshot_model.specs.Reading.{IsBasisSpelled}
 use Rattle.world_laws.specs.Laws.{HeldIsSpelled}
 use Rattle.world_laws.proofs.SnapBounds.{IsBounded, set_is_bounded}
-use Rattle.world_laws.proofs.TurnsFloors.{IsSpelledIn, records_spelled}
+use Rattle.agent_laws.proofs.Floors.{IsSpelledIn, records_spelled}
 
 -- ---- the last of a row
 

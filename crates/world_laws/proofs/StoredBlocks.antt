@@ -14,7 +14,8 @@ use Rattle.ivy_base.specs.Naming.{key_cmp}
 use Rattle.dht_ids.specs.declared.ask.StoreFault.{StoreFault}
 use Rattle.dht_ids.specs.declared.ask.StoreFault.TheVariants.{Full}
 use Rattle.dht_ids.specs.declared.judge.Judged.{Judged}
-use Rattle.node_store.specs.Stores.{Block, Blocks, IsStore, bytes_held, capacity, content, content_fault, full, head, head_fault, not_judged, number_at, older, wrong_name}
+use Rattle.dhash_model.specs.Stores.{Block, Blocks, bytes_held, capacity, content, content_fault, full, head, head_fault, not_judged, number_at, older, wrong_name}
+use Rattle.node_store.specs.Stores.{IsStore}
 use Rattle.node_store.proofs.Maps.{keys_total}
 
 -- ---- ascending keys

@@ -10,10 +10,10 @@ use Rattle.ivy_base.specs.Naming.{name}
 use Rattle.tree_model.specs.Tree.{same_key}
 use Rattle.tree_model.proofs.Keys.{same_key_is}
 use Rattle.tree_model.proofs.Sound.{both_true}
-use Rattle.block_cache.specs.Blocks.{IsCache, block_of, moved_to_front, others}
-use Rattle.block_cache.specs.Blocks.{same_key as same_cached}
+use Rattle.dhash_model.specs.Cache.{block_of, moved_to_front, others, same_key as same_cached}
+use Rattle.block_cache.specs.Blocks.{IsCache}
 use Rattle.block_cache.proofs.Pairs.{found_named as named_in_cache, moved_valid}
-use Rattle.log_heads.specs.Signed.{hss_judged}
+use Rattle.dhash_model.specs.Signed.{hss_judged}
 use Rattle.log_model.proofs.Lists.{in_cons, in_nothing}
 use Rattle.log_model.specs.Vector.{Entry}
 use Rattle.dht_ids.specs.declared.ask.Heard.{Heard}

@@ -4,10 +4,10 @@ use Rattle.std.specs.Prelude.{IfSome}
 use Rattle.std.specs.List.{AllByRecursion}
 use Rattle.ivy_base.specs.declared.key.Key.{Key}
 use Rattle.ivy_base.specs.Naming.{NamesTellApart}
-use Rattle.log_heads.specs.Signed.{hss_judged}
+use Rattle.dhash_model.specs.Signed.{hss_judged}
 use Rattle.log_model.proofs.Lists.{each}
 use Rattle.dht_ids.specs.declared.ask.Heard.{Heard}
-use Rattle.dhash_client.specs.declared.miss.Miss.{Miss}
+use Rattle.dhash_model.specs.declared.miss.Miss.{Miss}
 use Rattle.session_model.specs.Brought.{Brought, BlockOf, Content, Part, Want, brought_in}
 use Rattle.session_model.specs.Refreshing.{Done, FailsBy, Needs, RefreshEnd, Refreshes}
 use Rattle.session_model.specs.Sessions.{Cache, Session, Refreshing, Stage, TakesSome, Wants, with_part}

@@ -5,19 +5,18 @@ use Rattle.std.specs.List.{AllByRecursion}
 use Rattle.ivy_base.specs.Naming.{NamesTellApart}
 use Rattle.wire_model.specs.Rpc.{auth, call}
 use Rattle.wire_model.specs.Xdr.{word}
-use Rattle.log_heads.specs.Signed.{hss_judged}
+use Rattle.dhash_model.specs.Signed.{hss_judged}
 use Rattle.log_model.proofs.Lists.{each}
 use Rattle.log_model.specs.View.{View, IsView, is_named}
+use Rattle.log_model.specs.ViewKeys.{HasKeys}
 use Rattle.nfs_model.specs.Arguments.{arguments}
 use Rattle.turn_model.specs.Turn.{Asked}
-use Rattle.view_blocks.specs.Faults.{HasKeys}
 use Rattle.agent_model.specs.Standing.{Refresh}
 use Rattle.agent_model.specs.Turning.{TurnEnd}
 use Rattle.turn_laws.specs.Laws.{HasRoom}
 use Rattle.turn_laws.proofs.Existing.{MayAnswer, there_is_a_turn}
 use Rattle.turn_laws.proofs.Octets.{AreOctets, right_octets}
-use Rattle.session_model.specs.Brought.{brought_in, heads_at}
-use Rattle.session_model.specs.Courses.{HasRefreshed}
+use Rattle.session_model.specs.Courses.{grounds_of, HasRefreshed}
 use Rattle.session_model.specs.Refreshing.{Note}
 use Rattle.session_model.specs.Replies.{Asks}
 use Rattle.session_model.specs.Sessions.{Cache, Session, TakesAll}
@@ -98,7 +97,7 @@ module _ (c : Scene) (r : ℕ) (p : Participant) (taken : Session) (cache : Cach
   pub its_turn : (end : TurnEnd) × (after : Agent) × (saving : Option Kept) × TurnAt c p taken given asked end after saving
   its_turn =
       let may = refresh_may_turn then_c then_p r notes given then_so.0 then_apart then_so.1 found done in
-      there_is_a_turn hss p.agent taken.standing.view given (fails_next p.keeper) asked c.world.now may_answer (heads_at (brought_in taken.parts)) (named_bytes then_c.world) taken.standing c.began.knew (known_of c.story p.name) then_apart may.0 may.1
+      there_is_a_turn hss p.agent taken.standing.view given (fails_next p.keeper) asked c.world.now may_answer (grounds_of (named_bytes then_c.world) taken c.began.knew) (known_of c.story p.name) then_apart may.0 may.1
 
 pub turns_exist : TurnsExist
 turns_exist = its_turn

@@ -39,7 +39,7 @@ use Rattle.world_laws.proofs.MoreMet.{grows_before, more_snapshot, more_stand, m
 use Rattle.world_laws.proofs.NotRefused.{HasEach, has_part}
 use Rattle.world_laws.proofs.PublicKeys.{owner_is_key}
 use Rattle.world_laws.proofs.SecondTurns.{goes_on_held, one_view}
-use Rattle.world_laws.proofs.TurnsFloors.{joined_first}
+use Rattle.agent_laws.proofs.Floors.{joined_first}
 use Rattle.world_laws.proofs.TurnsKnown.{KnowsThen}
 use Rattle.world_laws.proofs.TurnsSigning.{turned_to}
 use Rattle.world_laws.proofs.TurnsWorld.{StaysSound}

@@ -8,12 +8,12 @@ use Rattle.ivy_base.specs.declared.key.PubKey.{PubKey}
 use Rattle.ivy_base.specs.Naming.{NamesTellApart, head_key_of}
 use Rattle.tree_model.specs.Tree.{same_key}
 use Rattle.tree_model.proofs.Keys.{same_key_is}
-use Rattle.view_blocks.specs.Faults.{HasKeys}
 use Rattle.log_model.specs.Chain.{IsGood}
 use Rattle.log_model.specs.Closed.{IsClosed, IsClosedPart, log_of}
 use Rattle.log_model.specs.Rank.{front}
 use Rattle.log_model.specs.Record.{Record}
 use Rattle.log_model.specs.Standing.{Stand, StandsAmong}
+use Rattle.log_model.specs.ViewKeys.{HasKeys}
 use Rattle.log_model.proofs.Standing.{stands_among_more}
 use Rattle.log_model.specs.Vector.{Dominates, Entry, Stamp, Vector, join, reach, seq_of, stamp_at}
 use Rattle.log_model.specs.View.{View, IsView, is_named}
@@ -27,11 +27,11 @@ use Rattle.turn_model.specs.Basis.{Holding, HoldsAll}
 use Rattle.turn_model.specs.Known.{EndsAt, IsBacked, IsKnown, IsUnderHead, IsVerified}
 use Rattle.turn_model.specs.Turn.{Asked, Candidate, IsAtHand, Turned, turn_on}
 use Rattle.agent_model.specs.Agent.{joined, kept_of}
-use Rattle.agent_model.specs.Candidates.{AreCandidatesOf}
+use Rattle.agent_model.specs.Candidates.{AreCandidatesOf, Grounds}
 use Rattle.agent_model.specs.Standing.{Refresh}
 use Rattle.agent_model.specs.Turning.{IsByDefinition, IsTurnOf, inputs_before, with_held}
 use Rattle.session_model.specs.Brought.{all_heads, brought_in, heads_at}
-use Rattle.session_model.specs.Courses.{HasRefreshed}
+use Rattle.session_model.specs.Courses.{grounds_of, HasRefreshed}
 use Rattle.session_model.specs.Refreshing.{Done, Note}
 use Rattle.session_model.specs.Replies.{Asks}
 use Rattle.session_laws.proofs.OneRefresh.{refresh_is_one}
@@ -47,8 +47,8 @@ use Rattle.world_laws.proofs.MoreMet.{more_stand, more_verified}
 use Rattle.world_laws.proofs.OneAsked.{caller_is_identity, one_asked}
 use Rattle.world_laws.proofs.SignedHeads.{from_map}
 use Rattle.world_laws.proofs.TurnsBlocks.{stand_met}
-use Rattle.world_laws.proofs.TurnsFloors.{joined_known, joined_second, own_number}
-use Rattle.world_laws.proofs.TurnsSets.{holds_written}
+use Rattle.agent_laws.proofs.Floors.{joined_known, joined_second, own_number}
+use Rattle.agent_laws.proofs.Sets.{holds_written}
 use Rattle.world_laws.proofs.TurnsTaken.{IsBrought, brought_under, has_known, of_hand, one_candidates, one_taken, own_log_known}
 
 -- ---- what is known and held
@@ -137,6 +137,9 @@ module _ (c : Scene) (r : ℕ) (p : Participant) (keeps : Keeps (c.world, c.stor
   abbrev heads : Key → List Stamp
   heads = heads_at (brought_in c.session.parts)
 
+  abbrev grounds : Grounds
+  grounds = grounds_of (named_bytes c.world) c.session c.began.knew
+
   module _ (apart : NamesTellApart (named_bytes c.world))
       (is_turn : IsTurnIn (named_bytes c.world) (turning_of c.world p c.session.standing.view) c.session c.began.knew (known_of c.story p.name) turned) where
     its : IsSoundSession c.world c.story c.session c.began
@@ -148,8 +151,8 @@ module _ (c : Scene) (r : ℕ) (p : Participant) (keeps : Keeps (c.world, c.stor
     pub agent : IsSound c.world.met p knowing view
     agent = agent_sound c keeps apart its p is_p in_view
 
-    of : IsTurnOf hss (record { heads = heads; met = named_bytes c.world; standing = c.session.standing; knew = c.began.knew; started = given.started }) (record { agent = a; view = view; now = c.world.now; fails = fails_next p.keeper }) knowing.known asked h written reply
-    of = let may = refresh_may_turn c p r notes given keeps apart hand is_p done in by_definition heads (named_bytes c.world) c.session.standing c.began.knew knowing.known apart may.0 may.1
+    of : IsTurnOf hss (record { grounds = grounds; started = given.started }) (record { agent = a; view = view; now = c.world.now; fails = fails_next p.keeper }) knowing.known asked h written reply
+    of = let may = refresh_may_turn c p r notes given keeps apart hand is_p done in by_definition grounds knowing.known apart may.0 may.1
 
     given_is : is_turn.given ≡ given
     given_is = (refresh_is_one c.session.standing (brought_in c.session.parts) is_turn.notes notes is_turn.given given Done Done is_turn.refreshed.1 done.1).1
@@ -160,8 +163,8 @@ module _ (c : Scene) (r : ℕ) (p : Participant) (keeps : Keeps (c.world, c.stor
     abbrev candidates : List Candidate
     candidates = is_turn.is_turn.candidates
 
-    pub are_candidates : AreCandidatesOf heads (named_bytes c.world) view c.session.standing c.began.knew given.started candidates
-    are_candidates = subst (λ (g : Refresh). AreCandidatesOf heads (named_bytes c.world) view c.session.standing c.began.knew g.started candidates) given_is is_turn.is_turn.of_heads
+    pub are_candidates : AreCandidatesOf grounds view given.started candidates
+    are_candidates = subst (λ (g : Refresh). AreCandidatesOf grounds view g.started candidates) given_is is_turn.is_turn.of_heads
 
     -- ---- what it took
 
@@ -174,7 +177,7 @@ module _ (c : Scene) (r : ℕ) (p : Participant) (keeps : Keeps (c.world, c.stor
     taken_is : of.taken ≡ taken
     taken_is = one_taken view knowing.known candidates of.taken taken
         (subst (λ (l : List Candidate). IsClosedPart view (IsAtHand knowing.known l) of.taken)
-        (one_candidates heads (named_bytes c.world) view c.session.standing c.began.knew given.started apart of.is_turn.candidates candidates of.is_turn.of_heads are_candidates) of.is_turn.largest) largest
+        (one_candidates grounds view given.started apart of.is_turn.candidates candidates of.is_turn.of_heads are_candidates) of.is_turn.largest) largest
 
     pub turned_is : turned ≡ turn_on (inputs a view (fails_next p.keeper)) taken asked c.world.now
     turned_is = is_turn.is_turn.by_set ∙ ap (λ (x : Asked). turn_on (inputs a view (fails_next p.keeper)) taken x c.world.now) asked_is
@@ -209,23 +212,23 @@ module _ (c : Scene) (r : ℕ) (p : Participant) (keeps : Keeps (c.world, c.stor
         subst (λ (n : List ℕ). Contains (knowing_of c.story n).received (log, t)) (sym (found_named c.world.participants c.session.by p is_p).1)
         (subst (Contains (knowing_of c.story c.session.by).received) one (its.received found.0 entry.0))
 
-    brought : (q : Record) → IsBrought heads (named_bytes c.world) view c.session.standing c.began.knew given.started knowing.known before candidates are_candidates q
+    brought : (q : Record) → IsBrought grounds view given.started knowing.known before candidates are_candidates q
         → (q.owner ≡ c.session.standing.own → ⊥) × IsUnderHead c.world.met knowing.received q × StandsAmong c.world.met q
-    brought q b = brought_under heads (named_bytes c.world) view c.session.standing c.began.knew given.started knowing.known before candidates are_candidates knowing.received were c.world.met
+    brought q b = brought_under grounds view given.started knowing.known before candidates are_candidates knowing.received were c.world.met
         (λ chain owner is_chain stands. stand_met (c.world, c.story) keeps view owner chain is_chain stands) q b
 
     at_hand : (q : Record) → Contains taken q → IsOwnOrUnder c.world.met knowing.received (own a) q × StandsAmong c.world.met q
     at_hand q among = ⊎_elim
         (λ known. (of_backed (each (IsBacked c.world.met (own a) a.floor knowing.received) knowing.known q agent.verified.backed known), each (StandsAmong c.world.met) knowing.known q agent.stand known))
         (λ new. let b = brought q new in (inr (subst (λ (o : PubKey). q.owner ≡ o → ⊥) own_is b.0, b.1), b.2))
-        (of_hand heads (named_bytes c.world) view c.session.standing c.began.knew given.started knowing.known before candidates are_candidates q (largest.part q among))
+        (of_hand grounds view given.started knowing.known before candidates are_candidates q (largest.part q among))
       where
         of_backed : IsBacked c.world.met (own a) a.floor knowing.received q → IsOwnOrUnder c.world.met knowing.received (own a) q
         of_backed (inl mine) = inl mine.0
         of_backed (inr other) = inr other
 
     has_all : (q : Record) → Contains knowing.known q → Contains taken q
-    has_all = has_known heads (named_bytes c.world) view c.session.standing c.began.knew given.started knowing.known before candidates are_candidates agent.knows.closed taken largest
+    has_all = has_known grounds view given.started knowing.known before candidates are_candidates agent.knows.closed taken largest
 
     pub taken_known : KnowsThen view (own a) a.floor knowing.received knowing.known c.world.met h taken
     taken_known = knows_then view well (own a) member a.floor knowing.received knowing.known agent.knows.by_floor c.world.met h taken has_all largest.closed holds
@@ -233,7 +236,7 @@ module _ (c : Scene) (r : ℕ) (p : Participant) (keeps : Keeps (c.world, c.stor
 
     pub same_own_log : log_of (own a) taken ≡ log_of (own a) knowing.known
     same_own_log = subst (λ (o : PubKey). log_of o taken ≡ log_of o knowing.known) own_is
-        (own_log_known heads (named_bytes c.world) view c.session.standing c.began.knew given.started knowing.known before candidates are_candidates agent.knows.closed taken largest)
+        (own_log_known grounds view given.started knowing.known before candidates are_candidates agent.knows.closed taken largest)
 
     -- ---- and what it wrote
 

@@ -6,7 +6,7 @@ use Rattle.ivy_base.specs.Naming.{NamesTellApart}
 use Rattle.log_model.specs.Closed.{log_of}
 use Rattle.log_model.specs.View.{View, IsView, is_named as is_of_view}
 use Rattle.log_model.proofs.Lists.{each}
-use Rattle.view_blocks.specs.Faults.{HasKeys}
+use Rattle.log_model.specs.ViewKeys.{HasKeys}
 use Rattle.dht_ids.specs.declared.post.Post.{Post}
 use Rattle.session_laws.specs.Loading.{IsSnapshotOf}
 use Rattle.world_model.specs.Agents.{Kept, own}

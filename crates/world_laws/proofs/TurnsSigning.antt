@@ -13,8 +13,8 @@ use Rattle.log_model.specs.Spelling.{most_records}
 use Rattle.log_model.specs.Vector.{Stamp, Vector, join, seq_of}
 use Rattle.log_model.specs.View.{View, IsView, is_named}
 use Rattle.log_model.proofs.Lists.{each, each_append, each_from, from_filter, here, in_cons, in_nothing}
-use Rattle.view_blocks.specs.Faults.{HasKeys}
-use Rattle.hss_keys.specs.Signer.{Signer, capacity}
+use Rattle.log_model.specs.ViewKeys.{HasKeys}
+use Rattle.hash_signature_model.specs.Signer.{Signer, capacity}
 use Rattle.dht_ids.specs.declared.post.Post.{Post}
 use Rattle.turn_model.specs.Basis.{Holding}
 use Rattle.agent_model.specs.Agent.{head_post, is_head, kept_of, record_post, with_posts}
@@ -27,7 +27,7 @@ use Rattle.world_model.specs.Steps.{having_made, heads_by}
 use Rattle.world_laws.specs.Keeps.{AreSignedOnce, SignsOnce, sealed_with}
 use Rattle.world_laws.proofs.SignedAmong.{fewer_signed_once, from_met, met_then}
 use Rattle.world_laws.proofs.SignedHeads.{from_map}
-use Rattle.world_laws.proofs.TurnsFloors.{IsSpelledIn, joined_first, joined_no_more, joined_spelled}
+use Rattle.agent_laws.proofs.Floors.{IsSpelledIn, joined_first, joined_no_more, joined_spelled}
 
 -- ---- numbers that follow one another
 

@@ -26,9 +26,8 @@ use Rattle.log_model.proofs.Sets.{chain_ascends, same_list}
 use Rattle.turn_model.specs.Candidates.{IsTriedBefore, MakeChain}
 use Rattle.turn_model.specs.Known.{IsUnderHead}
 use Rattle.turn_model.specs.Turn.{Candidate, IsAtHand}
-use Rattle.agent_model.specs.Candidates.{AreCandidatesOf, IsCandidateOf}
+use Rattle.agent_model.specs.Candidates.{AreCandidatesOf, Grounds, IsCandidateOf, evidence_in, reading_in}
 use Rattle.agent_model.specs.Candidates.IsCandidateOf.{misled as is_misled, by_heads}
-use Rattle.agent_model.specs.Standing.{Standing}
 use Rattle.turn_laws.proofs.LinkedLogs.{chain_linked}
 
 -- ---- of two heads one is tried before the other
@@ -48,30 +47,30 @@ by_number s t Greater e = inl (inl (ranked s.seq t.seq Greater e))
 
 -- ---- candidates
 
-module _ (heads : Key → List Stamp) (met : List (List ℕ)) (view : View) (s : Standing) (knew : List Record) (started : Vector) where
+module _ (grounds : Grounds) (view : View) (started : Vector) where
   abbrev pub IsNewHead : PubKey → List Record → Type 0
-  IsNewHead owner chain = (owner ≡ s.own → ⊥) × IsNewest heads met view s.own s.floor knew owner chain
+  IsNewHead owner chain = (owner ≡ grounds.standing.own → ⊥) × IsNewest (evidence_in grounds view) owner chain
 
   -- what was known of the log, or the chain of a head of another's log
-  of_one : (owner : PubKey) (chain : List Record) → IsCandidateOf heads met view s knew started owner chain → (chain ≡ log_of owner knew) ⊎ IsNewHead owner chain
+  of_one : (owner : PubKey) (chain : List Record) → IsCandidateOf grounds view started owner chain → (chain ≡ log_of owner grounds.knew) ⊎ IsNewHead owner chain
   of_one owner _ (is_misled records misled) = inl refl
-  of_one owner _ (by_heads chain not_misled candidate) = by (cases_of heads met view s.own s.floor knew owner chain candidate)
+  of_one owner _ (by_heads chain not_misled candidate) = by (cases_of (evidence_in grounds view) owner chain candidate)
     where
-      by : IsOne heads met view s.own s.floor knew owner chain → (chain ≡ log_of owner knew) ⊎ IsNewHead owner chain
+      by : IsOne (evidence_in grounds view) owner chain → (chain ≡ log_of owner grounds.knew) ⊎ IsNewHead owner chain
       by (inl mine) = inl mine.1
       by (inr (other, inl new)) = inr (other, new)
       by (inr (other, inr old)) = inl old.1
 
   -- ---- there is one list of them
 
-  module _ (apart : NamesTellApart met) where
-    one_newest : (owner : PubKey) (chain other : List Record) (n : IsNewest heads met view s.own s.floor knew owner chain) (m : IsNewest heads met view s.own s.floor knew owner other) → AreOrdered n.0 m.0 → chain ≡ other
+  module _ (apart : NamesTellApart grounds.met) where
+    one_newest : (owner : PubKey) (chain other : List Record) (n : IsNewest (evidence_in grounds view) owner chain) (m : IsNewest (evidence_in grounds view) owner other) → AreOrdered n.0 m.0 → chain ≡ other
     one_newest owner chain other n m (inl before) = absurd (m.3 n.0 n.1 before chain n.2)
     one_newest owner chain other n m (inr (inl behind)) = absurd (n.3 m.0 m.1 behind other m.2)
     one_newest owner chain other n m (inr (inr same)) =
-        one_chain met apart view owner s.floor m.0 chain other (subst (λ (t : Stamp). MakeChain met view owner s.floor t chain) same n.2) m.2
+        one_chain (reading_in grounds view) apart owner m.0 chain other (subst (λ (t : Stamp). MakeChain (reading_in grounds view) owner t chain) same n.2) m.2
 
-    one_of_heads : (owner : PubKey) (chain other : List Record) → IsOne heads met view s.own s.floor knew owner chain → IsOne heads met view s.own s.floor knew owner other → chain ≡ other
+    one_of_heads : (owner : PubKey) (chain other : List Record) → IsOne (evidence_in grounds view) owner chain → IsOne (evidence_in grounds view) owner other → chain ≡ other
     one_of_heads owner chain other (inl a) (inl b) = a.1 ∙ sym b.1
     one_of_heads owner chain other (inl a) (inr b) = absurd (b.0 a.0)
     one_of_heads owner chain other (inr a) (inl b) = absurd (a.0 b.0)
@@ -80,31 +79,31 @@ module _ (heads : Key → List Stamp) (met : List (List ℕ)) (view : View) (s :
     one_of_heads owner chain other (inr (a, inr k)) (inr (b, inl m)) = absurd (k.0 m.0 m.1 other m.2)
     one_of_heads owner chain other (inr (a, inr k)) (inr (b, inr l)) = k.1 ∙ sym l.1
 
-    one_candidate : (owner : PubKey) (chain other : List Record) → IsCandidateOf heads met view s knew started owner chain → IsCandidateOf heads met view s knew started owner other → chain ≡ other
+    one_candidate : (owner : PubKey) (chain other : List Record) → IsCandidateOf grounds view started owner chain → IsCandidateOf grounds view started owner other → chain ≡ other
     one_candidate owner _ _ (is_misled records misled) (is_misled others also) = refl
     one_candidate owner _ _ (is_misled records misled) (by_heads other not_misled candidate) = absurd (not_misled records misled)
     one_candidate owner _ _ (by_heads chain not_misled candidate) (is_misled records misled) = absurd (not_misled records misled)
     one_candidate owner _ _ (by_heads chain not_misled candidate) (by_heads other nor also) =
-        one_of_heads owner chain other (cases_of heads met view s.own s.floor knew owner chain candidate) (cases_of heads met view s.own s.floor knew owner other also)
+        one_of_heads owner chain other (cases_of (evidence_in grounds view) owner chain candidate) (cases_of (evidence_in grounds view) owner other also)
 
     one_list : (one other : List Candidate) → map (λ c. c.owner) one ≡ map (λ c. c.owner) other
-        → AllByRecursion (λ c. IsCandidateOf heads met view s knew started c.owner c.chain) one → AllByRecursion (λ c. IsCandidateOf heads met view s knew started c.owner c.chain) other → one ≡ other
+        → AllByRecursion (λ c. IsCandidateOf grounds view started c.owner c.chain) one → AllByRecursion (λ c. IsCandidateOf grounds view started c.owner c.chain) other → one ≡ other
     one_list [] [] owners f g = refl
     one_list [] (d ∷ other) owners f g = cc
     one_list (c ∷ one) [] owners f g = cc
     one_list (c ∷ one) (d ∷ other) owners f g =
         let owner : c.owner ≡ d.owner = cc in
         let rest : map (λ (x : Candidate). x.owner) one ≡ map (λ (x : Candidate). x.owner) other = cc in
-        let chain : c.chain ≡ d.chain = one_candidate d.owner c.chain d.chain (subst (λ (o : PubKey). IsCandidateOf heads met view s knew started o c.chain) owner f.0) g.0 in
+        let chain : c.chain ≡ d.chain = one_candidate d.owner c.chain d.chain (subst (λ (o : PubKey). IsCandidateOf grounds view started o c.chain) owner f.0) g.0 in
         let same : c ≡ d = λ i. record { owner = owner i; chain = chain i } in
         ap (λ (x : Candidate). x ∷ one) same ∙ ap (λ (l : List Candidate). d ∷ l) (one_list one other rest f.1 g.1)
 
-    pub one_candidates : (one other : List Candidate) → AreCandidatesOf heads met view s knew started one → AreCandidatesOf heads met view s knew started other → one ≡ other
+    pub one_candidates : (one other : List Candidate) → AreCandidatesOf grounds view started one → AreCandidatesOf grounds view started other → one ≡ other
     one_candidates one other a b = one_list one other (a.of_members ∙ sym b.of_members) a.each b.each
 
   -- ---- what they bring
 
-  module _ (known : List Record) (before : (r : Record) → Contains knew r → Contains known r) (candidates : List Candidate) (are : AreCandidatesOf heads met view s knew started candidates) where
+  module _ (known : List Record) (before : (r : Record) → Contains grounds.knew r → Contains known r) (candidates : List Candidate) (are : AreCandidatesOf grounds view started candidates) where
     -- it is of another's log, and of the chain that a head names
     abbrev pub IsBrought : Record → Type 0
     IsBrought r = (owner : PubKey) × (chain : List Record) × Contains chain r × (r.owner ≡ owner) × IsNewHead owner chain
@@ -112,18 +111,18 @@ module _ (heads : Key → List Stamp) (met : List (List ℕ)) (view : View) (s :
     pub of_hand : (r : Record) → IsAtHand known candidates r → Contains known r ⊎ IsBrought r
     of_hand r (inl c) = inl c
     of_hand r (inr (c, stands, goes_on, among)) = ⊎_elim
-        (λ old. inl (before r (from_filter (λ (x : Record). eq_by_cmp owner_cmp c.owner x.owner) knew r (subst (λ (l : List Record). Contains l r) old among)).0))
+        (λ old. inl (before r (from_filter (λ (x : Record). eq_by_cmp owner_cmp c.owner x.owner) grounds.knew r (subst (λ (l : List Record). Contains l r) old among)).0))
         (λ new. inr (c.owner, c.chain, among, (each (IsGood view c.owner) c.chain r (chain_good view c.owner c.chain new.1.2.chain_of_log) among).owned, new))
-        (of_one c.owner c.chain (each (λ (d : Candidate). IsCandidateOf heads met view s knew started d.owner d.chain) candidates c are.each stands))
+        (of_one c.owner c.chain (each (λ (d : Candidate). IsCandidateOf grounds view started d.owner d.chain) candidates c are.each stands))
 
     -- an own record is known
-    pub own_known : (r : Record) → r.owner ≡ s.own → IsAtHand known candidates r → Contains known r
+    pub own_known : (r : Record) → r.owner ≡ grounds.standing.own → IsAtHand known candidates r → Contains known r
     own_known r mine at_hand = ⊎_elim (λ c. c) (λ b. absurd (b.4.0 (sym b.3 ∙ mine))) (of_hand r at_hand)
 
     -- one that is brought stands among the blocks, under a head that was received
-    module _ (received : List Entry) (were : (log : Key) (t : Stamp) → Contains (heads log) t → Contains received (log, t)) where
-      pub brought_under : (blocks : List (List ℕ)) → ((chain : List Record) (owner : PubKey) → IsChain view owner chain → Stand met chain → Stand blocks chain) → (r : Record) → IsBrought r
-          → (r.owner ≡ s.own → ⊥) × IsUnderHead blocks received r × StandsAmong blocks r
+    module _ (received : List Entry) (were : (log : Key) (t : Stamp) → Contains (grounds.heads log) t → Contains received (log, t)) where
+      pub brought_under : (blocks : List (List ℕ)) → ((chain : List Record) (owner : PubKey) → IsChain view owner chain → Stand grounds.met chain → Stand blocks chain) → (r : Record) → IsBrought r
+          → (r.owner ≡ grounds.standing.own → ⊥) × IsUnderHead blocks received r × StandsAmong blocks r
       brought_under blocks standing r (owner, chain, among, owned, new) = (
         λ mine. new.0 (sym owned ∙ mine),
         record {
@@ -145,14 +144,14 @@ module _ (heads : Key → List Stamp) (met : List (List ℕ)) (view : View) (s :
       pub has_known : (r : Record) → Contains known r → Contains taken r
       has_known r c = largest.largest known (λ q d. inl d) closed r c
 
-      pub own_log_known : log_of s.own taken ≡ log_of s.own known
+      pub own_log_known : log_of grounds.standing.own taken ≡ log_of grounds.standing.own known
       own_log_known =
-          same_list (log_of s.own taken) (log_of s.own known) (chain_ascends view s.own (log_of s.own taken) (largest.closed.chains s.own)) (chain_ascends view s.own (log_of s.own known) (closed.chains s.own))
-          (λ r c. let w = from_filter mine taken r c in in_filter mine known r (own_known r (same_owner s.own r.owner w.1) (largest.part r w.0)) w.1)
+          same_list (log_of grounds.standing.own taken) (log_of grounds.standing.own known) (chain_ascends view grounds.standing.own (log_of grounds.standing.own taken) (largest.closed.chains grounds.standing.own)) (chain_ascends view grounds.standing.own (log_of grounds.standing.own known) (closed.chains grounds.standing.own))
+          (λ r c. let w = from_filter mine taken r c in in_filter mine known r (own_known r (same_owner grounds.standing.own r.owner w.1) (largest.part r w.0)) w.1)
           (λ r c. let w = from_filter mine known r c in in_filter mine taken r (has_known r w.0) w.1)
         where
           mine : Record → Bool
-          mine r = eq_by_cmp owner_cmp s.own r.owner
+          mine r = eq_by_cmp owner_cmp grounds.standing.own r.owner
 
 -- one set is the largest closed part
 pub one_taken : (view : View) (known : List Record) (candidates : List Candidate) (taken other : List Record) → IsClosedPart view (IsAtHand known candidates) taken → IsClosedPart view (IsAtHand known candidates) other

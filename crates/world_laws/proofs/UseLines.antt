@@ -26,7 +26,7 @@ use Rattle.log_model.specs.View.{View, IsView, is_former, is_member, is_named}
 use Rattle.turn_laws.proofs.Heads.{member_is, one_member}
 use Rattle.turn_model.specs.Basis.{Holding, Knows, nothing_held}
 use Rattle.turn_model.specs.Known.{EndsAt, IsKnown, IsVerified}
-use Rattle.view_blocks.specs.Faults.{HasKeys}
+use Rattle.log_model.specs.ViewKeys.{HasKeys}
 use Rattle.dht_ids.specs.declared.post.Post.{Post}
 use Rattle.agent_model.specs.Agent.{entered, failed, kept_of, own_key}
 use Rattle.agent_model.specs.Views.{Entered, NotMember, KeeperFailed, entering_with, is_own_member, is_refused_in, not_named, was_former}

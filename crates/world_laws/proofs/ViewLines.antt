@@ -3,17 +3,17 @@ use Rattle.std.proofs.Common.{map, ◌≡◌, ◌≢◌, ℕ, suc, ◌≤◌, Bo
 use Rattle.std.specs.List.{AllByRecursion}
 use Rattle.std.proofs.lemmas.Bool.{ltb-false}
 use Rattle.ivy_base.specs.declared.key.PubKey.{PubKey}
-use Rattle.log_heads.specs.Signed.{hss_judged}
+use Rattle.dhash_model.specs.Signed.{hss_judged}
 use Rattle.log_model.proofs.Lists.{each, each_append}
 use Rattle.log_model.specs.View.{View, IsView, most_former, most_members, view_block, view_name}
-use Rattle.view_blocks.specs.Faults.{HasKeys, IsPubKey}
+use Rattle.log_model.specs.ViewKeys.{HasKeys, IsPubKey}
 use Rattle.dht_ids.specs.Asked.{IsForData}
 use Rattle.dht_ids.specs.declared.ask.Answer.{Answer}
 use Rattle.dht_ids.specs.declared.ask.Ask.{Ask}
 use Rattle.dht_ids.specs.declared.ask.Ask.TheVariants as ask
 use Rattle.dht_ids.specs.declared.peer.Peer.{Peer}
 use Rattle.dht_ids.specs.declared.post.Post.{Post}
-use Rattle.dhash_client.specs.Course.{Told}
+use Rattle.dhash_model.specs.Course.{Told}
 use Rattle.script_driver.specs.Run.{Outcome, Goes}
 use Rattle.script_model.specs.Words.{◌>>=◌}
 use Rattle.world_model.specs.Agents.{own}

@@ -14,11 +14,11 @@ use Rattle.dht_ids.specs.declared.ask.Ask.TheVariants as ask
 use Rattle.dht_ids.specs.declared.judge.Judged.{Judged}
 use Rattle.dht_ids.specs.declared.peer.Peer.{Peer}
 use Rattle.dht_ids.specs.declared.post.Post.{Post}
-use Rattle.dhash_client.specs.GetBlock.{IsGetOfBlock}
-use Rattle.dhash_client.specs.GetHead.{IsGetOfHead}
-use Rattle.dhash_client.specs.Course.{Told, told_all}
-use Rattle.dhash_client.specs.declared.miss.Miss.{Miss}
-use Rattle.log_heads.specs.Signed.{hss_judged}
+use Rattle.dhash_model.specs.GetBlock.{IsGetOfBlock}
+use Rattle.dhash_model.specs.GetHead.{IsGetOfHead}
+use Rattle.dhash_model.specs.Course.{Told, told_all}
+use Rattle.dhash_model.specs.declared.miss.Miss.{Miss}
+use Rattle.dhash_model.specs.Signed.{hss_judged}
 use Rattle.script_driver.specs.Run.{Goes}
 use Rattle.script_model.specs.declared.command.Command.{Command}
 use Rattle.script_model.specs.declared.command.Command.TheVariants as command
@@ -30,11 +30,11 @@ use Rattle.world_model.specs.Agents.{own}
 use Rattle.world_model.specs.World.{World, Participant, empty_world, entries, named_bytes}
 use Rattle.world_model.specs.Story.{empty_story}
 use Rattle.world_model.specs.Logs.{Played}
-use Rattle.round_laws.specs.Holding.{rank_in as rank_by}
 use Rattle.round_laws.specs.RingOf.{IsCoveredIn, IsSettledIn}
 use Rattle.world_model.specs.Fates.{Fates, asking}
 use Rattle.world_model.specs.Ring.{RingLine, live_in_order}
 use Rattle.world_model.specs.Step.{IvyStep}
+use Rattle.world_model.specs.Holding.{rank_in as rank_by}
 
 -- ---- calm scripts
 

@@ -1,6 +1,6 @@
 -- Why a session gives its reply: by its message alone, because its refresh failed, by its turn, or because memory ran out.
 use Rattle.std.specs.Prelude.{◌≡◌, ℕ, List, Contains, Option, Some, None}
-use Rattle.dhash_client.specs.declared.miss.Miss.{Miss}
+use Rattle.dhash_model.specs.declared.miss.Miss.{Miss}
 use Rattle.turn_model.specs.Turn.{Asked}
 use Rattle.agent_model.specs.Standing.{Refresh}
 use Rattle.session_model.specs.Brought.{brought_in}

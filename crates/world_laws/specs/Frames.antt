@@ -3,14 +3,14 @@ use Rattle.std.specs.Prelude.{◌≡◌, ◌≢◌, ℕ, ◌≤◌, Bool, List, 
 use Rattle.std.specs.List.{AllByRecursion}
 use Rattle.ivy_base.specs.declared.key.Key.{Key}
 use Rattle.ivy_base.specs.declared.operation.Moment.{Moment}
-use Rattle.log_heads.specs.Signed.{hss_judged}
+use Rattle.dhash_model.specs.Signed.{hss_judged}
 use Rattle.log_model.specs.Spelling.{IsMoment}
 use Rattle.log_model.specs.View.{IsView}
-use Rattle.view_blocks.specs.Faults.{HasKeys}
+use Rattle.log_model.specs.ViewKeys.{HasKeys}
 use Rattle.dht_ids.specs.declared.peer.Peer.{Peer}
 use Rattle.dht_ids.specs.declared.post.Post.{Post}
 use Rattle.hash_signature_model.specs.declared.set.Set.{Set}
-use Rattle.hss_keys.specs.Saved.{IsSigner}
+use Rattle.hash_signature_model.specs.Saved.{IsSigner}
 use Rattle.node_store.specs.Stores.{IsStore}
 use Rattle.block_cache.specs.Blocks.{IsCache}
 use Rattle.session_model.specs.Sessions.{Cache}

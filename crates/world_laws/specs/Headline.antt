@@ -11,7 +11,8 @@ use Rattle.turn_model.specs.Turn.{Asked, Candidate, IsAtHand, turn_on}
 use Rattle.world_model.specs.Agents.{inputs, own}
 use Rattle.agent_model.specs.Candidates.{AreCandidatesOf}
 use Rattle.agent_model.specs.Standing.{Refresh}
-use Rattle.session_model.specs.Brought.{brought_in, heads_at}
+use Rattle.session_model.specs.Brought.{brought_in}
+use Rattle.session_model.specs.Courses.{grounds_of}
 use Rattle.session_model.specs.Refreshing.{Note, Refreshes, Done}
 use Rattle.session_model.specs.Replies.{Asks}
 use Rattle.session_model.specs.Sessions.{Said, Session}
@@ -46,7 +47,7 @@ pub record IsOnReplay (h : HadTurn) : Type 0 where
   -- The heads that the session was brought determine the candidates: of each member's log, the chain to take records from.
   -- The set that the turn takes is the largest causally closed part of the candidates and of what was known before.
   pub candidates : List Candidate
-  pub of_heads : AreCandidatesOf (heads_at (brought_in h.session.parts)) h.met h.view h.session.standing h.began.knew given.started candidates
+  pub of_heads : AreCandidatesOf (grounds_of h.met h.session h.began.knew) h.view given.started candidates
   pub taken : List Record
   pub taken_is_largest : IsClosedPart h.view (IsAtHand h.knowing.known candidates) taken
   -- The reply, and the set afterwards, are those of the turn on that set. It is told whether the save fails, and the moment.

@@ -5,18 +5,18 @@ use Rattle.ivy_base.specs.declared.key.Key.{Key}
 use Rattle.ivy_base.specs.Naming.{NamesTellApart, name, head_key_of}
 use Rattle.log_model.specs.Spelling.{IsMoment}
 use Rattle.log_model.specs.View.{View, IsView}
-use Rattle.view_blocks.specs.Faults.{HasKeys}
 use Rattle.log_model.specs.Vector.{Stamp, Entry, Dominates, seq_of}
 use Rattle.log_model.specs.Record.{Record}
 use Rattle.log_model.specs.Rank.{front, own_entry}
 use Rattle.log_model.specs.Chain.{IsChain}
 use Rattle.log_model.specs.Closed.{IsClosed, log_of}
 use Rattle.log_model.specs.Standing.{Stand, StandsAmong}
+use Rattle.log_model.specs.ViewKeys.{HasKeys}
 use Rattle.turn_model.specs.Known.{IsKnown, IsVerified}
 use Rattle.turn_model.specs.Basis.{Holding, HoldsAll, Knows, fresh_basis, nothing_held}
 use Rattle.dht_ids.specs.declared.judge.Judged.{Judged}
 use Rattle.dht_ids.specs.declared.post.Post.{Post}
-use Rattle.hss_keys.specs.Signer.{Signer}
+use Rattle.hash_signature_model.specs.Signer.{Signer}
 use Rattle.block_cache.specs.Blocks.{IsCache}
 use Rattle.agent_model.specs.Agent.{joined, kept_of}
 use Rattle.agent_model.specs.SavedBytes.{HasItsName}
@@ -27,7 +27,7 @@ use Rattle.dht_ids.specs.declared.ask.Answer.TheVariants as answer
 use Rattle.session_model.specs.Asking.{IsBegun}
 use Rattle.session_model.specs.Refreshing.{Note, RefreshEnd, Refreshes, Needs, FailsBy, Done}
 use Rattle.session_model.specs.Replies.{Asks}
-use Rattle.log_heads.specs.Signed.{hss_judged}
+use Rattle.dhash_model.specs.Signed.{hss_judged}
 use Rattle.session_model.specs.Brought.{BlockOf, all_heads, brought_in, stamp_of}
 use Rattle.session_model.specs.Sessions.{Said, Session, Stage, Refreshing, Publishing, Over, IsGet, IsPut}
 use Rattle.session_laws.specs.Loading.{IsSnapshotOf}

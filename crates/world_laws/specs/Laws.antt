@@ -12,7 +12,7 @@ use Rattle.log_model.specs.Spelling.{HasSpelling, no_name}
 use Rattle.log_model.specs.Standing.{Stand, StandsAmong}
 use Rattle.log_model.specs.Vector.{Entry, Stamp, Vector, stamp_at}
 use Rattle.log_model.specs.View.{View, IsView}
-use Rattle.view_blocks.specs.Faults.{HasKeys}
+use Rattle.log_model.specs.ViewKeys.{HasKeys}
 use Rattle.nfs_model.specs.declared.replies.Reply.{Reply}
 use Rattle.turn_model.specs.Basis.{Holding, Knows}
 use Rattle.turn_model.specs.Known.{EndsAt, IsKnown}
@@ -21,21 +21,22 @@ use Rattle.dht_ids.specs.declared.ask.Answer.{Answer}
 use Rattle.dht_ids.specs.declared.ask.Ask.{Ask}
 use Rattle.dht_ids.specs.declared.judge.Judged.{Judged}
 use Rattle.dht_ids.specs.declared.peer.Peer.{Peer}
-use Rattle.dhash_client.specs.declared.miss.Miss.{Miss}
+use Rattle.dhash_model.specs.declared.miss.Miss.{Miss}
+use Rattle.dhash_model.specs.Signed.{hss_judged}
 use Rattle.hash_signature_model.specs.declared.keys.PrivateKey.{PrivateKey}
 use Rattle.hash_signature_model.specs.declared.set.Set.{Set}
-use Rattle.hss_keys.specs.Signer.{Signer, leaf_used, leaves_used, left_of, lower_key, signed_lower}
-use Rattle.log_heads.specs.Signed.{hss_judged}
+use Rattle.hash_signature_model.specs.Signer.{Signer, leaf_used, left_of, lower_key, signed_lower}
+use Rattle.hss_keys.specs.Signer.{leaves_used}
 use Rattle.agent_model.specs.Agent.{kept_of}
 use Rattle.agent_model.specs.Others.{basis_of}
 use Rattle.agent_model.specs.SavedBytes.{ArePostsSpelled}
-use Rattle.agent_model.specs.Candidates.{AreCandidatesOf, Brings, MayTurn}
+use Rattle.agent_model.specs.Candidates.{AreCandidatesOf, Brings, Grounds, MayTurn}
 use Rattle.agent_model.specs.Turning.{Answered, Becomes, MayTake, TurnEnd, Turns}
 use Rattle.agent_model.specs.Standing.{Refresh, Standing}
-use Rattle.session_model.specs.Brought.{Brought, Want, brought_in, heads_at}
+use Rattle.session_model.specs.Brought.{Brought, Want}
 use Rattle.session_model.specs.Refreshing.{Needs, Note, RefreshEnd, Refreshes}
 use Rattle.session_model.specs.Sessions.{Cache, Hears, Said, TakesAll, TakesSome, Session, Refreshing, Over}
-use Rattle.session_model.specs.Courses.{Fails, HasRefreshed, IsRefusal, LacksMemory, Settles}
+use Rattle.session_model.specs.Courses.{Fails, grounds_of, HasRefreshed, IsRefusal, LacksMemory, Settles}
 use Rattle.session_model.specs.Replies.{Asks, said_no_memory}
 use Rattle.snapshot_model.specs.Reading.{IsBasisSpelled}
 use Rattle.session_laws.specs.Going.{IsOfWant}
@@ -268,8 +269,9 @@ pub record AgreeOnMembers (view : View) (heads others : Key → List Stamp) (met
 
 -- then they have the same candidates, whatever other logs there are
 abbrev pub OtherLogsDontCount : Type 0
-OtherLogsDontCount = (view : View) (heads others : Key → List Stamp) (met more : List (List ℕ)) (s : Standing) (knew : List Record) (started : Vector) (candidates : List Candidate)
-    → AgreeOnMembers view heads others met more → AreCandidatesOf heads met view s knew started candidates → AreCandidatesOf others more view s knew started candidates
+OtherLogsDontCount = (view : View) (grounds : Grounds) (others : Key → List Stamp) (more : List (List ℕ)) (started : Vector) (candidates : List Candidate)
+    → AgreeOnMembers view grounds.heads others grounds.met more → AreCandidatesOf grounds view started candidates
+    → AreCandidatesOf (record grounds { heads = others; met = more }) view started candidates
 
 -- two turns of equal views, agents, sets, calls and moments give equal replies
 abbrev pub AlikeTurnsAnswerAlike : Type 0
@@ -353,14 +355,14 @@ OneTruth = (w : Played) (p q : Participant) (view : View) (log : List Record) �
 -- what a refresh gives a turn is tied to the heads and the blocks that it was brought
 abbrev pub RefreshBrings : Type 0
 RefreshBrings = (c : Scene) (r : ℕ) (notes : List Note) (given : Refresh) → Keeps (c.world, c.story) → NamesTellApart (named_bytes c.world) → IsInHand c r → HasRefreshed c.session notes given
-    → Brings (heads_at (brought_in c.session.parts)) (named_bytes c.world) c.session.standing.view c.session.standing c.began.knew given
+    → Brings (grounds_of (named_bytes c.world) c.session c.began.knew) c.session.standing.view given
 
 -- Its turn is that of the definition: this is what its agent knows now, and it may turn so.
 abbrev pub RefreshMayTurn : Type 0
 RefreshMayTurn = (c : Scene) (p : Participant) (r : ℕ) (notes : List Note) (given : Refresh) → Keeps (c.world, c.story) → NamesTellApart (named_bytes c.world) → IsInHand c r
     → participant c.world c.session.by ≡ Some p → HasRefreshed c.session notes given
     → Knows c.session.standing.view p.agent.floor p.agent.holding (known_of c.story p.name)
-    × MayTurn (heads_at (brought_in c.session.parts)) (named_bytes c.world) c.session.standing.view (own p.agent) c.session.standing c.began.knew (known_of c.story p.name) given
+    × MayTurn (grounds_of (named_bytes c.world) c.session c.began.knew) c.session.standing.view (own p.agent) (known_of c.story p.name) given
 
 -- the session has just had a turn that was answered
 pub record HasTurned (c next : Scene) : Type 0 where

@@ -41,10 +41,8 @@
 //! - `proofs/HeadlineOfPublishing.antt`: publishing alone has no turn;
 //! - `proofs/LineKeys.antt`: the key of a log that a line begins can be saved;
 //! - `proofs/TurnsWorld.antt`: a participant that changes by a turn, whose open sessions stay;
-//! - `proofs/TurnsKnown.antt`: what an agent knows after a turn; `proofs/TurnsSets.antt`: the set that a turn
-//!   leaves;
-//! - `proofs/TurnsFloors.antt`: a floor with a front joined into it; `proofs/TurnsTaken.antt`: a turn's
-//!   candidates are one list;
+//! - `proofs/TurnsKnown.antt`: what an agent knows after a turn (with lemmas of `agent_laws`);
+//! - `proofs/TurnsTaken.antt`: a turn's candidates are one list;
 //! - `proofs/OneAsked.antt`: a message asks one thing;
 //! - `proofs/AnsweredTurns.antt` and `proofs/RefusedTurns.antt`: turns keep the invariant;
 //! - `proofs/SnapBounds.antt` and `proofs/SnapSpelled.antt`: what a closed set stands for, and what an agent

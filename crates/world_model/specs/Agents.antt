@@ -2,8 +2,8 @@
 use Rattle.std.specs.Prelude.{ℕ, Bool, List, Option}
 use Rattle.ivy_base.specs.declared.key.PubKey.{PubKey}
 use Rattle.ivy_base.specs.declared.operation.Moment.{Moment}
-use Rattle.hss_keys.specs.Saved.{IsSigner, hss as signing}
-use Rattle.hss_keys.specs.Signer.{Signer}
+use Rattle.hash_signature_model.specs.Saved.{IsSigner, hss as signing}
+use Rattle.hash_signature_model.specs.Signer.{Signer}
 use Rattle.log_model.specs.Record.{Record}
 use Rattle.log_model.specs.Signing.{Signing}
 use Rattle.log_model.specs.Vector.{Stamp}

@@ -12,7 +12,7 @@ use Rattle.log_model.specs.Rank.{weight}
 use Rattle.log_model.specs.View.{view_name}
 use Rattle.dht_ids.specs.Peers.{place}
 use Rattle.dht_ids.specs.declared.peer.Peer.{Peer}
-use Rattle.node_store.specs.Stores.{Blocks, bytes_at, with_byte}
+use Rattle.dhash_model.specs.Stores.{Blocks, bytes_at, with_byte}
 use Rattle.script_driver.specs.Run.{Outcome, Goes, Refuses}
 use Rattle.script_model.specs.declared.command.KeyWord.{KeyWord}
 use Rattle.script_model.specs.declared.command.KeyWord.TheVariants as key

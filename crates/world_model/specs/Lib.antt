@@ -11,3 +11,5 @@ pub mod Logs
 pub mod Calls
 pub mod Faults
 pub mod Step
+pub mod RingOf
+pub mod Holding

@@ -9,7 +9,7 @@ use Rattle.ivy_base.specs.declared.key.Key.{Key}
 use Rattle.ivy_base.specs.declared.key.PubKey.{PubKey}
 use Rattle.ivy_base.specs.Naming.{NamesTellApart, owner_cmp}
 use Rattle.hash_signature_model.specs.declared.set.Set.{Set}
-use Rattle.hss_keys.specs.Signer.{Signer}
+use Rattle.hash_signature_model.specs.Signer.{Signer}
 use Rattle.log_model.specs.View.{View, have_own_head_keys, most_former, most_members, view_block, view_name}
 use Rattle.log_model.specs.Record.{Record}
 use Rattle.log_model.specs.Chain.{opening}
@@ -17,7 +17,7 @@ use Rattle.log_model.specs.Standing.{Stand}
 use Rattle.turn_model.specs.Known.{IsKnown}
 use Rattle.dht_ids.specs.declared.judge.Judged.{Judged}
 use Rattle.dht_ids.specs.declared.post.Post.{Post}
-use Rattle.dhash_client.specs.declared.miss.Miss.{Miss}
+use Rattle.dhash_model.specs.declared.miss.Miss.{Miss}
 use Rattle.dht_ids.specs.declared.ask.Ask.TheVariants as ask
 use Rattle.snapshot_model.specs.Spelling.{root_name, snapshot_blocks}
 use Rattle.agent_model.specs.Agent.{kept_of, restored}

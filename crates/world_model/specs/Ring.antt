@@ -12,9 +12,9 @@ use Rattle.dht_ids.specs.declared.peer.Peer.{Peer}
 use Rattle.dht_ids.specs.NodeIds.{node_id_of}
 use Rattle.dht_ids.specs.Peers.{place}
 use Rattle.dht_ids.specs.Asked.{routes}
-use Rattle.dhash_client.specs.Course.{Told}
-use Rattle.chord_core.specs.State.{State, adopted, alone_node, with_list}
-use Rattle.chord_core.specs.Settled.{IsSettledNode}
+use Rattle.dhash_model.specs.Course.{Told}
+use Rattle.dhash_model.specs.State.{State, adopted, alone_node, with_list}
+use Rattle.dhash_model.specs.Settled.{IsSettledNode}
 use Rattle.script_driver.specs.Run.{Outcome, Goes, Refuses, Exceeds}
 use Rattle.world_model.specs.Nodes.{Node}
 use Rattle.world_model.specs.World.{World, live_peers, peer_of, with_node}

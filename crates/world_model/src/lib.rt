@@ -8,11 +8,12 @@
 //! ghost state that fits its world.
 //!
 //! Definitions, in reading order:
-//! - `specs/Agents.antt`: the agents, at the signer of `hss_keys`;
+//! - `specs/Agents.antt`: the agents, at signers of several levels;
 //! - `specs/Keepers.antt`, `specs/Nodes.antt`, `specs/World.antt`, `specs/Story.antt`;
 //! - `specs/Fates.antt`: the fate of an ask;
 //! - `specs/Steps.antt`: the steps of a session;
 //! - the lines: `specs/Ring.antt`, `specs/Rounds.antt`, `specs/Logs.antt`, `specs/Calls.antt`,
 //!   `specs/Faults.antt`;
-//! - `specs/Step.antt`: the step of a script.
+//! - `specs/Step.antt`: the step of a script;
+//! - `specs/RingOf.antt`, `specs/Holding.antt`: which nodes live, and what they hold.
 #![tactic(auto)]

@@ -2,8 +2,8 @@
 
 ghost use Rattle.std.specs.Prelude.{◌≡◌, ◌<◌, ◌≤◌, ◌↔◌, length, Err, IfOk};
 ghost use Rattle.dht_ids.specs.declared.signature.LoadFault.TheVariants.{Malformed};
-ghost use Rattle.hss_keys.specs.Signer.{Signer, leaf_used};
-ghost use Rattle.hss_keys.specs.Saved.{saved_bytes, IsSigner};
+ghost use Rattle.hash_signature_model.specs.Signer.{Signer, leaf_used};
+ghost use Rattle.hash_signature_model.specs.Saved.{saved_bytes, IsSigner};
 ghost use Rattle.hss_keys.specs.SavedReading.{said};
 
 use super::Hss;

@@ -13,9 +13,16 @@ use ivy_agent::Single;
 use ivy_base::Moment;
 use ivy_session::Session;
 use log_heads::HssJudge;
+use std::sync::Wait;
 
 /// Adds what a session asks and comes to, whose moment and message the words say. There is none for an agent in no view.
-pub fn call(text: &mut Text, table: &mut Table, writer: &mut Writer, words: &mut Words<'_>) {
+pub fn call<R: Wait>(
+    rt: &R,
+    text: &mut Text,
+    table: &mut Table,
+    writer: &mut Writer,
+    words: &mut Words<'_>,
+) {
     if writer.agent.view().is_none() {
         text.lack();
         return;
@@ -23,27 +30,29 @@ pub fn call(text: &mut Text, table: &mut Table, writer: &mut Writer, words: &mut
     let now = words.moment();
     let message = words.bytes();
     let session = begin(
+        rt,
         text.alloc,
         &Single,
         table,
         &mut writer.agent,
         message.as_slice(),
     );
-    serve(text, table, writer, session, now);
+    serve(rt, text, table, writer, session, now);
 }
 
 /// Adds what a session asks and comes to that only publishes. There is none for an agent in no view.
-pub fn publish(text: &mut Text, table: &mut Table, writer: &mut Writer) {
+pub fn publish<R: Wait>(rt: &R, text: &mut Text, table: &mut Table, writer: &mut Writer) {
     if writer.agent.view().is_none() {
         text.lack();
         return;
     }
     let session = publishing(text.alloc, table, writer.agent.pending());
-    serve(text, table, writer, session, NEVER);
+    serve(rt, text, table, writer, session, NEVER);
 }
 
 /// Adds what a session that has begun asks and comes to.
-fn serve(
+fn serve<R: Wait>(
+    rt: &R,
     text: &mut Text,
     table: &mut Table,
     writer: &mut Writer,
@@ -55,6 +64,7 @@ fn serve(
 {
     match session {
         Some(mut session) => drive(
+            rt,
             text,
             &Single,
             table,

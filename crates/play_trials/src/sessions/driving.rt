@@ -1,6 +1,8 @@
 //! Sessions over the table, up to their ends, for whoever takes turns.
 
 ghost use Rattle.std.specs.Prelude.{◌≡◌, ◌≢◌, false, Option, Some, None, IfSome, IsSomeAnd};
+ghost use Rattle.std.specs.List.{AllByRecursion};
+ghost use Rattle.agent_model.specs.SavedBytes.{HasItsName};
 ghost use Rattle.log_model.specs.Spelling.{IsMoment};
 ghost use Rattle.log_model.specs.View.{View};
 ghost use Rattle.ivy_session.specs.States.{session_awaited};
@@ -19,23 +21,27 @@ use ivy_session::{Next, Session};
 use log_fetch::{Refresh, Standing};
 use log_heads::HssJudge;
 use std::alloc::Global;
+use std::sync::Wait;
 
 /// How often a session is told to go on.
 const MOST_STEPS: u32 = 100_000;
 
-/// A session with that message. None is want of memory, or a snapshot to load.
-pub fn begin<T: Turns<MemKeeper, Hss>>(
+/// A session with that message. None is want of memory.
+pub fn begin<R: Wait, T: Turns<MemKeeper, Hss>>(
+    rt: &R,
     alloc: Global,
     turns: &T,
     table: &Table,
     pass: &mut T::Pass,
     message: &[u8],
 ) -> Option<Session<HssJudge>>
-    requires { IsSomeAnd (T.view turns.now pass.old) (λ view. Unit {0}) }
-    ensures { IfSome result (GoesOn judges (T.view turns.now pass.new)) }
+    requires fits { T.fits turns.now pass.old }
+    requires entered { IsSomeAnd (T.view turns.now pass.old) (λ view. Unit {0}) }
+    ensures goes_on { IfSome result (GoesOn judges (T.view turns.now pass.new)) }
+    ensures fits { T.fits turns.now pass.new }
 {
     let entries = table.entries.copy(alloc).ok()?;
-    let standing = bare_standing(alloc, turns, pass)?;
+    let standing = standing(rt, alloc, turns, pass)?;
     let Ok(session) = Session::begin(alloc, HssJudge, table.replicas, entries, standing, message)
     else {
         return None;
@@ -54,28 +60,28 @@ pub fn publishing(alloc: Global, table: &Table, pending: &Posts) -> Option<Sessi
     Some(session)
 }
 
-/// What a session is given, without a snapshot to load. None is want of memory, or that there is one.
-fn bare_standing<T: Turns<MemKeeper, Hss>>(
+/// What a session is given. None is want of memory.
+fn standing<R: Wait, T: Turns<MemKeeper, Hss>>(
+    rt: &R,
     alloc: Global,
     turns: &T,
     pass: &mut T::Pass,
 ) -> Option<Standing>
-    requires { IsSomeAnd (T.view turns.now pass.old) (λ view. Unit {0}) }
-    ensures none { IfSome result (λ s. s.basis ≡ None) }
+    requires fits { T.fits turns.now pass.old }
+    requires entered { IsSomeAnd (T.view turns.now pass.old) (λ view. Unit {0}) }
+    ensures named { IfSome result (λ s. AllByRecursion HasItsName s.pending) }
     ensures view { IfSome result (λ s. T.view turns.now pass.new ≡ Some s.view) }
+    ensures fits { T.fits turns.now pass.new }
 {
-    let Ok(standing) = turns.standing(alloc, pass) else {
+    let Ok(standing) = turns.standing(rt, alloc, pass) else {
         return None;
     };
-    if standing.basis.is_some() {
-        drop(standing);
-        return None;
-    }
     Some(standing)
 }
 
 /// Goes on with a session to its end, and adds its course to the text.
-pub fn drive<T: Turns<MemKeeper, Hss>>(
+pub fn drive<R: Wait, T: Turns<MemKeeper, Hss>>(
+    rt: &R,
     text: &mut Text,
     turns: &T,
     table: &mut Table,
@@ -85,10 +91,11 @@ pub fn drive<T: Turns<MemKeeper, Hss>>(
     now: Moment,
 )
     requires moment { IsMoment now }
+    requires fits { T.fits turns.now pass.old }
     requires goes_on { GoesOn judges (T.view turns.now pass.old) session.old }
 {
     'steps: for _ in 0..MOST_STEPS {
-        if step(text, turns, table, pass, cache, session, now) {
+        if step(rt, text, turns, table, pass, cache, session, now) {
             return;
         }
     }
@@ -96,7 +103,8 @@ pub fn drive<T: Turns<MemKeeper, Hss>>(
 }
 
 /// A step of the session; says whether it has ended.
-fn step<T: Turns<MemKeeper, Hss>>(
+fn step<R: Wait, T: Turns<MemKeeper, Hss>>(
+    rt: &R,
     text: &mut Text,
     turns: &T,
     table: &mut Table,
@@ -106,8 +114,10 @@ fn step<T: Turns<MemKeeper, Hss>>(
     now: Moment,
 ) -> bool
     requires moment { IsMoment now }
+    requires fits { T.fits turns.now pass.old }
     requires goes_on { GoesOn judges (T.view turns.now pass.old) session.old }
-    ensures { result ≡ false → GoesOn judges (T.view turns.now pass.new) session.new }
+    ensures goes_on { result ≡ false → GoesOn judges (T.view turns.now pass.new) session.new }
+    ensures fits { T.fits turns.now pass.new }
 {
     match next(cache, session) {
         Next::Ask(node, question) => {
@@ -115,12 +125,12 @@ fn step<T: Turns<MemKeeper, Hss>>(
             return false;
         }
         Next::Turn(refresh) => {
-            turn(text.alloc, turns, pass, session, refresh, now);
+            turn(rt, text.alloc, turns, pass, session, refresh, now);
             text.add("turn\n");
             return false;
         }
         Next::Settle(acks) => {
-            turns.settle(pass, &acks);
+            turns.settle(rt, pass, &acks);
             show_settled(text, &acks);
             return false;
         }
@@ -158,7 +168,8 @@ fn ask(
 }
 
 /// A turn on what the session is asked, of which it is told what came of it.
-fn turn<T: Turns<MemKeeper, Hss>>(
+fn turn<R: Wait, T: Turns<MemKeeper, Hss>>(
+    rt: &R,
     alloc: Global,
     turns: &T,
     pass: &mut T::Pass,
@@ -167,12 +178,14 @@ fn turn<T: Turns<MemKeeper, Hss>>(
     now: Moment,
 )
     requires moment { IsMoment now }
+    requires fits { T.fits turns.now pass.old }
     requires may { MayTurn judges (T.view turns.now pass.old) session.old refresh }
-    ensures { GoesOn judges (T.view turns.now pass.new) session.new }
+    ensures goes_on { GoesOn judges (T.view turns.now pass.new) session.new }
+    ensures fits { T.fits turns.now pass.new }
 {
     let Some(asked) = session.asked() else {
         unreachable!();
     };
-    let turned = turns.turn(alloc, pass, refresh, asked, now);
+    let turned = turns.turn(rt, alloc, pass, refresh, asked, now);
     session.turned(turned);
 }

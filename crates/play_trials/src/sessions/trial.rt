@@ -9,6 +9,7 @@ use crate::words::Words;
 use dht_ids::Peers;
 use ivy_base::PubKey;
 use std::alloc::Global;
+use std::sync::Wait;
 
 /// A table of nodes, who writes logs over it, in the order in which they opened them, and who fetches from it.
 pub struct Trial {
@@ -50,26 +51,26 @@ impl Trial {
     }
 
     /// Puts the answer to a line: nothing where it only says something that is taken, and the line where it says what comes.
-    pub fn take(&mut self, answer: &mut Text, line: &str) {
+    pub fn take<R: Wait>(&mut self, rt: &R, answer: &mut Text, line: &str) {
         if line.is_empty() || line.starts_with('#') {
             answer.add(line);
             answer.byte(b'\n');
             return;
         }
         let mut words = Words::new(answer.alloc, line);
-        self.obey(answer, &mut words);
+        self.obey(rt, answer, &mut words);
         answer.note(words.were_taken());
     }
 
     /// Takes what the words say, and answers what they ask for.
-    fn obey(&mut self, answer: &mut Text, words: &mut Words<'_>) {
+    fn obey<R: Wait>(&mut self, rt: &R, answer: &mut Text, words: &mut Words<'_>) {
         match words.word() {
             "start" => self.start(words),
             "log" => self.open(words),
             "enter" => self.enter(words),
             "view" => self.view(words),
             "fetch" => self.fetch(answer),
-            what @ ("call" | "publish" | "pending" | "empty") => self.ask(answer, words, what),
+            what @ ("call" | "publish" | "pending" | "empty") => self.ask(rt, answer, words, what),
             what => self.inform(words, what),
         }
     }
@@ -80,9 +81,9 @@ impl Trial {
     }
 
     /// Answers what the words ask for of who writes a log.
-    fn ask(&mut self, answer: &mut Text, words: &mut Words<'_>, what: &str) {
+    fn ask<R: Wait>(&mut self, rt: &R, answer: &mut Text, words: &mut Words<'_>, what: &str) {
         match self.writers.get_mut(place_of(words.number())) {
-            Some(writer) => writer.answer(answer, &mut self.table, words, what),
+            Some(writer) => writer.answer(rt, answer, &mut self.table, words, what),
             None => words.fail(),
         }
     }

@@ -11,6 +11,7 @@ use hss_keys::Hss;
 use ivy_agent::Agent;
 use ivy_base::{Memory, PubKey};
 use ivy_io::MemKeeper;
+use std::sync::Wait;
 use view_blocks::View;
 
 /// Who writes a log: an agent that is kept in memory, and its cache.
@@ -43,16 +44,17 @@ impl Writer {
     }
 
     /// Answers what the words ask for.
-    pub fn answer(
+    pub fn answer<R: Wait>(
         &mut self,
+        rt: &R,
         text: &mut Text,
         table: &mut Table,
         words: &mut Words<'_>,
         what: &str,
     ) {
         match what {
-            "call" => call(text, table, self, words),
-            "publish" => publish(text, table, self),
+            "call" => call(rt, text, table, self, words),
+            "publish" => publish(rt, text, table, self),
             "pending" => show_pending(text, self.agent.pending().as_slice()),
             _ => self.empty_cache(words),
         }

@@ -1,12 +1,12 @@
 use Rattle.std.proofs.lemmas.Result.{err_from_is_err_and}
 use Rattle.agent_saves.proofs.PostReading.{refused}
-use Rattle.agent_saves.proofs.PartReading.{no_mark, no_signer, no_view, no_reach, refused_floor, no_posts, no_name, told_front}
+use Rattle.agent_saves.proofs.PartReading.{no_tag, no_signer, no_view, no_reach, refused_floor, no_posts, no_name, told_front}
 use Rattle.agent_saves.proofs.parts.read_parts.Goals as goal
 
 pub returns-in_err-read_constant-clause-err : goal.returns-in_err-read_constant-clause-err
 returns-in_err-read_constant-clause-err c =
     let p = err_from_is_err_and c.from_residual.result c.from_residual.ensures.1 in
-    rw (p.1, p.2) (no_mark c.in_err-read_constant.ensures.err)
+    rw (p.1, p.2) (no_tag c.in_err-read_constant.ensures.err)
 
 pub returns-in_err-signer-clause-err : goal.returns-in_err-signer-clause-err
 returns-in_err-signer-clause-err c =

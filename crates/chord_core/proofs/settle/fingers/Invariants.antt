@@ -1,4 +1,4 @@
-use Rattle.chord_core.specs.Settled.{AreFingers}
+use Rattle.dhash_model.specs.Settled.{AreFingers}
 use Rattle.chord_core.proofs.settle.fingers.Given as goal
 
 abbrev pub invariant-loop-bit : goal.invariant-loop-bit

@@ -1,8 +1,9 @@
 use Rattle.std.proofs.Common.{◌≡◌, ◌≤◌, drop}
 use Rattle.log_model.specs.View.{View}
-use Rattle.script_model.specs.Messages.{bytes_of_pieces, longest_message}
+use Rattle.script_model.specs.Messages.{bytes_of_pieces}
 use Rattle.command_messages.specs.Lengths.{length_behind, length_of_pieces}
 use Rattle.command_messages.proofs.lengths.length_of_all.Given as goal
+use Rattle.rpc_wire.specs.Frames.{longest_message}
 
 abbrev pub invariant-loop-piece : goal.invariant-loop-piece
 invariant-loop-piece l = record {

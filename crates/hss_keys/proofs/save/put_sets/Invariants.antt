@@ -1,6 +1,6 @@
 use Rattle.std.proofs.Common.{◌≡◌, ◌+◌, ◌*◌, ◌++◌, take}
 use Rattle.std.specs.List.{flat_map}
-use Rattle.hss_keys.specs.Saved.{set_bytes}
+use Rattle.hash_signature_model.specs.Saved.{set_bytes}
 use Rattle.hss_keys.proofs.save.put_sets.Given as goal
 
 abbrev pub invariant-loop-set : goal.invariant-loop-set

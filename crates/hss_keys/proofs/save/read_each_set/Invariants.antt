@@ -2,7 +2,7 @@ use Rattle.std.proofs.Common.{◌≡◌, take, length}
 use Rattle.std.specs.List.{AllByRecursion, flat_map}
 use Rattle.wire_model.specs.Xdr.{IsAny}
 use Rattle.wire_model.specs.OneReading.{IsFront}
-use Rattle.hss_keys.specs.Saved.{set_bytes}
+use Rattle.hash_signature_model.specs.Saved.{set_bytes}
 use Rattle.hss_keys.proofs.save.read_each_set.Given as goal
 
 abbrev pub invariant-sets : goal.invariant-sets

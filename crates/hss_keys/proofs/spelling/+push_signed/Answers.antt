@@ -1,6 +1,6 @@
 use Rattle.std.proofs.Common.{◌≡◌, ◌++◌, OnOk, List, ℕ, ◌∙◌, ap, subst, append_assoc}
 use Rattle.hash_signature_model.specs.declared.keys.PrivateKey.{PrivateKey}
-use Rattle.hss_keys.specs.Signer.{leaf_used, signed_by}
+use Rattle.hash_signature_model.specs.Signer.{leaf_used, signed_by}
 use Rattle.hss_keys.proofs.Signing.{signed_more}
 use Rattle.hss_keys.proofs.spelling.+push_signed.Goals as goal
 

@@ -1,6 +1,6 @@
 use Rattle.std.proofs.Common.{◌≡◌, [], ◌++◌, OnOk, List, ℕ, ◌∙◌, subst}
 use Rattle.hash_signature_model.specs.declared.keys.PrivateKey.{PrivateKey}
-use Rattle.hss_keys.specs.Signer.{leaf_used}
+use Rattle.hash_signature_model.specs.Signer.{leaf_used}
 use Rattle.hss_keys.proofs.Signing.{signed_last}
 use Rattle.hss_keys.proofs.spelling.push_signature.Goals as goal
 

@@ -1,6 +1,6 @@
 use Rattle.std.proofs.Common.{rules, List, Contains, subst}
 use Rattle.ivy_base.specs.declared.key.PubKey.{PubKey}
-use Rattle.log_records.specs.Heads.{stamp}
+use Rattle.log_model.specs.Heads.{stamp}
 use Rattle.log_records.specs.Records.{records_of}
 use Rattle.ivy_bench.proofs.Gathering.{is_added}
 use Rattle.ivy_bench.proofs.gather.add.Goals as goal

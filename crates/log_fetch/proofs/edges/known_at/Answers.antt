@@ -5,11 +5,13 @@ use Rattle.log_fetch.proofs.edges.known_at.Goals as goal
 
 pub returns-then-is_one-clause-value : goal.returns-then-is_one-clause-value
 returns-then-is_one-clause-value c =
-    found_value c.args.log.now c.args.edges.now c.edges.edge-index c.edge-item.result c.edges-test.true c.edge-item.is c.edges.invariant (c.if-is_one.ensures.0 refl) c.in_ok-copy.field-0 c.in_ok-copy.ensures
+    rw c.of_vector.ensures
+    (found_value c.args.log.now c.args.edges.now c.edges.edge-index c.edge-item.result c.edges-test.true c.edge-item.is c.edges.invariant (c.if-is_one.ensures.0 refl) c.in_ok-copy.field-0 c.in_ok-copy.ensures)
 
 pub returns-then-is_one-clause-own : goal.returns-then-is_one-clause-own
 returns-then-is_one-clause-own c =
-    found_own c.args.log.now c.args.edges.now c.edges.edge-index c.edge-item.result c.edges-test.true c.edge-item.is c.requires (c.if-is_one.ensures.0 refl) c.in_ok-copy.field-0 c.in_ok-copy.ensures
+    rw c.of_vector.ensures
+    (found_own c.args.log.now c.args.edges.now c.edges.edge-index c.edge-item.result c.edges-test.true c.edge-item.is c.requires (c.if-is_one.ensures.0 refl) c.in_ok-copy.field-0 c.in_ok-copy.ensures)
 
 pub edges-preserved : goal.edges-preserved
 edges-preserved c =

@@ -1,5 +1,5 @@
 use Rattle.std.proofs.Common.{◌-◌, length}
-use Rattle.log_records.specs.Heads.{stamp}
+use Rattle.log_model.specs.Heads.{stamp}
 use Rattle.log_records.specs.Records.{record_of, records_of}
 use Rattle.log_records.proofs.Walks.{ends_by}
 use Rattle.log_records.proofs.KeptChains.{kept_at, kept_size}

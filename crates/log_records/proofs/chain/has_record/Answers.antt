@@ -1,7 +1,7 @@
 use Rattle.std.proofs.Common.{◌≡◌, ℕ, refl, ap, ◌∙◌, below_more}
 use Rattle.log_model.specs.Record.{Record}
 use Rattle.log_model.specs.Rank.{own_entry}
-use Rattle.log_records.specs.Heads.{stamp}
+use Rattle.log_model.specs.Heads.{stamp}
 use Rattle.log_records.specs.Records.{record_of, records_of}
 use Rattle.log_records.proofs.Walks.{HasAt, found_at, same_at}
 use Rattle.log_records.proofs.KeptChains.{kept_at, kept_within}

@@ -1,7 +1,7 @@
 use Rattle.std.proofs.Common.{◌≡◌, ℕ, ◌<◌}
 use Rattle.log_model.specs.Record.{Record}
 use Rattle.log_model.specs.Rank.{own_entry}
-use Rattle.log_records.specs.Heads.{stamp}
+use Rattle.log_model.specs.Heads.{stamp}
 use Rattle.log_records.specs.Records.{records_of}
 use Rattle.log_records.proofs.Walks.{HasAt}
 use Rattle.log_records.proofs.chain.has_record.Given as goal

@@ -1,4 +1,4 @@
-use Rattle.log_records.specs.Heads.{stamp}
+use Rattle.log_model.specs.Heads.{stamp}
 use Rattle.log_records.specs.Records.{records_of}
 use Rattle.log_records.proofs.ChainTests.{sound_by, unsound_by}
 use Rattle.log_records.proofs.chain.is_sound.Goals as goal

@@ -7,7 +7,7 @@ use Rattle.log_records.proofs.chain.knows_edge.Goals as goal
 pub returns-in-Some-Some : goal.returns-in-Some-Some
 returns-in-Some-Some c =
     edge_known c.args.log.now (stamp_at c.args.held.now c.args.log.now) c.get.result c.in-Some-Some.field-0-0 c.args.edge.now c.in-Some-Some.edge (record_of c.args.first.now) c.dominates.result
-    c.requires.spelled c.requires.log c.requires.next c.requires.edge c.get.ensures c.in-Some-Some.is-0 c.in-Some-Some.is-1 c.dominates.ensures
+    c.requires.spelled c.requires.log c.requires.next c.requires.edge c.get.ensures c.in-Some-Some.is-0 c.in-Some-Some.is-1 (rw c.vector.ensures at c.dominates.ensures)
 
 pub returns-in_default : goal.returns-in_default
 returns-in_default c = no_edge (stamp_at c.args.held.now c.args.log.now) c.args.edge.now (record_of c.args.first.now) c.in_default.is-1

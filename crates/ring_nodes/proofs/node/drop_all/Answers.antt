@@ -1,5 +1,5 @@
 use Rattle.std.proofs.Common.{sym, ap, ◌∙◌, rules}
-use Rattle.node_store.specs.Stores.{without}
+use Rattle.dhash_model.specs.Stores.{without}
 use Rattle.ring_nodes.proofs.Changing.{fold_step}
 use Rattle.ring_nodes.proofs.node.drop_all.Goals as goal
 

@@ -1,5 +1,5 @@
 use Rattle.std.proofs.Common.{◌≡◌, fold, take}
-use Rattle.node_store.specs.Stores.{without}
+use Rattle.dhash_model.specs.Stores.{without}
 use Rattle.ring_nodes.proofs.node.drop_all.Given as goal
 
 -- without the keys so far

@@ -1,5 +1,5 @@
 use Rattle.std.proofs.Common.{sym, ap, ◌∙◌, subst}
-use Rattle.chord_core.specs.Settled.{IsSettledNode}
+use Rattle.dhash_model.specs.Settled.{IsSettledNode}
 use Rattle.world_model.specs.Nodes.{Node}
 use Rattle.world_model.specs.Ring.{empty_node, in_ring_order}
 use Rattle.ring_nodes.proofs.Settling.{order_is_moved, order_rises}

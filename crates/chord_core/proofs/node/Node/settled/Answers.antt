@@ -2,7 +2,7 @@ use Rattle.std.proofs.Common.{◌≡◌, ◌∙◌, ◌++◌, ◌*◌, ap, refl,
 use Rattle.std.specs.List.{last_or}
 use Rattle.dht_ids.specs.Peers.{place}
 use Rattle.ring_model.specs.Members.{following}
-use Rattle.chord_core.specs.Settled.{AreFingers}
+use Rattle.dhash_model.specs.Settled.{AreFingers}
 use Rattle.chord_core.proofs.Settling.{some_member, sorted_is, member_lives, following_is}
 use Rattle.chord_core.proofs.node.Node.settled.Goals as goal
 

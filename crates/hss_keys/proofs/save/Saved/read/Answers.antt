@@ -1,5 +1,5 @@
 use Rattle.std.proofs.Common.{◌≡◌, ◌∙◌, ap, arith, take}
-use Rattle.hss_keys.specs.Signer.{capacity}
+use Rattle.hash_signature_model.specs.Signer.{capacity}
 use Rattle.hss_keys.proofs.Saving.{no_signer_above}
 use Rattle.hss_keys.proofs.save.Saved.read.Goals as goal
 

@@ -1,7 +1,7 @@
 use Rattle.std.proofs.Common.{◌≡◌, ◌≤◌, ◌*◌, ◌-◌, ◌∷◌, length, ℕ, Fits, w64, refl, sym, ap, ◌∙◌, subst, arith}
 use Rattle.hash_signature_model.specs.declared.keys.PrivateKey.{PrivateKey}
 use Rattle.hash_signature_model.specs.Parameters.{leaves}
-use Rattle.hss_keys.specs.Signer.{capacity, left_of}
+use Rattle.hash_signature_model.specs.Signer.{capacity, left_of}
 use Rattle.hss_keys.specs.ToldApart.{at_most_three}
 use Rattle.hss_keys.proofs.Signing.{capacity_of_more}
 use Rattle.hss_keys.proofs.signer.Hss.left.Goals as goal

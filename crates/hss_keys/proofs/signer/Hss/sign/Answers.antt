@@ -1,6 +1,6 @@
 use Rattle.std.proofs.Common.{◌≡◌, ◌≤◌, ◌<◌, ◌∷◌, length, ℕ, List, sym, ◌∙◌, subst, arith}
 use Rattle.hss_keys.specs.Hss.{HssAccepts}
-use Rattle.hss_keys.specs.Signer.{Signer, owner_of}
+use Rattle.hash_signature_model.specs.Signer.{Signer, owner_of}
 use Rattle.hss_keys.specs.ToldApart.{at_most_three}
 use Rattle.hss_keys.proofs.Signing.{hss_accepted}
 use Rattle.hss_keys.proofs.signer.Hss.sign.Goals as goal

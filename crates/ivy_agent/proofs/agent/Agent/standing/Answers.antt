@@ -1,9 +1,14 @@
-use Rattle.ivy_agent.proofs.Told.{know_others, told}
+use Rattle.std.proofs.Common.{ap}
+use Rattle.log_fetch.specs.declared.standing.Standing.{Standing}
+use Rattle.ivy_agent.proofs.Told.{know_others, told, told_named}
 use Rattle.ivy_agent.proofs.agent.Agent.standing.Goals as goal
 
 pub fill-filled-requires : goal.fill-filled-requires
 fill-filled-requires g c = know_others _ c.records.ensures.row
 
-pub returns-in-Ok : goal.returns-in-Ok
-returns-in-Ok g c = told g.S.Signs.signing c.self.inside.kept c.self.inside.engine c.self.inside.to_load c.self.inside.has_failed c.self.inside.keeper c.args.self.now c.self.view_is c.self.inside.front c.self.invariant
+pub returns-in-Ok-clause-stands : goal.returns-in-Ok-clause-stands
+returns-in-Ok-clause-stands g c = told g.S.Signs.signing c.self.inside.kept c.self.inside.engine c.self.inside.to_load c.self.inside.has_failed c.self.inside.keeper c.args.self.now c.self.view_is c.self.inside.front c.self.invariant
     c.in-Some.view c.in-Some.is c.owner.result c.owner.ensures _ c.records.ensures.records c.in_ok-standing.standing _ c.in_ok-standing.ensures.view c.in_ok-standing.ensures.own c.in_ok-standing.ensures.basis c.in-Ok.ensures
+
+pub returns-in-Ok-clause-named : goal.returns-in-Ok-clause-named
+returns-in-Ok-clause-named g c = told_named c.self.inside.kept.pending (ap (λ (s : Standing). s.pending) c.in-Ok.ensures) c.self.invariant.kept.posts

@@ -1,6 +1,6 @@
 use Rattle.std.proofs.Common.{◌≡◌, ◌<◌, length, Option, map, ap, ◌∙◌, subst}
 use Rattle.ivy_base.specs.declared.key.PubKey.{PubKey}
-use Rattle.log_records.specs.declared.chain_fault.ChainFault.{ChainFault}
+use Rattle.log_model.specs.declared.chain_fault.ChainFault.{ChainFault}
 use Rattle.session_model.specs.Brought.{stamp_of}
 use Rattle.log_fetch.specs.Walking.{kept_of}
 use Rattle.log_fetch.specs.Trying.{Trying, IsBegunAt, IsTakenAs, EndsWith, GoesOnWith}

@@ -1,9 +1,10 @@
 use Rattle.std.proofs.Common.{refl, sym, ap, subst, Contains}
 use Rattle.std.proofs.lemmas.Result.{err_from_is_err_and}
-use Rattle.log_records.specs.Heads.{stamp}
+use Rattle.log_model.specs.Heads.{stamp}
+use Rattle.log_model.specs.Fetched.{owner_of}
 use Rattle.log_records.specs.Records.{records_of}
 use Rattle.log_records.specs.Kept.{chains_of}
-use Rattle.log_records.specs.Batches.{Batch, owner_of, owners_in}
+use Rattle.log_records.specs.Batches.{Batch, owners_in}
 use Rattle.log_records.proofs.Batches.{extends, kept_push}
 use Rattle.log_records.proofs.batch.Batch.add_chain.Goals as goal
 

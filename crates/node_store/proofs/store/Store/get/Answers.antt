@@ -1,5 +1,5 @@
 use Rattle.std.proofs.Common.{option_map, sym, ap, ◌∙◌}
-use Rattle.node_store.specs.Stores.{Block}
+use Rattle.dhash_model.specs.Stores.{Block}
 use Rattle.node_store.proofs.Maps.{find-lookup}
 use Rattle.node_store.proofs.store.Store.get.Goals as goal
 

@@ -1,7 +1,7 @@
 use Rattle.std.proofs.Common.{sym, ap, ◌∙◌, arith}
 use Rattle.std.specs.FinMap.Entries.{put}
 use Rattle.ivy_base.specs.Naming.{key_cmp}
-use Rattle.node_store.specs.Stores.{Block, bytes_held}
+use Rattle.dhash_model.specs.Stores.{Block, bytes_held}
 use Rattle.node_store.proofs.Maps.{put-insert_entry}
 use Rattle.node_store.proofs.Puts.{stored_valid}
 use Rattle.node_store.proofs.store.Store.hold.Goals as goal

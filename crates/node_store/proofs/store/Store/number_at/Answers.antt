@@ -1,5 +1,5 @@
 use Rattle.std.proofs.Common.{option_and_then, sym, ap, ◌∙◌}
-use Rattle.node_store.specs.Stores.{number_of}
+use Rattle.dhash_model.specs.Stores.{number_of}
 use Rattle.node_store.proofs.Maps.{find-lookup}
 use Rattle.node_store.proofs.store.Store.number_at.Goals as goal
 

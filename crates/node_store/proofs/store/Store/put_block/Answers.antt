@@ -1,6 +1,6 @@
 use Rattle.std.proofs.Common.{not, ap, ◌∙◌}
 use Rattle.ivy_base.specs.Naming.{name}
-use Rattle.node_store.specs.Stores.{content, full}
+use Rattle.dhash_model.specs.Stores.{content, full}
 use Rattle.node_store.proofs.Puts.{compared, rightly_named, wrongly_named}
 use Rattle.node_store.proofs.store.Store.put_block.Goals as goal
 

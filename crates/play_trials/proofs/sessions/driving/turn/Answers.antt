@@ -23,8 +23,8 @@ pub turned-requires-clause-anew : goal.turned-requires-clause-anew
 turned-requires-clause-anew g c = turn_is_anew judges (g.T.Turns.view c.args.turns.now c.args.pass.now) c.args.session.now c.args.session.now c.requires.may.under_way _ _ _ c.args.refresh c.in-Some.asked.now c.args.now
     c.turn-turned.ensures.turn.found c.turn-turned.ensures.turn.after c.turn-turned.result c.turn-turned.ensures.turn.turn
 
-pub returns : goal.returns
-returns g c = subst (λ (view : Option View). GoesOn judges view c.turned.new.self) (sym c.turn-turned.ensures.view) (record {
+pub returns-clause-goes_on : goal.returns-clause-goes_on
+returns-clause-goes_on g c = subst (λ (view : Option View). GoesOn judges view c.turned.new.self) (sym c.turn-turned.ensures.view) (record {
   under_way = turned_under_way judges (g.T.Turns.view c.args.turns.now c.args.pass.now) c.args.session.now c.turned.new.self c.requires.may.under_way _ _ _ c.args.refresh c.in-Some.asked.now c.args.now c.turn-turned.ensures.turn.found
       c.turn-turned.ensures.turn.after c.turn-turned.result c.turn-turned.ensures.turn.turn c.turned.ensures.turned;
   no_turn = c.turned.ensures.turning;

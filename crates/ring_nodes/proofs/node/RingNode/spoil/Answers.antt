@@ -1,5 +1,5 @@
 use Rattle.std.proofs.Common.{◌≡◌, set, sym, ap, ◌∙◌, subst, Some, rules}
-use Rattle.node_store.specs.Stores.{with_byte}
+use Rattle.dhash_model.specs.Stores.{with_byte}
 use Rattle.world_model.specs.Nodes.{Node}
 use Rattle.ring_nodes.proofs.Spoiling.{one_spoilt}
 use Rattle.ring_nodes.proofs.node.RingNode.spoil.Goals as goal

@@ -1,5 +1,5 @@
 use Rattle.std.proofs.Common.{◌≡◌, map, get_or, set, sym, ap, ◌∙◌, subst}
-use Rattle.chord_core.specs.State.{State}
+use Rattle.dhash_model.specs.State.{State}
 use Rattle.world_model.specs.World.{peer_of}
 use Rattle.round_laws.specs.RingOf.{AreApart}
 use Rattle.ring_nodes.specs.NodesState.{NodesState}

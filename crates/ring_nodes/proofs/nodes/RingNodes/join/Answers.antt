@@ -1,5 +1,5 @@
 use Rattle.std.proofs.Common.{◌≡◌, true, false, sym, ap, ◌∙◌, subst, ◌≤◌, ◌<◌}
-use Rattle.chord_core.specs.State.{alone_node}
+use Rattle.dhash_model.specs.State.{alone_node}
 use Rattle.dht_ids.specs.declared.peer.Peer.{Peer}
 use Rattle.world_model.specs.Ring.{empty_node}
 use Rattle.ring_nodes.specs.Joining.{IsNewPeer, with_node_more}

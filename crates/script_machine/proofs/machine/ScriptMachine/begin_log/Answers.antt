@@ -1,7 +1,7 @@
 use Rattle.std.proofs.Common.{ℕ, List, true, sym, subst, arith}
-use Rattle.hss_keys.specs.Saved.{IsSigner}
+use Rattle.hash_signature_model.specs.Saved.{IsSigner}
 use Rattle.block_parts.proofs.Bytes.{block}
-use Rattle.log_heads.specs.Signed.{hss_judged}
+use Rattle.dhash_model.specs.Signed.{hss_judged}
 use Rattle.script_driver.specs.Run.{Goes}
 use Rattle.world_model.specs.Logs.{LogLine, Played, fresh_signer}
 use Rattle.script_world.specs.Newcomers.{BeginsIn}

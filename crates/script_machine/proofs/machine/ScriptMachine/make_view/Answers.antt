@@ -1,4 +1,4 @@
-use Rattle.log_heads.specs.Signed.{hss_judged}
+use Rattle.dhash_model.specs.Signed.{hss_judged}
 use Rattle.script_machine.proofs.OtherLines.{played_line}
 use Rattle.script_machine.proofs.StayingRing.{view_stays}
 use Rattle.world_model.specs.Logs.{ViewLine, keys_of}

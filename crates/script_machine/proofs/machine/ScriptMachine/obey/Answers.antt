@@ -1,4 +1,4 @@
-use Rattle.log_heads.specs.Signed.{hss_judged}
+use Rattle.dhash_model.specs.Signed.{hss_judged}
 use Rattle.script_machine.proofs.OtherLines.{function_in, function_line, ring_line, untold_line}
 use Rattle.script_machine.proofs.StayingRing.{at_stays, damage_stays, holds_stays, join_stays, keep_stays, lose_stays, order_stays, round_stays, stop_stays, work_stays}
 use Rattle.world_model.specs.Faults.{damage_line, holds_line, lose_line, node_named, order_line, work_line}

@@ -3,7 +3,7 @@ use Rattle.std.specs.List.{position}
 use Rattle.std.specs.Str.{bytes_eq}
 use Rattle.script_driver.specs.Run.{Goes}
 use Rattle.script_machine.specs.contracts.machine.ScriptMachine.{the_view}
-use Rattle.log_heads.specs.Signed.{hss_judged}
+use Rattle.dhash_model.specs.Signed.{hss_judged}
 use Rattle.world_model.specs.Calls.{OpenLine, sending_of}
 use Rattle.world_model.specs.Logs.{Played}
 use Rattle.script_machine.specs.WorldState.{HasWorld, OpenState, ShowsWorld, WorldState}

@@ -6,7 +6,7 @@ use Rattle.script_machine.specs.contracts.machine.ScriptMachine.{the_view}
 use Rattle.world_model.specs.Calls.{StepLine}
 use Rattle.world_model.specs.Logs.{Played}
 use Rattle.world_model.specs.World.{session_named}
-use Rattle.log_heads.specs.Signed.{hss_judged}
+use Rattle.dhash_model.specs.Signed.{hss_judged}
 use Rattle.script_world.specs.Running.{HasSceneIn, StepsOnIn}
 use Rattle.script_machine.specs.WorldState.{HasWorld, OpenState, ShowsWorld, WorldState}
 use Rattle.script_machine.proofs.Lines.{far_steps, has_scene, none_steps, steps_one}

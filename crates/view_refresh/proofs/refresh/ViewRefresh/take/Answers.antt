@@ -1,5 +1,5 @@
 use Rattle.std.proofs.Common.{ℕ, List, Result, IfOk, sym, subst}
-use Rattle.dhash_client.specs.declared.miss.Miss.{Miss}
+use Rattle.dhash_model.specs.declared.miss.Miss.{Miss}
 use Rattle.view_refresh.specs.Parts.{LoadTakesNext}
 use Rattle.view_refresh.proofs.refresh.ViewRefresh.take.Goals as goal
 

@@ -8,25 +8,23 @@ use Rattle.ivy_base.specs.declared.operation.Moment.{Moment}
 use Rattle.ivy_base.specs.declared.operation.Op.{Op}
 use Rattle.ivy_base.specs.declared.operation.Op.TheVariants as op
 use Rattle.ivy_base.specs.Naming.{inode_number}
-use Rattle.tree_model.specs.Tree.{Tree, Inode, directory_kind, entry, file_kind, inode_at, is_directory, is_file, is_live, name_count}
+use Rattle.tree_model.specs.Tree.{Tree, Inode, directory_kind, entry, file_kind, inode_at, is_directory, is_file, is_live, name_count, longest_file}
 use Rattle.log_model.specs.View.{View, view_name}
 use Rattle.wire_model.specs.Rpc.{Identity}
 use Rattle.wire_model.specs.Xdr.{word}
 use Rattle.nfs_model.specs.declared.arguments.Args.{Args}
 use Rattle.nfs_model.specs.declared.arguments.Args.TheVariants as call
-use Rattle.nfs_model.specs.declared.arguments.How.{How}
 use Rattle.nfs_model.specs.declared.arguments.How.TheVariants.{Unchecked, Guarded, Exclusive}
 use Rattle.nfs_model.specs.declared.arguments.SetWhat.{SetWhat}
 use Rattle.nfs_model.specs.declared.replies.NfsStatus.{NfsStatus}
 use Rattle.nfs_model.specs.declared.replies.NfsStatus.TheVariants as status
-use Rattle.nfs_model.specs.declared.replies.Fattr.{Fattr}
 use Rattle.nfs_model.specs.declared.replies.Tail.{Tail}
 use Rattle.nfs_model.specs.declared.replies.Tail.TheVariants as tails
 use Rattle.nfs_model.specs.declared.replies.Reply.{Reply}
 use Rattle.nfs_model.specs.declared.replies.Reply.TheVariants as reply
 use Rattle.nfs_model.specs.Answers as answers
 use Rattle.nfs_model.specs.Checks.{Check, is_dot, is_dot_dot, same_bytes}
-use Rattle.nfs_model.specs.Objects.{Object, cache_data, is_owner, live_object, may_read, may_write, object_of}
+use Rattle.nfs_model.specs.Objects.{Object, cache_data, is_owner, live_object, may_read, may_write, object_of, handle_tag}
 use Rattle.nfs_model.specs.Reading.{answer, found, found_inode, link_kind, lookup_checks, target_of}
 use Rattle.nfs_model.specs.Pages.{long_length, page_checks, plain_length}
 use Rattle.nfs_model.specs.Changing.{Plan, Refuse, Nothing, Operations, about, directory_checks, inode_under, is_empty_under, invalid_times, may_change, may_cut, move_checks, name_checks, too_large, finish, made, made_number, plan, plan_file, plan_file_at, plan_rename_between, same_target, set_attribute_checks, standing, taken, taken_part, unless}
@@ -125,7 +123,7 @@ plain_live t number false i live at = rw live refl
 plain_object : (t : Tree) (view : View) (handle : List ℕ) → IsPlainObject (object_of t view handle)
 unfolding IsPlainObject
 plain_object t view handle =
-    plain_or (not (length handle == 44 && same_bytes (take 4 handle) (73 ∷ 86 ∷ 89 ∷ 49 ∷ []))) status.BadHandle _ refl
+    plain_or (not (length handle == 44 && same_bytes (take 4 handle) handle_tag)) status.BadHandle _ refl
     (plain_or (not (same_bytes (take 20 (drop 4 handle)) (view_name view).0)) status.Stale _ refl
     (plain_live t (record { 0 = drop 24 handle }) _ _ refl refl))
 
@@ -247,7 +245,7 @@ module _ (t : Tree) (view : View) (who : Identity) (now : Moment) (own : PubKey)
       planned_about (object_of t view file) _ _ (plain_object t view file) (λ o. planned_unless ((not (file_kind o.inode.kind), status.Inval)
       ∷ (not (may_write who o.inode || is_owner who o.inode), status.Acces)
       ∷ (not (count == length bytes), status.Inval)
-      ∷ (nat_lt 16777216 (offset + length (taken_part bytes)), status.FBig) ∷ [])
+      ∷ (nat_lt longest_file (offset + length (taken_part bytes)), status.FBig) ∷ [])
       _ _ refl (planned_if (length bytes == 0) (Nothing (reply.Written (cache_data t t view o.number) 0)) (Operations (op.Write o.number offset (taken_part bytes) ∷ [])) (planned _ refl) (planned _ refl)))
   plan_is_plain (call.Create dir name (Unchecked what)) = planned_file dir name false what (inode_number own seq)
   plan_is_plain (call.Create dir name (Guarded what)) = planned_file dir name true what (inode_number own seq)

@@ -6,7 +6,7 @@ use Rattle.dht_ids.specs.Peers.{place}
 use Rattle.ring_model.specs.Circle.{identifier_bits}
 use Rattle.ring_model.specs.Members.{following}
 use Rattle.ring_model.specs.Ring.{IsFinger}
-use Rattle.chord_core.specs.State.{State}
+use Rattle.dhash_model.specs.State.{State}
 
 -- that many fingers of the node are right, among members that ascend by place
 pub record AreFingers (live : List Peer) (me : Peer) (count : ℕ) (fingers : List Peer) : Type 0 where

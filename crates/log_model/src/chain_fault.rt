@@ -17,7 +17,7 @@ pub enum ChainFault {
 
 impl From<Memory> for ChainFault {
     ghost use Rattle.std.specs.Prelude.{◌≡◌};
-    ghost use Rattle.log_records.specs.declared.chain_fault.ChainFault.TheVariants.{Memory as OutOfMemory};
+    ghost use Rattle.log_model.specs.declared.chain_fault.ChainFault.TheVariants.{Memory as OutOfMemory};
 
     ghost from_gives = { λ _ fault. fault ≡ OutOfMemory };
 

@@ -1,0 +1,9 @@
+pub mod State
+pub mod Settled
+pub mod Stores
+pub mod Signed
+pub mod Course
+pub mod GetBlock
+pub mod GetHead
+pub mod Puts
+pub mod Cache

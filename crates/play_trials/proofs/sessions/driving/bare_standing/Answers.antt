@@ -1,6 +1,0 @@
-use Rattle.std.proofs.Common.{◌∙◌}
-use Rattle.play_trials.proofs.UnderWay.{standing_viewed}
-use Rattle.play_trials.proofs.sessions.driving.bare_standing.Goals as goal
-
-pub returns-clause-view : goal.returns-clause-view
-returns-clause-view g c = c.standing.ensures.view ∙ standing_viewed (g.T.Turns.view c.args.turns.now c.args.pass.now) c.in-Ok.standing c.standing.result c.in-Ok.is c.requires c.standing.ensures.stands
