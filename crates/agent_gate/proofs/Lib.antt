@@ -1,7 +1,7 @@
-pub mod Beginnings
-pub mod Views
-pub mod Steps
-pub mod Ends
-pub mod Meets
-pub mod Gathering
-pub mod Same
+pub mod Left
+pub mod Histories
+pub mod Turning
+pub mod Passing
+mod Behind
+mod Held
+pub mod Folds

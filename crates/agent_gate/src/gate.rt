@@ -1,293 +1,219 @@
-//! The gate: one value, which one pass at a time takes out for a turn.
+//! The gate over an agent.
 
-ghost use Rattle.std.specs.Prelude.{◌≡◌, ◌≢◌, ℕ, ◌+◌, ◌-◌, ◌*◌, ◌/◌, ◌%◌, ◌<◌, ◌≤◌, ◌^◌, true, false, List, [], ◌∷◌, ◌++◌, length, min, Some, None, IfOk, IfErr, OnErr, All};
-ghost use mathlib.Core.List.{IsPrefix};
-ghost use Rattle.agent_gate.specs.declared.history.Entry.{Entry};
-ghost use Rattle.agent_gate.specs.Histories.{entry, longer};
-ghost use Rattle.agent_gate.specs.Steps.{Sat, Sees, backed, entered, joined, left, less, newcomer, note};
-ghost use Rattle.agent_gate.specs.Passes.{HasGathered, IsOwnHistory, IsPassOf, IsWhole, Met, SawOn, TookTurn, parts_of, with_parts};
+ghost use Rattle.std.specs.Prelude.{◌≡◌, ◌≢◌, ◌≤◌, ◌-◌, ◌^◌, length, [], IfOk, IfErr, OnErr, IsSomeAnd, All};
+ghost use Rattle.value_gate.specs.Passes.{Found, FoundAndLeft, IsOwnHistory, IsPassOf, IsWhole, Met, SawOn, parts_of, with_parts};
+ghost use Rattle.agent_gate.specs.Asking.{DropsPosts, MayAsk, Refuses, ShowsStanding};
+ghost use Rattle.agent_gate.specs.Sharing.{Answers};
+ghost use Rattle.agent_gate.specs.Taking.{HasTaken, kind_of};
 
-use crate::knows::Knows;
-use crate::pass::Pass;
-use crate::rule::{Back, Enter, Joining, Law, Leave, Look, Make, NoPart, Noted, OnePart};
-use crate::sequential::Sequential;
-use atomic_table::{Refused, Seat, Table};
-use std::alloc::{AllocError, Global};
-use std::marker::{Brand, Model};
-use std::snapshot::Snapshot;
+use crate::calls::{AskStanding, DropPosts, TakeTurn};
+use crate::shared::Shared;
+use dht_ids::Acks;
+use hss_keys::Signs;
+use ivy_agent::{Agent, Turns};
+use ivy_base::{Memory, Moment};
+use ivy_io::Keeper;
+use log_fetch::{Asked, Refresh, Standing, TurnFault, Turned};
+use std::alloc::Global;
+use std::marker::Model;
 use std::sync::Wait;
-use std::thread;
+use value_gate::Gate as Inner;
 
-/// How many parts the first pass has.
-pub const ALL_PARTS: u64 = 1 << 32;
+/// What a thread takes its turns with.
+pub type Pass<K, S> = value_gate::Pass<Shared<K, S>>;
 
-/// One value, with which one pass at a time takes a turn. All turns that leave an entry make one legal history.
+/// One agent, which one pass at a time takes out for a turn. Contracts see which gate it is and the agent that it was
+/// opened with, which has entered a view.
 #[derive(Drop)]
-pub struct Gate<A: Sequential> {
-    table: Table<Option<A>, Knows<A, (A::Asked, A::Reply)>, Snapshot<A>, Law, Global>,
+pub struct Gate<K: Keeper + Drop, S: Signs + Drop> {
+    gate: Inner<Shared<K, S>>,
 }
 
-impl<A: Sequential> Model for Gate<A> {
-    ghost use Rattle.std.specs.Prelude.{◌≡◌};
-    ghost use Rattle.agent_gate.specs.Passes.{HasGathered, GateView};
+impl<K: Keeper + Drop, S: Signs + Drop> Model for Gate<K, S> {
+    ghost use Rattle.std.specs.Prelude.{IsSomeAnd};
+    ghost use Rattle.value_gate.specs.Passes.{GateView};
+    ghost use Rattle.ivy_agent.specs.Holders.{Holder};
 
-    ghost Value = { GateView A };
+    ghost Value = { GateView (Holder K S) };
 
-    ghost view = { λ g. record { gate = g.table.shared.table_id; opening = g.table.shared.key.value } };
+    ghost view = { λ g. g.gate };
 
-    ghost invariant = { λ g. (g.table.shared.table_id.words ≡ 1) × (g.table.shared.table_id.slots ≡ 1) };
+    ghost invariant = { λ g. IsSomeAnd g.gate.opening.agent.view (λ view. Unit {0}) };
 }
 
-/// What is left of a gate: the value after the whole history, and the history's length.
+/// What is left of a gate: the agent after the whole history, and the history's length.
 #[derive(Drop)]
-pub struct Closed<A: Drop> {
-    pub value: A,
+pub struct Closed<K: Keeper + Drop, S: Signs> {
+    pub agent: Agent<K, S>,
     pub turns: u64,
 }
 
-/// A gate that isn't closed, since the passes that were given don't have all parts.
+/// A gate that isn't closed, since a pass is missing.
 #[derive(Drop)]
-pub struct Unclosed<A: Sequential> {
-    pub gate: Gate<A>,
-    pub passes: Vec<Pass<A>>,
+pub struct Unclosed<K: Keeper + Drop, S: Signs + Drop> {
+    pub gate: Gate<K, S>,
+    pub passes: Vec<Pass<K, S>>,
 }
 
-impl<A: Sequential> Gate<A> {
-    /// A gate over this value, and the first pass, which has all parts. `Err` is want of memory.
-    pub fn make(alloc: Global, value: A) -> Result<(Gate<A>, Pass<A>), AllocError>
-        requires { A.stands value [] value }
-        ensures pass { IfOk result (λ made. IsPassOf made.0 made.1 × (made.0.opening ≡ value)) }
+impl<K: Keeper + Drop, S: Signs + Drop> Gate<K, S> {
+    /// A gate over an agent that has entered a view, and the first pass, which has all parts. The error is want of memory.
+    pub fn make(alloc: Global, agent: Agent<K, S>) -> Result<(Gate<K, S>, Pass<K, S>), Memory>
+        requires { IsSomeAnd agent.agent.view (λ view. Unit {0}) }
+        ensures pass { IfOk result (λ made. IsPassOf made.0 made.1 × (made.0.opening ≡ agent)) }
         ensures new { IfOk result (λ made. (made.1.parts ≡ 2 ^ 32) × (made.1.history ≡ []) × (made.1.calls ≡ [])) }
     {
-        let mut slots = Vec::with_capacity(alloc, 1)?;
-        let opening = Snapshot::of(&value);
-        slots.push_reserved(Some(value));
-        match Table::new(alloc, &[0], slots, &opening) {
-            Ok((table, seat)) => Ok((
-                Gate { table },
-                Pass {
-                    turns: 0,
-                    parts: ALL_PARTS,
-                    seat,
-                },
-            )),
-            Err(Refused { slots: _ }) => Err(AllocError),
-        }
+        let Ok((gate, pass)) = Inner::make(alloc, Shared { agent }) else {
+            return Err(Memory);
+        };
+        Ok((Gate { gate }, pass))
     }
 
-    // Waits for the slot, and takes the value out.
-    fn enter<W: Wait>(
+    /// Waits for the agent, and takes a turn with it, as [`Agent::turn`] does. A turn that is answered is the newest entry of
+    /// the one history, and the reply is that of the agent at its point. A fault leaves no entry; the pass has then seen the
+    /// whole history as it came in, and the fault has its cause in the agent that it found.
+    pub fn take_turn<R: Wait>(
         &self,
-        rt: &W,
-        seat: &mut Seat<Option<A>, Knows<A, (A::Asked, A::Reply)>>,
-    ) -> (u64, A)
-        requires gate { (seat.old.table_id ≡ self.now.gate) × (seat.old.me.0.opening ≡ Some self.now.opening) }
-        requires outside { (seat.old.me.1 ≡ []) × (0 < seat.old.me.0.parts) }
-        ensures gate { (seat.new.table_id ≡ seat.old.table_id) × (result.0 + 2 < 2 ^ 64) × (result.0 ≡ 2 * length seat.new.me.0.seen) }
-        ensures inside { (seat.new.me ≡ (entered seat.old.me.0 seat.new.me.0.seen, (0, None) ∷ [])) × IsPrefix seat.old.me.0.seen seat.new.me.0.seen }
-        ensures legal { Sees A.stands seat.new.me.0 }
-        ensures value { A.stands self.now.opening seat.new.me.0.seen result.1 }
-    {
-        let shared = &self.table.shared;
-        for _ in rt.forever() {
-            let word = shared.peek(0);
-            if word % 2 == 0 && word < u64::MAX - 1 {
-                let found = shared.compare_exchange::<Enter>(seat, 0, word, word + 1);
-                if found == word {
-                    let value = shared.exchange(seat, 0, None).unwrap();
-                    return (word, value);
-                }
-            }
-            thread::yield_now();
-        }
-        unreachable!()
-    }
-
-    // Puts the value back, with an entry for what was asked and replied.
-    fn leave<N: Noted<(A::Asked, A::Reply)>>(
-        &self,
-        seat: &mut Seat<Option<A>, Knows<A, (A::Asked, A::Reply)>>,
-        word: u64,
-        value: A,
-        asked: &Snapshot<A::Asked>,
-        reply: &A::Reply,
-    )
-        requires gate { (seat.old.table_id ≡ self.now.gate) × (seat.old.me.0.opening ≡ Some self.now.opening) }
-        requires inside { (seat.old.me.0.inside ≡ true) × (seat.old.me.1 ≡ (0, None) ∷ []) × (word ≡ 2 * length seat.old.me.0.seen) × (word + 2 < 2 ^ 64) }
-        requires noted { N.entries ≡ entry seat.old.me.0.number (length seat.old.me.0.calls + 1) (asked.now.value, reply.now) ∷ [] }
-        requires value { A.stands self.now.opening (seat.old.me.0.seen ++ N.entries) value }
-        ensures gate { seat.new.table_id ≡ seat.old.table_id }
-        ensures outside { seat.new.me ≡ (left seat.old.me.0 (entry seat.old.me.0.number (length seat.old.me.0.calls + 1) (asked.now.value, reply.now) ∷ []), []) }
-        ensures legal { Sees A.stands seat.new.me.0 }
-    {
-        let shared = &self.table.shared;
-        drop(shared.exchange(seat, 0, Some(value)));
-        shared.store::<Leave<N>>(seat, 0, word + 2);
-    }
-
-    // Puts the value back, without an entry.
-    fn back(&self, seat: &mut Seat<Option<A>, Knows<A, (A::Asked, A::Reply)>>, word: u64, value: A)
-        requires gate { (seat.old.table_id ≡ self.now.gate) × (seat.old.me.0.opening ≡ Some self.now.opening) }
-        requires inside { (seat.old.me.0.inside ≡ true) × (seat.old.me.1 ≡ (0, None) ∷ []) × (word ≡ 2 * length seat.old.me.0.seen) }
-        requires value { A.stands self.now.opening seat.old.me.0.seen value }
-        ensures gate { seat.new.table_id ≡ seat.old.table_id }
-        ensures outside { seat.new.me ≡ (backed seat.old.me.0, []) }
-    {
-        let shared = &self.table.shared;
-        drop(shared.exchange(seat, 0, Some(value)));
-        shared.store::<Back>(seat, 0, word);
-    }
-
-    /// Waits for the value, and takes a turn with it. At `Ok` the turn is the newest entry of the one history; a fault
-    /// leaves no entry.
-    pub fn take_turn<W: Wait>(
-        &self,
-        rt: &W,
-        pass: &mut Pass<A>,
-        asked: A::Asked,
-    ) -> Result<A::Reply, A::Fault>
-        requires { IsPassOf self.now pass.old × A.may_ask self.now.opening asked }
-        ensures taken { IfOk result (λ reply. TookTurn pass.old (asked, reply) pass.new) }
+        rt: &R,
+        alloc: Global,
+        pass: &mut Pass<K, S>,
+        refresh: Refresh,
+        asked: &Asked,
+        now: Moment,
+    ) -> Result<Turned, TurnFault>
+        requires pass { IsPassOf self.now pass.old }
+        requires may { MayAsk self.now.opening (record { refresh = refresh; asked = asked.now; now = now }) }
+        ensures answers { IfOk result (λ turned. Answers (kind_of S.signing S.is_whole K.saves) self.now pass.old (record { refresh = refresh; asked = asked.now; now = now }) turned pass.new) }
         ensures fault { OnErr result (SawOn pass.old pass.new) }
-        ensures legal { IsOwnHistory A.stands pass.new }
+        ensures why { IfErr result (λ fault. Found (HasTaken (kind_of S.signing S.is_whole K.saves)) self.now.opening pass.new.history (λ found. Refuses (kind_of S.signing S.is_whole K.saves) (record { refresh = refresh; asked = asked.now; now = now }) found fault)) }
+        ensures legal { IsOwnHistory (HasTaken (kind_of S.signing S.is_whole K.saves)) pass.new }
     {
-        let Pass { turns, seat, .. } = pass;
-        let (word, mut value) = self.enter(rt, seat);
-        let noted = Snapshot::of(&asked);
-        match value.turn(asked) {
-            Ok(reply) => {
-                self.leave::<Brand>(seat, word, value, &noted, &reply);
-                *turns = word / 2 + 1;
-                Ok(reply)
-            }
-            Err(fault) => {
-                self.back(seat, word, value);
-                *turns = word / 2;
-                Err(fault)
-            }
-        }
+        self.gate.take_turn(
+            rt,
+            pass,
+            TakeTurn {
+                alloc,
+                refresh,
+                asked,
+                now,
+            },
+        )
     }
 
-    // Joins a pass or a note, and looks.
-    fn hear(
+    /// Waits for the agent, and gives its standing. No entry is left; the pass has then seen the whole history as it came in.
+    /// The error is want of memory.
+    pub fn standing<R: Wait>(
         &self,
-        seat: &mut Seat<Option<A>, Knows<A, (A::Asked, A::Reply)>>,
-        other: Seat<Option<A>, Knows<A, (A::Asked, A::Reply)>>,
-    )
-        requires gate { (seat.old.table_id ≡ self.now.gate) × (other.table_id ≡ self.now.gate) }
-        requires outside { (seat.old.me.0.inside ≡ false) × (seat.old.me.1 ≡ []) × (other.me.0.inside ≡ false) × (other.me.1 ≡ []) }
-        ensures gate { seat.new.table_id ≡ seat.old.table_id }
-        ensures outside { seat.new.me ≡ (joined seat.old.me.0 other.me.0, []) }
-        ensures begins { IsPrefix seat.old.me.0.seen seat.new.me.0.seen × IsPrefix other.me.0.seen seat.new.me.0.seen }
-        ensures legal { Sees A.stands seat.new.me.0 }
+        rt: &R,
+        alloc: Global,
+        pass: &mut Pass<K, S>,
+    ) -> Result<Standing, Memory>
+        requires { IsPassOf self.now pass.old }
+        ensures saw { SawOn pass.old pass.new }
+        ensures shows { Found (HasTaken (kind_of S.signing S.is_whole K.saves)) self.now.opening pass.new.history (λ found. ShowsStanding (kind_of S.signing S.is_whole K.saves) found result found) }
+        ensures legal { IsOwnHistory (HasTaken (kind_of S.signing S.is_whole K.saves)) pass.new }
     {
-        let shared = &self.table.shared;
-        shared.join_seat::<Joining>(seat, other);
-        shared.load::<Look>(seat, 0);
+        self.gate.visit(rt, pass, AskStanding { alloc })
+    }
+
+    /// Waits for the agent, which drops the posts that are acknowledged. No entry is left; the pass has then seen the whole
+    /// history as it came in.
+    pub fn settle<R: Wait>(&self, rt: &R, pass: &mut Pass<K, S>, acks: &Acks)
+        requires { IsPassOf self.now pass.old }
+        ensures saw { SawOn pass.old pass.new }
+        ensures settles { FoundAndLeft (HasTaken (kind_of S.signing S.is_whole K.saves)) self.now.opening pass.new.history (DropsPosts acks.now) }
+        ensures legal { IsOwnHistory (HasTaken (kind_of S.signing S.is_whole K.saves)) pass.new }
+    {
+        self.gate.visit(rt, pass, DropPosts { acks });
     }
 
     /// A pass for another thread, with one part of this one, which has at least two. It has seen the same.
-    pub fn split(&self, pass: &mut Pass<A>) -> Pass<A>
+    pub fn split(&self, pass: &mut Pass<K, S>) -> Pass<K, S>
         requires { IsPassOf self.now pass.old × (2 ≤ pass.old.parts) }
         ensures kept { pass.new ≡ with_parts pass.old (pass.old.parts - 1) }
         ensures new { IsPassOf self.now result × (result.parts ≡ 1) × (result.history ≡ pass.old.history) × (result.calls ≡ []) }
+        ensures legal { IsOwnHistory (HasTaken (kind_of S.signing S.is_whole K.saves)) pass.new × IsOwnHistory (HasTaken (kind_of S.signing S.is_whole K.saves)) result }
     {
-        let Pass { turns, parts, seat } = pass;
-        let shared = &self.table.shared;
-        let (_, mut other) = shared.load_new_seat::<Make>(0);
-        let part = shared.split_seat::<OnePart>(seat);
-        self.hear(&mut other, part);
-        *parts -= 1;
-        Pass {
-            turns: *turns,
-            parts: 1,
-            seat: other,
-        }
+        self.gate.split(pass)
     }
 
     /// Afterwards both passes have seen what either had.
-    pub fn meet(&self, pass: &mut Pass<A>, other: &mut Pass<A>)
+    pub fn meet(&self, pass: &mut Pass<K, S>, other: &mut Pass<K, S>)
         requires { IsPassOf self.now pass.old × IsPassOf self.now other.old }
         ensures met { Met pass.old other.old pass.new other.new }
-        ensures legal { IsOwnHistory A.stands pass.new × IsOwnHistory A.stands other.new }
+        ensures legal { IsOwnHistory (HasTaken (kind_of S.signing S.is_whole K.saves)) pass.new × IsOwnHistory (HasTaken (kind_of S.signing S.is_whole K.saves)) other.new }
     {
-        let Pass {
-            turns: ours,
-            seat: our_seat,
-            ..
-        } = pass;
-        let Pass {
-            turns: theirs,
-            seat: their_seat,
-            ..
-        } = other;
-        let shared = &self.table.shared;
-        let our_note = shared.split_seat::<NoPart>(our_seat);
-        let their_note = shared.split_seat::<NoPart>(their_seat);
-        self.hear(our_seat, their_note);
-        self.hear(their_seat, our_note);
-        let most = (*ours).max(*theirs);
-        *ours = most;
-        *theirs = most;
-    }
-
-    // Joins all passes to the first, which knows then what each knew.
-    fn gather(
-        &self,
-        first: Pass<A>,
-        mut others: Vec<Pass<A>>,
-    ) -> Seat<Option<A>, Knows<A, (A::Asked, A::Reply)>>
-        requires { IsPassOf self.now first × All (λ p. IsPassOf self.now p) others.items }
-        ensures gate { (result.table_id ≡ self.now.gate) × (result.me.1 ≡ []) }
-        ensures gathered { HasGathered self.now.opening first others.items result.me.0 }
-    {
-        let Pass { mut seat, .. } = first;
-        while let Some(pass) = others.pop() {
-            let Pass { seat: other, .. } = pass;
-            self.hear(&mut seat, other);
-        }
-        seat
-    }
-
-    /// Ends the gate with all its passes, and gives the value after the whole history. Exactly where the passes don't have
-    /// all 2^32 parts, so that one is missing, gate and passes come back.
-    pub fn close(self, mut passes: Vec<Pass<A>>) -> Result<Closed<A>, Unclosed<A>>
-        requires { All (λ p. IsPassOf self p) passes.items }
-        ensures closed { IfOk result (λ closed. (parts_of passes.items ≡ 2 ^ 32) × IsWhole A.stands self.opening passes.items closed.value closed.turns) }
-        ensures unclosed { IfErr result (λ unclosed. (parts_of passes.items ≢ 2 ^ 32) × (unclosed.gate ≡ self) × (unclosed.passes.items ≡ passes.items)) }
-    {
-        let is_whole = sum_of_parts(passes.as_slice()) == ALL_PARTS;
-        if !is_whole {
-            return Err(Unclosed { gate: self, passes });
-        }
-        let Some(first) = passes.pop() else {
-            unreachable!()
-        };
-        let seat = self.gather(first, passes);
-        let Gate { table } = self;
-        let mut closed = table.close_with(seat);
-        let turns = closed.word(0) / 2;
-        let value = closed.take(0).unwrap();
-        closed.free();
-        Ok(Closed { value, turns })
+        self.gate.meet(pass, other);
     }
 
     /// How many turns the pass has seen.
-    pub fn seen(&self, pass: &Pass<A>) -> u64
+    pub fn seen(&self, pass: &Pass<K, S>) -> u64
         requires { IsPassOf self.now pass.now }
         ensures { result ≡ length pass.now.history }
     {
-        pass.turns
+        self.gate.seen(pass)
+    }
+
+    /// Ends the gate with all its passes, and gives the agent after the whole history. Exactly where the passes don't have all
+    /// 2^32 parts, so that one is missing, gate and passes come back.
+    pub fn close(self, passes: Vec<Pass<K, S>>) -> Result<Closed<K, S>, Unclosed<K, S>>
+        requires { All (λ p. IsPassOf self p) passes.items }
+        ensures closed { IfOk result (λ closed. (parts_of passes.items ≡ 2 ^ 32) × IsWhole (HasTaken (kind_of S.signing S.is_whole K.saves)) self.opening passes.items closed.agent closed.turns) }
+        ensures unclosed { IfErr result (λ unclosed. (parts_of passes.items ≢ 2 ^ 32) × (unclosed.gate ≡ self) × (unclosed.passes.items ≡ passes.items)) }
+    {
+        let Gate { gate } = self;
+        match gate.close(passes) {
+            Ok(value_gate::Closed { value, turns }) => {
+                let Shared { agent } = value;
+                Ok(Closed { agent, turns })
+            }
+            Err(value_gate::Unclosed { gate, passes }) => Err(Unclosed {
+                gate: Gate { gate },
+                passes,
+            }),
+        }
     }
 }
 
-// The parts of these passes, or 2^64 - 1 where they have more.
-fn sum_of_parts<A: Sequential>(passes: &[Pass<A>]) -> u64
-    ensures { result ≡ min (parts_of passes.now) (2 ^ 64 - 1) }
-{
-    let mut sum = 0u64;
-    for pass in passes {
-        sum = sum.saturating_add(pass.parts());
+impl<K: Keeper + Drop, S: Signs + Drop> Turns<K, S> for Gate<K, S> {
+    ghost use Rattle.std.specs.Prelude.{Some};
+    ghost use Rattle.value_gate.specs.Passes.{IsPassOf};
+    ghost use Rattle.agent_gate.specs.Sharing.{Comes, Leaves, made_by};
+    ghost use Rattle.agent_gate.specs.Taking.{kind_of};
+
+    type Pass = Pass<K, S>;
+
+    ghost fits = { λ g p. IsPassOf g p };
+
+    ghost comes = { λ g p found. Comes (kind_of S.signing S.is_whole K.saves) g p found };
+
+    ghost leaves = { λ g p left. Leaves (kind_of S.signing S.is_whole K.saves) g p left };
+
+    ghost view = { λ g _. g.opening.agent.view };
+
+    ghost made = { λ _ p. Some (made_by p) };
+
+    fn standing<R: Wait>(
+        &self,
+        rt: &R,
+        alloc: Global,
+        pass: &mut Pass<K, S>,
+    ) -> Result<Standing, Memory> {
+        self.standing(rt, alloc, pass)
     }
-    sum
+
+    fn turn<R: Wait>(
+        &self,
+        rt: &R,
+        alloc: Global,
+        pass: &mut Pass<K, S>,
+        refresh: Refresh,
+        asked: &Asked,
+        now: Moment,
+    ) -> Result<Turned, TurnFault> {
+        self.take_turn(rt, alloc, pass, refresh, asked, now)
+    }
+
+    fn settle<R: Wait>(&self, rt: &R, pass: &mut Pass<K, S>, acks: &Acks) {
+        self.settle(rt, pass, acks);
+    }
 }

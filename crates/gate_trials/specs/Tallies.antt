@@ -1,6 +1,6 @@
 -- The tally's turns.
 use Rattle.std.specs.Prelude.{◌≡◌, ℕ, ◌+◌, List, [], ◌∷◌}
-use Rattle.agent_gate.specs.declared.history.Entry.{Entry}
+use Rattle.value_gate.specs.declared.history.Entry.{Entry}
 use Rattle.gate_trials.specs.declared.tally.Tally.{Tally}
 
 -- the sum after these turns

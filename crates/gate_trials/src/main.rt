@@ -4,14 +4,15 @@
 //! turns the second thread's pass has then seen, and what its next turn, which adds four, replies. In the first one thread
 //! takes one turn and the other none; in the second both take fifty. In the others the gate is closed, first without the
 //! second pass: how many passes came back, and, closed with these and the second pass, the length of the history and the
-//! sum. The answers are worked out by hand, and are the same whatever the schedule.
+//! sum. The last line is of one thread, whose second turn is too large: which turns were taken, how many turns its pass has
+//! then seen, and the sum, which a visit reads. The answers are worked out by hand, and are the same whatever the schedule.
 #![tactic(auto)]
 
 mod tally;
 mod trials;
 
 use std::io;
-use trials::{close, meet};
+use trials::{close, meet, two_turns};
 
 fn main(rt: HostRuntime) -> io::Result<()> {
     for (first, second) in [(1, 0), (50, 50)] {
@@ -24,5 +25,8 @@ fn main(rt: HostRuntime) -> io::Result<()> {
         let sum = closed.value.sum;
         println!(rt; "passes back {came_back}, turns {turns}, sum {sum}")?;
     }
+    let (one, other, seen, sum) = two_turns(&rt, rt.alloc(), u64::MAX - 4, 3, 2)?;
+    let (first, second) = (one.is_ok(), other.is_ok());
+    println!(rt; "taken {first} and {second}, turns {seen}, sum {sum}")?;
     Ok(())
 }

@@ -1,6 +1,8 @@
 //! A small stand-in for an agent.
 
-use agent_gate::Sequential;
+ghost use Rattle.std.specs.Prelude.{◌≡◌, ◌+◌, ◌≤◌, ◌^◌};
+
+use value_gate::{Sequential, Turn, Visit};
 
 /// A sum, which a turn adds to.
 #[derive(Drop)]
@@ -27,17 +29,43 @@ impl Sequential for Tally {
 
     ghost may_ask = { MayAsk };
 
+    ghost may_visit = { λ _. Unit {0} };
+}
+
+/// A turn that adds to the sum what it is lent.
+#[derive(Clone, Copy)]
+pub struct Adding<'a>(pub &'a u64);
+
+impl<'a> Turn<Tally> for Adding<'a> {
+    ghost asks = { λ adding. adding.0.now };
+
+    ghost refuses = { λ adding found _. 2 ^ 64 ≤ found.sum + adding.0.now };
+
     #[tactic(auto, using(crate::proofs::Turns::stays))]
-    fn turn(&mut self, asked: u64) -> Result<u64, TooLarge> {
-        match self.sum.checked_add(asked) {
+    fn take(self, value: &mut Tally) -> Result<u64, TooLarge> {
+        match value.sum.checked_add(*self.0) {
             Some(sum) => {
-                self.sum = sum;
+                value.sum = sum;
                 Ok(sum)
             }
             None => {
-                self.refused = self.refused.saturating_add(1);
+                value.refused = value.refused.saturating_add(1);
                 Err(TooLarge)
             }
         }
+    }
+}
+
+/// A visit that reads the sum.
+#[derive(Clone, Copy)]
+pub struct Reading;
+
+impl Visit<Tally> for Reading {
+    type Seen = u64;
+
+    ghost sees = { λ _ found seen _. seen ≡ found.sum };
+
+    fn visit(self, value: &mut Tally) -> u64 {
+        value.sum
     }
 }

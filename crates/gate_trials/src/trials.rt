@@ -1,13 +1,14 @@
 //! The trials.
 
-ghost use Rattle.std.specs.Prelude.{◌≡◌, ◌+◌, ◌-◌, ◌≤◌, ◌^◌, length, IfOk};
-ghost use Rattle.agent_gate.specs.Passes.{IsPassOf};
+ghost use Rattle.std.specs.Prelude.{◌≡◌, ◌+◌, ◌-◌, ◌≤◌, ◌^◌, length, IfOk, OnErr};
+ghost use Rattle.value_gate.specs.Passes.{IsPassOf};
+ghost use Rattle.gate_trials.specs.Tallies.{sum_after};
 
-use crate::tally::Tally;
-use agent_gate::{Closed, Gate, Pass, Unclosed};
+use crate::tally::{Adding, Reading, Tally, TooLarge};
 use std::alloc::{AllocError, Global};
 use std::sync::Wait;
 use std::thread::{Threads, join};
+use value_gate::{Closed, Gate, Pass, Unclosed};
 
 /// Takes turns of one each, and gives the pass back and how many turns it took.
 pub fn turns<W: Wait>(
@@ -23,7 +24,7 @@ pub fn turns<W: Wait>(
 {
     let mut taken = 0u64;
     for _ in 0..count {
-        if gate.take_turn(rt, &mut pass, 1).is_ok() {
+        if gate.take_turn(rt, &mut pass, Adding(&1)).is_ok() {
             taken += 1;
         }
     }
@@ -91,10 +92,56 @@ pub fn meet<R: Threads + Wait + Sync>(
     } = two_threads(rt, alloc, first, second)?;
     gate.meet(&mut mine, &mut theirs);
     let seen = gate.seen(&theirs);
-    match gate.take_turn(rt, &mut theirs, 4) {
+    match gate.take_turn(rt, &mut theirs, Adding(&4)) {
         Ok(reply) => Ok((seen, reply)),
         Err(_) => Ok((seen, 0)),
     }
+}
+
+/// A turn with a pass. Where it is refused, the sum after all turns that the pass has then seen is too large for it.
+pub fn add<W: Wait>(
+    rt: &W,
+    gate: &Gate<Tally>,
+    pass: &mut Pass<Tally>,
+    amount: u64,
+) -> Result<u64, TooLarge>
+    requires { IsPassOf gate.now pass.old }
+    ensures gate { IsPassOf gate.now pass.new }
+    ensures replied { IfOk result (λ sum. sum ≡ sum_after gate.now.opening.sum pass.new.history) }
+    ensures refused { OnErr result (2 ^ 64 ≤ sum_after gate.now.opening.sum pass.new.history + amount) }
+{
+    gate.take_turn(rt, pass, Adding(&amount))
+}
+
+/// The sum after all turns that the pass has then seen.
+pub fn read<W: Wait>(rt: &W, gate: &Gate<Tally>, pass: &mut Pass<Tally>) -> u64
+    requires { IsPassOf gate.now pass.old }
+    ensures gate { IsPassOf gate.now pass.new }
+    ensures sum { result ≡ sum_after gate.now.opening.sum pass.new.history }
+{
+    gate.visit(rt, pass, Reading)
+}
+
+/// Two turns at a gate that was opened with this sum: what each replied, how many turns the pass has then seen, and the sum
+/// then.
+pub fn two_turns<W: Wait>(
+    rt: &W,
+    alloc: Global,
+    opening: u64,
+    first: u64,
+    second: u64,
+) -> Result<(Result<u64, TooLarge>, Result<u64, TooLarge>, u64, u64), AllocError> {
+    let (gate, mut pass) = Gate::make(
+        alloc,
+        Tally {
+            sum: opening,
+            refused: 0,
+        },
+    )?;
+    let one = add(rt, &gate, &mut pass, first);
+    let other = add(rt, &gate, &mut pass, second);
+    let sum = read(rt, &gate, &mut pass);
+    Ok((one, other, gate.seen(&pass), sum))
 }
 
 /// Two threads take so many turns of one each and end, and the gate is closed: first without the second pass, which gives

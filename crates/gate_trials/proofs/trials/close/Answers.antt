@@ -1,6 +1,6 @@
 use Rattle.std.proofs.Common.{◌≡◌, [], ◌∷◌, ◌++◌, ap, ◌∙◌, arith}
-use Rattle.agent_gate.specs.Passes.{calls_of}
-use Rattle.agent_gate.proofs.Same.{same_length}
+use Rattle.value_gate.specs.Passes.{calls_of}
+use Rattle.value_gate.proofs.Same.{same_length}
 use Rattle.gate_trials.proofs.Turns.{calls_of_two}
 use Rattle.gate_trials.proofs.trials.close.Goals as goal
 

@@ -1,5 +1,5 @@
 use Rattle.std.proofs.Common.{◌≡◌, ◌+◌, ◌≤◌, length}
-use Rattle.agent_gate.specs.Passes.{IsPassOf}
+use Rattle.value_gate.specs.Passes.{IsPassOf}
 use Rattle.gate_trials.proofs.trials.turns.Given as goal
 
 -- the pass is of the gate, and has made as many calls more as were taken

@@ -1,0 +1,3 @@
+mod TreeSent
+mod EngineSent
+pub mod Crossing

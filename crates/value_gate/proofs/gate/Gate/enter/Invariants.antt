@@ -1,0 +1,6 @@
+use Rattle.std.proofs.Common.{◌≡◌}
+use Rattle.value_gate.proofs.gate.Gate.enter.Given as goal
+
+-- the seat stays as it was
+abbrev pub invariant-loop : goal.invariant-loop
+invariant-loop g l = (l.seat.table_id ≡ l.initial.seat.table_id) × (l.seat.me ≡ l.initial.seat.me)
