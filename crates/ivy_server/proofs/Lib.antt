@@ -1,0 +1,13 @@
+mod Ways
+mod Marks
+mod Over
+mod Asks
+mod Turns
+mod Ends
+mod Steps
+mod Messages
+mod Streams
+mod Sending
+mod Waiting
+mod OneAgent
+mod WholeCalls

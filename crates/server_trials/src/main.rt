@@ -1,0 +1,183 @@
+//! A server serves links over bytes in memory. Each line of the standard input is a link, or it changes a world over which links
+//! are served.
+//!
+//! A link is `R W STREAM`.
+//! - R and W are the numbers of the read and of the write that fail, from 1 on, and 0 where none does.
+//! - STREAM has the bytes of the link, as words of hexadecimal digits, `-` for none; `nulls:N` stands for N calls of NULL, with
+//!   the numbers from 1 on. A read gives up to 65,536 of them.
+//!
+//! It is served by an agent that was just created and is alone in its view, over a settled ring of three nodes, of which one
+//! owns a key. The answer is how the link ended, and then what was written, in hexadecimal digits (`-` for none); of more than
+//! 8,192 bytes, how many there are and their SHA-1.
+//! - `slow R W STREAM`: so is this, but a read gives one byte.
+//! - `gate R W STREAM`: so is this, but the agent is behind a gate; in front is how many turns the gate's history has then.
+//!
+//! A world has nodes in memory and two agents, of which each has its own state from link to link:
+//! - `world N R`: the settled ring of N nodes, of which R own a key, and two agents, each alone in its view;
+//! - `team`: both enter the view of their two logs;
+//! - `stop I`, `lose K`, `damage I KEY OFFSET BYTE`: a node stops, the K-th ask from now is lost, and a byte of a block is set, as in
+//!   the script language;
+//! - `ann R W STREAM`, `ben R W STREAM`: a link of that agent over these nodes.
+//!
+//! The answer to a line that changes a world is `changed`. Empty lines and those that begin with `#` are written as they are. `no
+//! answer` stands for other lines, and for want of memory.
+//!
+//! The answers of the stored run are worked out by hand from RFC 5531 and RFC 1813, and those over a world are what the same calls
+//! get in scripts. The replies to MKDIR and LOOKUP are also those of a model in another language.
+#![tactic(auto)]
+
+mod agents;
+mod gated;
+mod link;
+mod served;
+mod slow;
+mod world;
+
+use gated::serve_gated;
+use ivy_server::Ended;
+use served::{Served, serve_line, serve_slowly};
+use std::alloc::Global;
+use std::io;
+use std::sync::Wait;
+use world::{Who, World};
+
+fn main(rt: HostRuntime) -> io::Result<()> {
+    let alloc = rt.alloc();
+    let mut world = None;
+    for line in rt.lines(alloc) {
+        let line = line?;
+        world = answer(&rt, alloc, world, line.as_str())?;
+    }
+    Ok(())
+}
+
+/// Prints the answer to a line, and gives the world behind it.
+fn answer<R: Print + Wait>(
+    rt: &R,
+    alloc: Global,
+    world: Option<World>,
+    line: &str,
+) -> io::Result<Option<World>> {
+    if line.is_empty() || line.starts_with('#') {
+        println!(rt; "{line}")?;
+        return Ok(world);
+    }
+    let (word, rest) = line.split_once(' ').unwrap_or((line, ""));
+    match word {
+        "world" => {
+            let world = World::make(alloc, rest);
+            say(rt, world.is_some())?;
+            Ok(world)
+        }
+        "ann" => serve_in(rt, alloc, world, Who::Ann, rest),
+        "ben" => serve_in(rt, alloc, world, Who::Ben, rest),
+        "team" | "stop" | "lose" | "damage" => change(rt, alloc, world, word, rest),
+        _ => {
+            serve_alone(rt, alloc, word, line, rest)?;
+            Ok(world)
+        }
+    }
+}
+
+/// Prints what came of a line that serves no world.
+fn serve_alone<R: Print + Wait>(
+    rt: &R,
+    alloc: Global,
+    word: &str,
+    line: &str,
+    rest: &str,
+) -> io::Result<()> {
+    match word {
+        "slow" => show(rt, serve_slowly(rt, alloc, rest)),
+        "gate" => match serve_gated(rt, alloc, rest) {
+            Some((served, turns)) => {
+                print!(rt; "{turns} ")?;
+                show(rt, Some(served))
+            }
+            None => show(rt, None),
+        },
+        _ => show(rt, serve_line(rt, alloc, line)),
+    }
+}
+
+/// Changes the world, and prints whether that was done.
+fn change<R: Print>(
+    rt: &R,
+    alloc: Global,
+    world: Option<World>,
+    word: &str,
+    rest: &str,
+) -> io::Result<Option<World>> {
+    let Some(mut world) = world else {
+        say(rt, false)?;
+        return Ok(None);
+    };
+    let is_done = match word {
+        "team" => world.join_views(alloc),
+        "stop" => world.stop(rest),
+        "lose" => world.lose(rest),
+        _ => world.damage(alloc, rest),
+    };
+    say(rt, is_done)?;
+    Ok(Some(world))
+}
+
+/// Serves a link over the world, and prints what came of it.
+fn serve_in<R: Print + Wait>(
+    rt: &R,
+    alloc: Global,
+    world: Option<World>,
+    who: Who,
+    line: &str,
+) -> io::Result<Option<World>> {
+    let Some(world) = world else {
+        say(rt, false)?;
+        return Ok(None);
+    };
+    match world.serve(rt, alloc, who, line) {
+        Some((served, world)) => {
+            show(rt, served)?;
+            Ok(Some(world))
+        }
+        None => {
+            say(rt, false)?;
+            Ok(None)
+        }
+    }
+}
+
+/// Prints whether a world was changed.
+fn say<R: Print>(rt: &R, is_done: bool) -> io::Result<()> {
+    if is_done {
+        println!(rt; "changed")
+    } else {
+        println!(rt; "no answer")
+    }
+}
+
+/// Prints how a link ended, and what was written.
+fn show<R: Print>(rt: &R, served: Option<Served>) -> io::Result<()> {
+    let Some(served) = served else {
+        return say(rt, false);
+    };
+    let how = word_of(served.how);
+    let written = served.written.as_str();
+    if written.is_empty() {
+        println!(rt; "{how} -")
+    } else {
+        println!(rt; "{how} {written}")
+    }
+}
+
+/// The word for how a link ended.
+fn word_of(how: Ended) -> &'static str {
+    match how {
+        Ended::Done => "done",
+        Ended::Cut => "cut",
+        Ended::TooLong => "too-long",
+        Ended::NotACall => "not-a-call",
+        Ended::ReadFault => "read-fault",
+        Ended::WriteFault => "write-fault",
+        Ended::Memory => "memory",
+    }
+}
