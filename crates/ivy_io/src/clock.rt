@@ -5,7 +5,7 @@ use ivy_base::Memory;
 use std::alloc::Global;
 
 /// What tells the moment.
-pub trait Clock {
+pub trait Clock: Drop + Send {
     /// The moment in seconds and nanoseconds, where it is known.
     ghost moment: { Self → Option (ℕ × ℕ) };
 

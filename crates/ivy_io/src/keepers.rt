@@ -8,7 +8,7 @@ use std::alloc::Global;
 /// Where keepers lie under names.
 pub trait Keepers {
     /// The keepers that lie here.
-    type One: Keeper;
+    type One: Keeper + Drop + Send;
 
     /// What the keeper of each name keeps, where that is known.
     ghost kept: { Self → List ℕ → Option (Option (List ℕ)) };

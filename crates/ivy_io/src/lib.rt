@@ -20,7 +20,9 @@
 //!   keeper, which keeps the same ([`lies_again`]).
 //! - [`Ports`] give no link exactly where the count of ends rises, which no other call raises. In memory ([`MemPorts`])
 //!   exactly the planned calls fail, the links are given in order, none comes exactly where none is left, and those that come
-//!   back are listed.
+//!   back are listed. [`Ports::hang_up`] changes no link; in memory nobody is at the other end, and it does nothing.
+//!
+//! Links, clocks and the keepers of a name may go to other threads, and each may be let go.
 //!
 //! Definitions: `specs/Known.antt` (bytes that may be known), `specs/Causes.antt` (faults and their causes), `specs/States.antt`
 //! (what each source and sink is seen as), `specs/Keepers.antt` (what is kept, and which saves fail), `specs/Faults.antt`

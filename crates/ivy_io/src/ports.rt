@@ -9,10 +9,10 @@ use std::alloc::Global;
 /// Where links come from.
 pub trait Ports {
     /// What is read of a link.
-    type Reads: Source;
+    type Reads: Source + Drop + Send;
 
     /// What is written to a link.
-    type Writes: Sink;
+    type Writes: Sink + Drop + Send;
 
     /// The links that are to come, those that were given, and those that came back, where they are known.
     ghost links: { Self → Option (Links (Self.Reads × Self.Writes)) };
@@ -46,6 +46,9 @@ pub trait Ports {
         ensures never_falls { ends self.old ≤ ends self.new }
         ensures refused { IfErr result (λ fault. Refuses faults self.old self.new fault) }
         ensures later { faults self.old ≤ faults self.new };
+
+    /// Tells who is at the link's other end that its session has ended. The link itself stays as it is.
+    fn hang_up(_reads: &Self::Reads, _writes: &Self::Writes) {}
 
     /// Takes back a link that was given.
     fn give_back(&mut self, reads: Self::Reads, writes: Self::Writes)

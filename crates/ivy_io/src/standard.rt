@@ -101,6 +101,13 @@ impl<W> StdSink<W> {
         StdSink { writer, faults: 0 }
     }
 
+    /// The writer.
+    pub fn writer(&self) -> &W
+        ensures { result.now ≡ self.now.writer }
+    {
+        &self.writer
+    }
+
     /// The writer, with what it took.
     pub fn into_writer(self) -> W
         ensures { result ≡ self.writer }
