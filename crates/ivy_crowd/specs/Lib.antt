@@ -1,0 +1,4 @@
+pub mod Requests
+pub mod Sessions
+pub mod Crowds
+pub mod Jobs
