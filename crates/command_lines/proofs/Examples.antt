@@ -8,6 +8,7 @@ use Rattle.script_model.specs.declared.command.Piece.TheVariants.{Call, Root, Ha
 use Rattle.script_model.specs.declared.command.KeyWord.TheVariants.{Itself, HeadOf, RecordOf, ViewOf, SnapshotOf}
 use Rattle.script_model.specs.declared.command.NodeWord.TheVariants.{Numbered, OwnerOf}
 use Rattle.script_model.specs.declared.command.Command.TheVariants as command
+use Rattle.script_model.specs.declared.command.Shown.TheVariants as shown
 
 -- ---- nodes, logs, views and the moment
 
@@ -142,7 +143,7 @@ damage_of_no_byte : command_of (codes "damage 1 view:v 0 f") ≡ None
 unfolding command_of hex_on_literals
 damage_of_no_byte = refl
 
-holds : command_of (codes "holds own:1:snap:a") ≡ Some (command.Holds (OwnerOf 1 (SnapshotOf (codes "a"))))
+holds : command_of (codes "holds own:1:snap:a") ≡ Some (command.Show (shown.Holds (OwnerOf 1 (SnapshotOf (codes "a")))))
 unfolding command_of
 holds = refl
 
@@ -168,11 +169,11 @@ keep_neither : command_of (codes "keep a 1 none") ≡ None
 unfolding command_of
 keep_neither = refl
 
-order : command_of (codes "order a") ≡ Some (command.Order (codes "a"))
+order : command_of (codes "order a") ≡ Some (command.Show (shown.Order (codes "a")))
 unfolding command_of
 order = refl
 
-work : command_of (codes "work a") ≡ Some (command.Work (codes "a"))
+work : command_of (codes "work a") ≡ Some (command.Show (shown.Work (codes "a")))
 unfolding command_of
 work = refl
 

@@ -1,17 +1,17 @@
 -- Reading words one after the other, each as a value.
 use Rattle.std.proofs.Common.{◌≡◌, ℕ, ◌^◌, ◌<◌, ◌≤◌, List, [], ◌∷◌, ◌++◌, length, get_or, map, Option, Some, None, Bor, refl, sym, ap, ◌∙◌, nat_le, if◌then◌else◌, arith}
+use Rattle.std.specs.Option.{option_map}
 use Rattle.std.proofs.lemmas.Bool.{le-leb}
 use Rattle.std.proofs.lemmas.List.{length-map}
 use Rattle.hash_signature_model.specs.declared.set.Set.{Set}
 use Rattle.script_model.specs.declared.command.NodeWord.{NodeWord}
 use Rattle.script_model.specs.declared.command.KeyWord.{KeyWord}
 use Rattle.script_model.specs.declared.command.Command.{Command}
+use Rattle.script_model.specs.declared.command.Shown.{Shown}
 use Rattle.script_model.specs.declared.command.Command.TheVariants as command
 use Rattle.script_model.specs.Words.{◌>>=◌, each_of, piece_of, parts_at, set_of, sets_of, number_below, node_of, key_of, byte_of}
-use Rattle.script_model.specs.Lines.{damage_of, open_of}
-use Rattle.command_lines.specs.declared.nodes.NodeAsked.{NodeAsked}
-use Rattle.command_lines.specs.declared.nodes.NodeAsked.TheVariants as asks
-use Rattle.command_lines.specs.Steps.{pieces_of, node_line}
+use Rattle.script_model.specs.Lines.{damage_of, of_node, open_of, show_command, shown_of}
+use Rattle.command_lines.specs.Steps.{pieces_of}
 
 abbrev pub seen : List (Bor (List ℕ)) → List (List ℕ)
 seen words = map (λ w. w.now) words
@@ -82,19 +82,34 @@ damage_without_offset words d four none = rw (damage_parts words d four, none) (
 
 -- ---- a line of one node
 
-pub too_few_for_node : (asked : NodeAsked) (words : List (Bor (List ℕ))) → length words < 1 → node_line asked (seen words) ≡ None
-too_few_for_node asks.Stop [] few = refl
-too_few_for_node asks.Holds [] few = refl
-too_few_for_node asked (n ∷ words) few = absurd (omega (arith, few))
+pub too_few_for_node : (words : List (Bor (List ℕ))) → length words < 1 → of_node (λ node. node) (seen words) ≡ None
+too_few_for_node [] few = refl
+too_few_for_node (n ∷ words) few = absurd (omega (arith, few))
 
-pub too_many_for_node : (asked : NodeAsked) (words : List (Bor (List ℕ))) → 2 ≤ length words → node_line asked (seen words) ≡ None
-too_many_for_node asked [] many = absurd (omega (arith, many))
-too_many_for_node asked (n ∷ []) many = absurd (omega (arith, many))
-too_many_for_node asks.Stop (n ∷ x ∷ words) many = refl
-too_many_for_node asks.Holds (n ∷ x ∷ words) many = refl
+pub too_many_for_node : (words : List (Bor (List ℕ))) → 2 ≤ length words → of_node (λ node. node) (seen words) ≡ None
+too_many_for_node [] many = absurd (omega (arith, many))
+too_many_for_node (n ∷ []) many = absurd (omega (arith, many))
+too_many_for_node (n ∷ x ∷ words) many = refl
 
-pub without_node : (asked : NodeAsked) (words : List (Bor (List ℕ))) (d : Bor (List ℕ)) → length words ≡ 1 → node_of (get_or words 0 d).now ≡ None → node_line asked (seen words) ≡ None
-without_node asked [] d one none = absurd (omega (arith, one))
-without_node asks.Stop (n ∷ []) d one none = rw none refl
-without_node asks.Holds (n ∷ []) d one none = rw none refl
-without_node asked (n ∷ x ∷ words) d one none = absurd (omega (arith, one))
+pub without_node : (words : List (Bor (List ℕ))) (d : Bor (List ℕ)) → length words ≡ 1 → node_of (get_or words 0 d).now ≡ None → of_node (λ node. node) (seen words) ≡ None
+without_node [] d one none = absurd (omega (arith, one))
+without_node (n ∷ []) d one none = rw none refl
+without_node (n ∷ x ∷ words) d one none = absurd (omega (arith, one))
+
+-- what is made of that node
+pub made_of_node : {Made : Type 0} (make : NodeWord → Made) (words : List (List ℕ)) (o : Option NodeWord) → o ≡ of_node (λ node. node) words → option_map make o ≡ of_node make words
+made_of_node make [] o is = ap (option_map make) is
+made_of_node make (n ∷ []) o is = ap (option_map make) is ∙ by (node_of n)
+  where
+    by : (p : Option NodeWord) → option_map make (p >>= λ node. Some node) ≡ (p >>= λ node. Some (make node))
+    by None = refl
+    by (Some node) = refl
+made_of_node make (n ∷ x ∷ words) o is = ap (option_map make) is
+
+-- a line that shows what was read
+pub made_to_show : (word : List ℕ) (words : List (List ℕ)) (o : Option Shown) → o ≡ shown_of word words → option_map command.Show o ≡ show_command word words
+made_to_show word words o is = ap (option_map command.Show) is ∙ by (shown_of word words)
+  where
+    by : (p : Option Shown) → option_map command.Show p ≡ (p >>= λ some. Some (command.Show some))
+    by None = refl
+    by (Some some) = refl

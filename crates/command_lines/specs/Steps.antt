@@ -12,10 +12,11 @@ use Rattle.command_lines.specs.declared.pieces.Short.TheVariants as short
 use Rattle.command_lines.specs.declared.pieces.Long.{Long}
 use Rattle.command_lines.specs.declared.pieces.Long.TheVariants as long
 use Rattle.command_lines.specs.declared.agents.Asked.{Asked}
-use Rattle.command_lines.specs.declared.agents.Asked.TheVariants.{Snap, Restart, Order, Work, Finish}
-use Rattle.script_model.specs.Lines.{stop_of, holds_of}
-use Rattle.command_lines.specs.declared.nodes.NodeAsked.{NodeAsked}
-use Rattle.command_lines.specs.declared.nodes.NodeAsked.TheVariants as asks
+use Rattle.command_lines.specs.declared.agents.Asked.TheVariants.{Snap, Restart, Finish}
+use Rattle.command_lines.specs.declared.shows.ShownAsked.{ShownAsked}
+use Rattle.command_lines.specs.declared.shows.ShownAsked.TheVariants as asks
+use Rattle.script_model.specs.declared.command.Shown.{Shown}
+use Rattle.script_model.specs.declared.command.Shown.TheVariants as shown
 
 -- a piece of a message that is no call
 abbrev pub data_of : List ℕ → Option Piece
@@ -65,11 +66,9 @@ former_of _ = None
 abbrev pub command_asked : Asked → List ℕ → Command
 command_asked Snap = command.Snap
 command_asked Restart = command.Restart
-command_asked Order = command.Order
-command_asked Work = command.Work
 command_asked Finish = command.Finish
 
--- what is asked of a node alone
-abbrev pub node_line : NodeAsked → List (List ℕ) → Option Command
-node_line asks.Stop = stop_of
-node_line asks.Holds = holds_of
+-- what is asked to be shown of a participant
+abbrev pub shown_asked : ShownAsked → List ℕ → Shown
+shown_asked asks.Order = shown.Order
+shown_asked asks.Work = shown.Work

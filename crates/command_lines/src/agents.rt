@@ -18,10 +18,6 @@ pub enum Asked {
     Snap,
     /// `restart P`.
     Restart,
-    /// `order P`.
-    Order,
-    /// `work P`.
-    Work,
     /// `end S`.
     Finish,
 }
@@ -40,8 +36,6 @@ pub fn ask(alloc: Global, asked: Asked, words: &[&[u8]]) -> Result<Option<Comman
     Ok(Some(match asked {
         Asked::Snap => Command::Snap { log },
         Asked::Restart => Command::Restart { log },
-        Asked::Order => Command::Order { log },
-        Asked::Work => Command::Work { log },
         Asked::Finish => Command::Finish { session: log },
     }))
 }

@@ -20,6 +20,7 @@ mod numbers;
 mod pieces;
 mod sets;
 mod setup;
+mod shows;
 mod words;
 
 pub use lines::read_command;

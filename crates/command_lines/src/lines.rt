@@ -5,16 +5,17 @@ ghost use Rattle.script_model.specs.Lines.{call_command, command_of_words, is_co
 
 use crate::agents::{Asked, ask, keep};
 use crate::calls::{begin, call, end, step};
-use crate::nodes::{NodeAsked, ask_node, damage, join, lose, round};
+use crate::nodes::{damage, join, lose, round, stop};
 use crate::setup::{enter, log, moment, ring, view};
+use crate::shows::show;
 use crate::words::{is, parts};
 use ivy_base::Memory;
 use script_driver::LINE_LIMIT;
 use script_model::Command;
 use std::alloc::Global;
 
-/// A command of a call or a session, or one that makes nodes, logs and views, or sets the moment. The error is want of
-/// memory.
+/// A command of a call or a session, or one that makes nodes, logs and views, sets the moment, or shows something. The
+/// error is want of memory.
 fn call_command(alloc: Global, word: &[u8], words: &[&[u8]]) -> Result<Option<Command>, Memory>
     ensures { IfOk result (λ command. command ≡ call_command word.now (map (λ word. word.now) words.now)) }
 {
@@ -37,7 +38,7 @@ fn call_command(alloc: Global, word: &[u8], words: &[&[u8]]) -> Result<Option<Co
     } else if is(word, b"at") {
         Ok(moment(words))
     } else {
-        Ok(None)
+        show(alloc, word, words)
     }
 }
 
@@ -56,22 +57,16 @@ fn command(alloc: Global, words: &[&[u8]]) -> Result<Option<Command>, Memory>
         ask(alloc, Asked::Restart, rest)
     } else if is(word, b"keep") {
         keep(alloc, rest)
-    } else if is(word, b"order") {
-        ask(alloc, Asked::Order, rest)
-    } else if is(word, b"work") {
-        ask(alloc, Asked::Work, rest)
     } else if is(word, b"join") {
         Ok(join(rest))
     } else if is(word, b"stop") {
-        ask_node(alloc, NodeAsked::Stop, rest)
+        stop(alloc, rest)
     } else if is(word, b"round") {
         Ok(round(rest))
     } else if is(word, b"lose") {
         Ok(lose(rest))
     } else if is(word, b"damage") {
         damage(alloc, rest)
-    } else if is(word, b"holds") {
-        ask_node(alloc, NodeAsked::Holds, rest)
     } else {
         call_command(alloc, word, rest)
     }

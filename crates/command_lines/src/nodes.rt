@@ -1,14 +1,14 @@
 //! The lines of nodes and of their blocks.
 
 ghost use Rattle.std.specs.Prelude.{◌≡◌, IfOk, map};
-ghost use Rattle.script_model.specs.Lines.{join_of, round_of, lose_of, damage_of};
-ghost use Rattle.command_lines.specs.Steps.{node_line};
+ghost use Rattle.script_model.specs.declared.command.Command.TheVariants as command;
+ghost use Rattle.script_model.specs.Lines.{join_of, of_node, round_of, lose_of, damage_of};
 
 use crate::hex_digits::byte;
 use crate::keys::{key, node};
 use crate::numbers::{number_u32, number_u64};
 use ivy_base::Memory;
-use script_model::Command;
+use script_model::{Command, NodeWord};
 use std::alloc::Global;
 
 /// `join I`, of the words behind the first.
@@ -22,18 +22,9 @@ pub fn join(words: &[&[u8]]) -> Option<Command>
     Some(Command::Join { node })
 }
 
-/// What a line asks of the one node that it names.
-#[derive(Drop)]
-pub enum NodeAsked {
-    /// `stop NODE`.
-    Stop,
-    /// `holds NODE`.
-    Holds,
-}
-
-/// The line that asks this and nothing more, of the words behind the first. The error is want of memory.
-pub fn ask_node(alloc: Global, asked: NodeAsked, words: &[&[u8]]) -> Result<Option<Command>, Memory>
-    ensures { IfOk result (λ command. command ≡ node_line asked (map (λ word. word.now) words.now)) }
+/// The node that the only word is, if there is one word and it is a node. The error is want of memory.
+pub fn only_node(alloc: Global, words: &[&[u8]]) -> Result<Option<NodeWord>, Memory>
+    ensures { IfOk result (λ node. node ≡ of_node (λ node. node) (map (λ word. word.now) words.now)) }
 {
     let [word] = words else {
         return Ok(None);
@@ -41,10 +32,17 @@ pub fn ask_node(alloc: Global, asked: NodeAsked, words: &[&[u8]]) -> Result<Opti
     let Some(node) = node(alloc, word)? else {
         return Ok(None);
     };
-    Ok(Some(match asked {
-        NodeAsked::Stop => Command::Stop { node },
-        NodeAsked::Holds => Command::Holds { node },
-    }))
+    Ok(Some(node))
+}
+
+/// `stop NODE`, of the words behind the first. The error is want of memory.
+pub fn stop(alloc: Global, words: &[&[u8]]) -> Result<Option<Command>, Memory>
+    ensures { IfOk result (λ read. read ≡ of_node command.Stop (map (λ word. word.now) words.now)) }
+{
+    let Some(node) = only_node(alloc, words)? else {
+        return Ok(None);
+    };
+    Ok(Some(Command::Stop { node }))
 }
 
 /// `round`, of the words behind the first.

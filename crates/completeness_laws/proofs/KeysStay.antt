@@ -222,9 +222,7 @@ module _ (w next : Played) (output : List ℕ) (keeps : Keeps w) where
   command_stays (command.Snap log) quiet does = such (Goes next output) (snap_stays w log (participant w.0 log) refl (Goes next output) does) refl
   command_stays (command.Restart log) quiet does = such (Goes next output) (restart_stays w keeps log (participant w.0 log) refl (Goes next output) does) refl
   command_stays (command.Keep log count new) quiet does = absurd quiet
-  command_stays (command.Holds node) quiet does = still_stays w next (command.Holds node) output tt does
-  command_stays (command.Order log) quiet does = still_stays w next (command.Order log) output tt does
-  command_stays (command.Work log) quiet does = still_stays w next (command.Work log) output tt does
+  command_stays (command.Show shown) quiet does = still_stays w next (command.Show shown) output tt does
   command_stays command.Nothing quiet does = still_stays w next command.Nothing output tt does
   command_stays command.End quiet does = absurd (goes_or_ends does)
     where

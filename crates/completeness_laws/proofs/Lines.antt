@@ -61,9 +61,7 @@ module _ (w next : Played) (output : List ℕ) (keeps : Keeps w) (kept : Keeps n
   command_so (command.Snap log) quiet fits does = such (Goes next output) (snap_so w keeps log (participant w.0 log) refl (Goes next output) does h) refl
   command_so (command.Restart log) quiet fits does = such (Goes next output) (restart_so w keeps log (participant w.0 log) refl (Goes next output) does h) refl
   command_so (command.Keep log count new) quiet fits does = absurd quiet
-  command_so (command.Holds node) quiet fits does = still_so w next (command.Holds node) output tt does h
-  command_so (command.Order log) quiet fits does = still_so w next (command.Order log) output tt does h
-  command_so (command.Work log) quiet fits does = still_so w next (command.Work log) output tt does h
+  command_so (command.Show shown) quiet fits does = still_so w next (command.Show shown) output tt does h
   command_so command.Nothing quiet fits does = still_so w next command.Nothing output tt does h
   command_so command.End quiet fits does = absurd (goes_or_ends does)
     where

@@ -191,9 +191,7 @@ module _ (ring : Stretch) where
     command_heads (command.Snap log) quiet whole does = others (command.Snap log) quiet tt does
     command_heads (command.Restart log) quiet whole does = others (command.Restart log) quiet tt does
     command_heads (command.Keep log count new) quiet whole does = absurd quiet
-    command_heads (command.Holds node) quiet whole does = others (command.Holds node) quiet tt does
-    command_heads (command.Order log) quiet whole does = others (command.Order log) quiet tt does
-    command_heads (command.Work log) quiet whole does = others (command.Work log) quiet tt does
+    command_heads (command.Show shown) quiet whole does = others (command.Show shown) quiet tt does
     command_heads command.Nothing quiet whole does = others command.Nothing quiet tt does
     command_heads command.End quiet whole does = others command.End quiet tt does
 

@@ -188,9 +188,7 @@ module _ (w next : Played) (output : List ℕ) where
   command_names (command.Snap log) quiet none does = such (Goes next output) (snap_names w (participant w.0 log) (Goes next output) does) refl
   command_names (command.Restart log) quiet none does = such (Goes next output) (restart_names w (participant w.0 log) (Goes next output) does) refl
   command_names (command.Keep log count new) quiet none does = absurd quiet
-  command_names (command.Holds node) quiet none does = still_names w next (command.Holds node) output tt does
-  command_names (command.Order log) quiet none does = still_names w next (command.Order log) output tt does
-  command_names (command.Work log) quiet none does = still_names w next (command.Work log) output tt does
+  command_names (command.Show shown) quiet none does = still_names w next (command.Show shown) output tt does
   command_names command.Nothing quiet none does = still_names w next command.Nothing output tt does
   command_names command.End quiet none does = absurd (goes_or_ends does)
     where

@@ -690,9 +690,7 @@ module _ (ring : Stretch) (met : List (List ℕ)) (fits_it : total met ≤ most_
     command_flow (command.Snap log) next output kept up quiet fits tidy does = snap_flow log (participant w.0 log) refl next output up does
     command_flow (command.Restart log) next output kept up quiet fits tidy does = restart_flow log (participant w.0 log) refl tidy next output does
     command_flow (command.Keep log count new) next output kept up quiet fits tidy does = absurd quiet
-    command_flow (command.Holds node) next output kept up quiet fits tidy does = still_flow next (command.Holds node) output tt does
-    command_flow (command.Order log) next output kept up quiet fits tidy does = still_flow next (command.Order log) output tt does
-    command_flow (command.Work log) next output kept up quiet fits tidy does = still_flow next (command.Work log) output tt does
+    command_flow (command.Show shown) next output kept up quiet fits tidy does = still_flow next (command.Show shown) output tt does
     command_flow command.Nothing next output kept up quiet fits tidy does = still_flow next command.Nothing output tt does
     command_flow command.End next output kept up quiet fits tidy does = absurd (goes_or_ends does)
       where

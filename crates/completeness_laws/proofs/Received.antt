@@ -350,9 +350,7 @@ module _ (ring : Stretch) (last : World) (then_more : IsMore ring.end last) wher
     command_told (command.Snap log) next output up quiet does = snap_told (participant w.0 log) next output does
     command_told (command.Restart log) next output up quiet does = restart_told (participant w.0 log) next output does
     command_told (command.Keep log count new) next output up quiet does = absurd quiet
-    command_told (command.Holds node) next output up quiet does = still_told (command.Holds node) next output tt does
-    command_told (command.Order log) next output up quiet does = still_told (command.Order log) next output tt does
-    command_told (command.Work log) next output up quiet does = still_told (command.Work log) next output tt does
+    command_told (command.Show shown) next output up quiet does = still_told (command.Show shown) next output tt does
     command_told command.Nothing next output up quiet does = still_told command.Nothing next output tt does
     command_told command.End next output up quiet does = absurd (goes_or_ends does)
       where

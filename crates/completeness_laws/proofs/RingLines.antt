@@ -127,9 +127,7 @@ module _ (P : Kind → Key → List ℕ → Type 0) where
   ring_changes w next output (command.Snap log) is does = absurd is
   ring_changes w next output (command.Restart log) is does = absurd is
   ring_changes w next output (command.Keep log count new) is does = absurd is
-  ring_changes w next output (command.Holds node) is does = absurd is
-  ring_changes w next output (command.Order log) is does = absurd is
-  ring_changes w next output (command.Work log) is does = absurd is
+  ring_changes w next output (command.Show shown) is does = absurd is
   ring_changes w next output command.Nothing is does = absurd is
   ring_changes w next output command.End is does = absurd is
 

@@ -11,7 +11,7 @@ use Rattle.script_model.specs.declared.command.Command.TheVariants as command
 use Rattle.script_model.specs.declared.command.Piece.{Piece}
 use Rattle.session_model.specs.Courses.Begins.{alone as begins_alone, refreshes as begins_refreshing}
 use Rattle.session_model.specs.Sessions.{Over, Said, Session, Stage}
-use Rattle.world_model.specs.Calls.{AsLine, BeginsWith, Sending, sending_of, shown_end}
+use Rattle.world_model.specs.Calls.{AsLine, BeginsWith, Sending, replied, sending_of, shown_end}
 use Rattle.world_model.specs.Calls.AsLine.{calls}
 use Rattle.world_model.specs.Logs.{Played}
 use Rattle.world_model.specs.Step.{Does}
@@ -24,6 +24,7 @@ use Rattle.world_laws.specs.Keeps.{HasSaid, IsInHand, Keeps}
 use Rattle.world_laws.proofs.AllLines.{does_line}
 use Rattle.world_laws.proofs.Bringing.{found_named}
 use Rattle.world_laws.proofs.EachLine.{each_line_keeps}
+use Rattle.world_laws.proofs.HeadlineOfTrails.{trails_are_heard}
 use Rattle.world_laws.proofs.OneSteps.{GoesWell}
 use Rattle.world_laws.proofs.SessionLinesSteps.{Leads, runs_lead}
 use Rattle.completeness_laws.specs.Completeness.{CallsMissNothingBehindHeads, HaveHeads, IsServed}
@@ -68,15 +69,15 @@ one_command c d e = cc e
 module _ (r : ℕ) (w : Played) (keeps : Keeps w) (world : IsCalmWorld r w) (backed : IsBackedWorld w.0 w.1) (count : ℕ) (lines : List (List ℕ)) (calm : IsCalmAt r w (Stopped count) lines) (have : HaveHeads w) (log : List ℕ) (pieces : List Piece) where
   served : (k : ℕ) → w.0.replicas ≡ Some k → k ≡ r → (s : Sending) → sending_of w.0 log pieces ≡ Some s → (t : Session) (end : Scene) (said : Said) → BeginsWith w.0 s t
       → RunsOut hss_judged k s.by.name (record { world = w.0; story = having_begun w.1; session = t; began = beginning w.1 s.by.name }) end → end.session.stage ≡ Over (Some said)
-      → (next : Played) → next.1 ≡ end.story → IsServed w (command.As log pieces) next (shown_end end.session said)
-  served k also same s sends t end said begins runs over next story_is = record {
+      → (next : Played) → next ≡ (replied end.world said, end.story) → IsServed w (command.As log pieces) next (shown_end end.session said)
+  served k also same s sends t end said begins runs over next next_is = record {
     caused = record {
-      number = end.began.number;
-      session = end.session;
+      end = end;
       said = said;
+      ends = record { replicas = r; ringed = ringed; start = start; begins = (s, t, sends, begins, refl); runs = its_runs; over = over; leaves = next_is; heard = trails_are_heard r t.by its_runs };
       asked_by = (led.same.number, led.same.call.0 ∙ first.0 ∙ named, asked);
       shown = refl;
-      cause = subst (λ st. HasCause st end.began.number end.session said) (sym story_is) (said_at_end end r said led.leaves.1 over);
+      cause = subst (λ st. HasCause st end.began.number end.session said) (sym (ap (λ (n : Played). n.1) next_is)) (said_at_end end r said led.leaves.1 over);
     };
     missed_nothing = ⊎_elim
         (λ on. runs_on r w world backed calm.apart calm.no_key have mine first.0 on)
@@ -107,6 +108,9 @@ module _ (r : ℕ) (w : Played) (keeps : Keeps w) (world : IsCalmWorld r w) (bac
 
       first : (t.by ≡ s.by.name) × (t.message ≡ s.message) × (t.standing.view ≡ s.view)
       first = begins_same w.0 s t begins
+
+      its_runs : RunsOut hss_judged r t.by start end
+      its_runs = subst (λ (n : List ℕ). RunsOut hss_judged r n start end) (sym first.0) mine
 
       led : Leads start end r
       led = runs_lead r s.by.name mine first.0 well.keeps well.hand ringed

@@ -39,7 +39,7 @@ use Rattle.world_laws.specs.Headline.{IsCaused, IsOnReplay}
 -- What is shown is what a session of the line said, and its refresh missed nothing: so the reply says neither that the client is to try again later, nor an IO error of a block.
 pub record IsServed (w : Played) (c : Command) (next : Played) (output : List ℕ) : Type 0 where
   pub caused : IsCaused w c next output
-  pub missed_nothing : caused.session.missed ≡ None
+  pub missed_nothing : caused.end.session.missed ≡ None
 
 -- of each log a put of a head was acknowledged
 abbrev pub HaveHeads : Played → Type 0

@@ -33,7 +33,7 @@ use Rattle.world_laws.specs.Calm.{Calmly, IsCalm, IsCalmAt, Since, Stopped}
 use Rattle.world_laws.specs.Calm.Calmly.{none as calmly_none, more as calmly_more}
 use Rattle.world_laws.specs.Calm.IsCalm.{rounds, joins, stops, other}
 use Rattle.world_laws.specs.Keeps.{HasRing, Keeps}
-use Rattle.world_laws.proofs.AllLines.{does_line}
+use Rattle.world_laws.proofs.AllLines.{does_line, goes_within}
 use Rattle.world_laws.proofs.CalmHeld.{apart_of, calmly_keeps, moment_keeps}
 use Rattle.world_laws.proofs.CalmNodes.{IsMadeRing}
 use Rattle.world_laws.proofs.CalmRounds.{beside_goes, HasNodes, just_settled, round_line}
@@ -63,32 +63,7 @@ within_limit w next output o h = by (nat_lt most_bytes (sum_by (λ b. length b) 
     by false e h = ltb-false most_bytes (sum_by (λ b. length b) w.0.met) e
 
 pub has_room : (w next : Played) (output : List ℕ) (o : Option Command) → MayDoFirst w o (Goes next output) → IsWithinLimit w.0
-has_room w next output None h = within_limit w next output None h
-has_room w next output (Some (command.Ring nodes replicas)) h = within_limit w next output (Some (command.Ring nodes replicas)) h
-has_room w next output (Some (command.Log log id seed sets)) h = within_limit w next output (Some (command.Log log id seed sets)) h
-has_room w next output (Some (command.View view members former)) h = within_limit w next output (Some (command.View view members former)) h
-has_room w next output (Some (command.Use log view)) h = within_limit w next output (Some (command.Use log view)) h
-has_room w next output (Some (command.At sec nsec)) h = within_limit w next output (Some (command.At sec nsec)) h
-has_room w next output (Some (command.As log pieces)) h = within_limit w next output (Some (command.As log pieces)) h
-has_room w next output (Some (command.Open session log pieces)) h = within_limit w next output (Some (command.Open session log pieces)) h
-has_room w next output (Some (command.Step session count)) h = within_limit w next output (Some (command.Step session count)) h
-has_room w next output (Some (command.Finish session)) h = within_limit w next output (Some (command.Finish session)) h
-has_room w next output (Some (command.Join number)) h = within_limit w next output (Some (command.Join number)) h
-has_room w next output (Some (command.Stop node)) h = within_limit w next output (Some (command.Stop node)) h
-has_room w next output (Some command.Round) h = within_limit w next output (Some command.Round) h
-has_room w next output (Some (command.Lose count)) h = within_limit w next output (Some (command.Lose count)) h
-has_room w next output (Some (command.Damage node key offset byte)) h = within_limit w next output (Some (command.Damage node key offset byte)) h
-has_room w next output (Some (command.Snap log)) h = within_limit w next output (Some (command.Snap log)) h
-has_room w next output (Some (command.Restart log)) h = within_limit w next output (Some (command.Restart log)) h
-has_room w next output (Some (command.Keep log count new)) h = within_limit w next output (Some (command.Keep log count new)) h
-has_room w next output (Some (command.Holds node)) h = within_limit w next output (Some (command.Holds node)) h
-has_room w next output (Some (command.Order log)) h = within_limit w next output (Some (command.Order log)) h
-has_room w next output (Some (command.Work log)) h = within_limit w next output (Some (command.Work log)) h
-has_room w next output (Some command.Nothing) h = within_limit w next output (Some command.Nothing) h
-has_room w next output (Some command.End) h = absurd (ends h)
-  where
-    ends : Goes next output ≡ Ends → ⊥
-    ends e = cc e
+has_room w next output o h = within_limit w next output o (goes_within w next output o h)
 
 -- ---- a line
 

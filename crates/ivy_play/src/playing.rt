@@ -26,12 +26,12 @@ pub type Status = u8;
 /// line that meets a limit shows `limit N`. Either ends the run. What follows the line `end` is not looked at.
 ///
 /// A run is defined line by line, by the step of `world_model` together with what is promised of each line
-/// (`PromisedStep` of `stage_laws`). Two things are promised.
+/// (`PromisedStep` of `stage_laws`). Three things are promised.
 ///
 /// The headline, in every run (`Headline` of `world_laws`). Sessions may be open side by side, asks may be lost,
 /// and blocks may be damaged. If no two different blocks have one name, each reply of a turn is the answer of NFS
 /// version 3 (RFC 1813) on one tree. It is the tree that is replayed, from nothing, from one causally closed set of
-/// verified records. Any other reply has its cause.
+/// verified records. Any other reply has its cause in the session at the end of the steps that its line made.
 ///
 /// Calm scripts are served (`IsServedWhereCalm` of `completeness_laws`). In a calm script no ask was lost so far, no
 /// block was damaged, no save failed, and fewer nodes stopped between two rounds than own a key. `IsCalmAt` of
@@ -40,6 +40,14 @@ pub type Status = u8;
 /// - no whole call fails because a block is missing;
 /// - a round of maintenance moves each block to its owners;
 /// - in tidy scripts the turn of a whole call takes all that the members have written, and nothing else.
+///
+/// What stands in the world before each line and after it (`Stands` of `stage_laws`):
+/// - in calm scripts the ring is settled after each round, and covered except between a join and its round;
+/// - of the heads that left an agent no two are over records of one number, and no leaf of any level of its key
+///   signed two things;
+/// - each of these heads was signed under a number below that of the signatures that the saved bytes have;
+/// - what an agent knows of a log is a beginning of one chain, which the log's keeper names. The premise is that
+///   each log has a key of its own, and each judged head that was met was made by its log's agent.
 pub fn play<Q: Source, W: Sink>(alloc: Global, source: &mut Q, sink: &mut W) -> Status
     ensures statuses { (result ≡ 0) ⊎ (result ≡ 3) ⊎ (result ≡ 4) ⊎ (result ≡ 5) ⊎ (result ≡ 6) ⊎ (result ≡ 7) }
 

@@ -1,5 +1,5 @@
 -- Lines that need no session leave as many owners of a key as there were.
-use Rattle.std.proofs.Common.{◌≡◌, ℕ, Bool, true, false, cond, ◌&&◌, List, Option, Some, None, refl, ap, ◌∙◌, nat_le, nat_lt}
+use Rattle.std.proofs.Common.{◌≡◌, ℕ, Bool, true, false, ◌&&◌, List, Option, Some, None, refl, ap, ◌∙◌, nat_le, nat_lt}
 use Rattle.ivy_base.specs.declared.key.Key.{Key}
 use Rattle.ivy_base.specs.declared.key.PubKey.{PubKey}
 use Rattle.dht_ids.specs.declared.ask.Answer.{Answer}
@@ -11,10 +11,12 @@ use Rattle.round_laws.proofs.Rounding.{leaves_the_rest}
 use Rattle.script_driver.specs.Run.{Outcome, Goes, Ends, Refuses, Exceeds}
 use Rattle.script_model.specs.declared.command.KeyWord.{KeyWord}
 use Rattle.script_model.specs.declared.command.NodeWord.{NodeWord}
+use Rattle.script_model.specs.declared.command.Shown.{Shown}
 use Rattle.world_model.specs.Fates.{FateOf, Fates}
 use Rattle.world_model.specs.Fates.FateOf.{lost as ask_lost, stopped as ask_stopped, answers as ask_answered}
 use Rattle.world_model.specs.Fates.Fates.{none as no_asks, more as more_asks}
-use Rattle.world_model.specs.Faults.{damage_by, damage_line, damaged_to, holds_by, holds_line, key_named, lose_line, node_named, order_line, order_text, showing, work_line, work_text}
+use Rattle.world_model.specs.Faults.{damage_by, damage_line, damaged_to, key_named, lose_line, node_named}
+use Rattle.world_model.specs.Shows.{show_line}
 use Rattle.world_model.specs.Logs.{Played, ViewLine, at_line, goes_if, keep_by, keep_line}
 use Rattle.world_model.specs.Logs.ViewLine.{known as view_known, no_members, no_former, one_head_key, exceeds as view_exceeds, makes as view_makes}
 use Rattle.world_model.specs.Nodes.{Node}
@@ -23,6 +25,7 @@ use Rattle.world_model.specs.Ring.JoinLine.{before_ring as join_before_ring, kno
 use Rattle.world_model.specs.Rounds.{RoundLine}
 use Rattle.world_model.specs.Rounds.RoundLine.{before_ring as round_before_ring, goes as round_goes}
 use Rattle.world_model.specs.World.{World, Participant, participant, with_node}
+use Rattle.world_laws.proofs.Shows.{shows_are_still}
 
 -- where the line goes on, as many own a key
 abbrev pub Stays : Option ℕ → Outcome World → Type 0
@@ -43,10 +46,6 @@ StaysPlayed before Exceeds = Unit {0}
 goes_if_stays : (w next : World) (b : Bool) → next.replicas ≡ w.replicas → Stays w.replicas (goes_if b next)
 goes_if_stays w next true same = same
 goes_if_stays w next false same = tt
-
-shows_stays : (w : World) (b : Bool) (text : List ℕ) → Stays w.replicas (cond b (Goes w text) Refuses)
-shows_stays w true text = refl
-shows_stays w false text = tt
 
 pub at_stays : (sec nsec : ℕ) (w : World) → Stays w.replicas (at_line w sec nsec)
 at_stays sec nsec w = goes_if_stays w _ (nat_lt sec 4294967296 && nat_lt nsec 1000000000) refl
@@ -80,22 +79,8 @@ keep_stays log count new w = by (participant w log)
     by None = tt
     by (Some p) = goes_if_stays w _ (nat_lt 0 count) refl
 
-pub holds_stays : (node : NodeWord) (w : World) → Stays w.replicas (holds_line w node)
-holds_stays node w = by (node_named w node)
-  where
-    by : (o : Option Node) → Stays w.replicas (holds_by w o)
-    by None = tt
-    by (Some n) = shows_stays w n.is_live _
-
-showing_stays : (w : World) (text : Participant → List ℕ) (o : Option Participant) → Stays w.replicas (showing w text o)
-showing_stays w text None = tt
-showing_stays w text (Some p) = shows_stays w _ (text p)
-
-pub order_stays : (log : List ℕ) (w : World) → Stays w.replicas (order_line w log)
-order_stays log w = showing_stays w (order_text w) (participant w log)
-
-pub work_stays : (log : List ℕ) (w : World) → Stays w.replicas (work_line w log)
-work_stays log w = showing_stays w work_text (participant w log)
+pub show_stays : (s : Shown) (w : World) → Stays w.replicas (show_line w s)
+show_stays s w = shows_are_still w s (Stays w.replicas) (λ text. refl) tt tt
 
 -- ---- by asks
 

@@ -122,9 +122,7 @@ impl ScriptMachine {
             Command::Keep { log, count, new } => {
                 self.parts.keep(alloc, log.as_slice(), *count, *new)
             }
-            Command::Holds { node } => self.parts.holds(alloc, node),
-            Command::Order { log } => self.parts.order(alloc, log.as_slice()),
-            Command::Work { log } => self.parts.work(alloc, log.as_slice()),
+            Command::Show { shown } => self.parts.show(alloc, shown),
             Command::Nothing => Ok(Taken::Went(Vec::new(alloc))),
             Command::End => Ok(Taken::Ended),
         }

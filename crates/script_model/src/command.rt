@@ -170,6 +170,17 @@ impl Names {
     }
 }
 
+/// What a line shows.
+#[derive(Drop)]
+pub enum Shown {
+    /// `holds NODE`: what a live node holds.
+    Holds { node: NodeWord },
+    /// `order P`: the records that the participant holds.
+    Order { log: Bytes },
+    /// `work P`: how many records the participant's last turn applied.
+    Work { log: Bytes },
+}
+
 /// What a line of a script asks for.
 pub enum Command {
     /// `ring N R`: makes so many nodes that keep so many replicas.
@@ -255,17 +266,9 @@ pub enum Command {
         count: u64,
         new: bool,
     },
-    /// `holds NODE`: shows what a live node holds.
-    Holds {
-        node: NodeWord,
-    },
-    /// `order P`: shows the records that the participant holds.
-    Order {
-        log: Bytes,
-    },
-    /// `work P`: shows how many records the participant's last turn applied.
-    Work {
-        log: Bytes,
+    /// Shows something, and changes nothing.
+    Show {
+        shown: Shown,
     },
     /// An empty line, or one that begins with `#`: does nothing.
     Nothing,
@@ -321,9 +324,7 @@ impl Drop for Command {
                 count: _,
                 new: _,
             } => {}
-            Command::Holds { node: _ } => {}
-            Command::Order { log: _ } => {}
-            Command::Work { log: _ } => {}
+            Command::Show { shown: _ } => {}
             Command::Round | Command::Nothing | Command::End => {}
         }
     }

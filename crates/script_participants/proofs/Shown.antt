@@ -10,13 +10,13 @@ use Rattle.ivy_base.specs.Naming.{owner_cmp}
 use Rattle.log_model.specs.Record.{Record}
 use Rattle.log_model.specs.Rank.{weight}
 use Rattle.world_model.specs.Agents.{own}
-use Rattle.world_model.specs.Faults.{order_text, record_line, work_text}
+use Rattle.world_model.specs.Shows.{order_text, record_line, work_text}
 use Rattle.world_model.specs.World.{World, Participant, name_of_owner}
 use Rattle.script_participants.specs.ParticipantState.{ParticipantState, HasParticipants, state_of}
 use Rattle.script_participants.specs.RecordLines.{line_of, lines_of, owner_name}
 use Rattle.script_participants.proofs.Named.{find_seen}
 
-pub work_shown : (s : ParticipantState) (text : List ℕ) → text ≡ codes "work " ++ s.name ++ 32 ∷ decimal s.work ++ 10 ∷ [] → (p : Participant) → state_of p ≡ s → text ≡ work_text p
+pub work_shown : (s : ParticipantState) (text : List ℕ) → text ≡ codes "work " ++ s.name ++ 32 ∷ decimal s.work ++ 10 ∷ [] → (p : Participant) → state_of p ≡ s → text ≡ codes "work " ++ work_text p
 work_shown s text is p same = is ∙ ap (λ (t : ParticipantState). codes "work " ++ t.name ++ 32 ∷ decimal t.work ++ 10 ∷ []) (sym same)
 
 module _ (w : World) (ps : List ParticipantState) (has : HasParticipants w ps) where
@@ -47,7 +47,7 @@ module _ (w : World) (ps : List ParticipantState) (has : HasParticipants w ps) w
   order_seen s rs = codes "order " ++ s.name ++ 32 ∷ decimal (length rs) ++ 10 ∷ flat_map (record_line w) rs
 
   pub order_shown : (s : ParticipantState) (count : ℕ) (front text : List ℕ) (rs : List Record) → rs ≡ s.agent.holding.held → count ≡ length rs → front ≡ codes "order " ++ s.name ++ 32 ∷ decimal count ++ 10 ∷ []
-      → text ≡ front ++ lines_of ps rs → (p : Participant) → state_of p ≡ s → text ≡ order_text w p
+      → text ≡ front ++ lines_of ps rs → (p : Participant) → state_of p ≡ s → text ≡ codes "order " ++ order_text w p
   order_shown s count front text rs held counted line is p same =
       is ∙ ap (λ f. f ++ lines_of ps rs) line ∙ joined s.name (decimal count) (lines_of ps rs)
       ∙ (λ i. codes "order " ++ s.name ++ 32 ∷ decimal (counted i) ++ 10 ∷ lines_shown rs i)

@@ -17,7 +17,7 @@
 //! Lemmas to cite: `changed_has` of `proofs/Places.antt`: where no two have one name, a world with the changed one has the
 //! participants then.
 //! Definitions: `specs/*.antt`, and `world_model`'s `specs/Agents.antt`, `specs/Keepers.antt`, `specs/Logs.antt` and
-//! `specs/Faults.antt`.
+//! `specs/Shows.antt`.
 //!
 //! Costs: a participant is found by a walk over the names, and a log's name by a walk over the keys. A record that counts as made
 //! is looked for among the numbers of those that do. Entering a view and starting

@@ -1,6 +1,6 @@
 //! Who writes a log.
 
-ghost use Rattle.std.specs.Prelude.{◌≡◌, ◌≢◌, ◌≤◌, ◌+◌, ◌==◌, length, find, option_map, None, IfOk, OnOk, OnErr, IfSome, IsSomeAnd};
+ghost use Rattle.std.specs.Prelude.{◌≡◌, ◌≢◌, ◌≤◌, ◌+◌, ◌==◌, ◌++◌, codes, length, find, option_map, None, IfOk, OnOk, OnErr, IfSome, IsSomeAnd};
 ghost use Rattle.std.specs.Borrow.{sem};
 ghost use Rattle.hash_signature_model.specs.Signer.{left_of};
 ghost use Rattle.log_fetch.specs.Standings.{asked_of, refresh_of, standing_of};
@@ -10,7 +10,7 @@ ghost use Rattle.ivy_agent.specs.Answering.{IsCall};
 ghost use Rattle.ivy_agent.specs.Bounds.{HasBounds};
 ghost use Rattle.ivy_agent.specs.Turns.{IsFetchedIn};
 ghost use Rattle.world_model.specs.Agents.{opened, own, standing_in};
-ghost use Rattle.world_model.specs.Faults.{work_text};
+ghost use Rattle.world_model.specs.Shows.{work_text};
 ghost use Rattle.world_model.specs.Keepers.{with_fault};
 ghost use Rattle.world_model.specs.Logs.{newcomer};
 ghost use Rattle.world_model.specs.World.{Participant as Seen};
@@ -246,7 +246,7 @@ impl Participant {
 
     /// What the line `work` shows: how many records its last turn applied. The error is want of memory.
     pub fn work_text(&self, alloc: Global) -> Result<Vec<u8>, Memory>
-        ensures { IfOk result (λ text. (p : Seen) → state_of p ≡ self.now → text.items ≡ work_text p) }
+        ensures { IfOk result (λ text. (p : Seen) → state_of p ≡ self.now → text.items ≡ codes "work " ++ work_text p) }
     {
         counted_line(alloc, b"work ".as_slice(), self.name.as_slice(), self.work)
     }

@@ -1,6 +1,6 @@
 //! All who write logs.
 
-ghost use Rattle.std.specs.Prelude.{◌≡◌, ◌<◌, ◌++◌, [], ◌∷◌, length, find, map, position, get_or, option_map, IfOk, OnOk, OnErr};
+ghost use Rattle.std.specs.Prelude.{◌≡◌, ◌<◌, ◌++◌, [], ◌∷◌, codes, length, find, map, position, get_or, option_map, IfOk, OnOk, OnErr};
 ghost use Rattle.std.specs.Borrow.{sem};
 ghost use Rattle.std.specs.List.{flat_map};
 ghost use Rattle.std.specs.Ordering.{eq_by_cmp};
@@ -8,7 +8,7 @@ ghost use Rattle.std.specs.Str.{bytes_eq};
 ghost use Rattle.ivy_base.specs.Naming.{owner_cmp};
 ghost use Rattle.log_records.specs.Records.{record_of, records_of};
 ghost use Rattle.world_model.specs.Agents.{own};
-ghost use Rattle.world_model.specs.Faults.{order_text};
+ghost use Rattle.world_model.specs.Shows.{order_text};
 ghost use Rattle.world_model.specs.Logs.{keys_of};
 ghost use Rattle.world_model.specs.World.{World, Participant as Seen, name_of_owner, participant};
 
@@ -111,7 +111,7 @@ impl Participants {
     /// What the line `order` shows of a participant: how many records it holds, and then each of them, in their order. The error is
     /// want of memory; it also comes where a record's vector has more than 2^31 entries.
     pub fn order_text(&self, alloc: Global, one: &Participant) -> Result<Vec<u8>, Memory>
-        ensures { IfOk result (λ text. (w : World) (p : Seen) → HasParticipants w self.now → state_of p ≡ one.now → text.items ≡ order_text w p) }
+        ensures { IfOk result (λ text. (w : World) (p : Seen) → HasParticipants w self.now → state_of p ≡ one.now → text.items ≡ codes "order " ++ order_text w p) }
     {
         let held = one.order();
         let mut text = counted_line(alloc, b"order ".as_slice(), one.name(), held.len() as u64)?;

@@ -11,8 +11,8 @@ use Rattle.dht_ids.specs.declared.post.Post.{Post}
 use Rattle.dhash_model.specs.Stores.{Block, Blocks}
 use Rattle.node_store.specs.Stores.{post_of}
 use Rattle.ring_model.proofs.Lists.{none_some, some_same}
-use Rattle.script_driver.specs.Run.{Goes, Refuses}
-use Rattle.world_model.specs.Faults.{holds_by, holds_text}
+use Rattle.script_driver.specs.Run.{Goes}
+use Rattle.world_model.specs.Shows.{Absent, Text, holds_text, of_live, shown_as}
 use Rattle.world_model.specs.Nodes.{Node}
 use Rattle.world_model.specs.World.{World, peer_of}
 use Rattle.ring_nodes.specs.NodesState.{IsPeerOf, held_by, node_of}
@@ -25,7 +25,7 @@ lines_are (b ∷ blocks) = ap (λ (rest : List ℕ). (encode_lower b.0.0 ++ 10 �
 
 module _ (w : World) (s : PartsState) (has : HasParts w s) where
   pub shows_held : (named : Option Node) (peer : Peer) (held : List Post) (output : List ℕ) → IsPeerOf s.nodes named (Some peer) → Some held ≡ held_by (node_of s.nodes peer.id)
-      → output ≡ codes "holds " ++ decimal peer.number ++ 32 ∷ decimal (length held) ++ 10 ∷ key_lines held → (next : World) × (Goes next output ≡ holds_by w named) × GoesOn w s next
+      → output ≡ codes "holds " ++ decimal peer.number ++ 32 ∷ decimal (length held) ++ 10 ∷ key_lines held → (next : World) × (Goes next output ≡ shown_as w (codes "holds") (of_live named)) × GoesOn w s next
   shows_held None peer held output is held_is text = absurd (none_some peer (sym is))
   shows_held (Some n) peer held output is held_is text = (w, by n.is_live refl, (has, refl))
     where
@@ -38,7 +38,7 @@ module _ (w : World) (s : PartsState) (has : HasParts w s) where
       here : Some held ≡ held_by (Some n)
       here = held_is ∙ ap held_by at
 
-      by : (live : Bool) → n.is_live ≡ live → Goes w output ≡ cond live (Goes w (holds_text n)) Refuses
+      by : (live : Bool) → n.is_live ≡ live → Goes w output ≡ shown_as w (codes "holds") (cond live (Text (holds_text n)) Absent)
       by true lives =
           let are : held ≡ map post_of n.blocks = some_same held (map post_of n.blocks) (here ∙ ap (λ (b : Bool). cond b (Some (map post_of n.blocks)) None) lives) in
           ap (λ (o : List ℕ). Goes w o)

@@ -9,8 +9,8 @@
 //! afterwards has the new parts and the same open sessions (`DoesIn`; `PlaysIn` for a world with its ghost
 //! state).
 //! - So it is with [`Parts::ring`], [`Parts::join`], [`Parts::round`], [`Parts::stop`], [`Parts::at`],
-//!   [`Parts::make_view`] (the line `view`), [`Parts::lose`], [`Parts::damage`], [`Parts::keep`],
-//!   [`Parts::holds`], [`Parts::order`] and [`Parts::work`].
+//!   [`Parts::make_view`] (the line `view`), [`Parts::lose`], [`Parts::damage`], [`Parts::keep`] and
+//!   [`Parts::show`] (each line that shows something).
 //! - [`Parts::use_view`] (the line `use`) does so too, but sessions may end (`EndsSessionsIn`).
 //! - [`Parts::restart`] does so in worlds that satisfy the invariant (`EndsSessionsWell`,
 //!   `specs/Starting.antt`).
@@ -32,7 +32,7 @@
 //! (`proofs/MadeViews.antt`), which the proofs here cite.
 //!
 //! Definitions: `specs/*.antt`, and of `world_model` `specs/Logs.antt`, `specs/Ring.antt`,
-//! `specs/Rounds.antt` and `specs/Faults.antt`.
+//! `specs/Rounds.antt`, `specs/Faults.antt` and `specs/Shows.antt`.
 //!
 //! Lemmas: `proofs/NamedIn.antt` (what a line names), `proofs/Keeping.antt` (a participant that is named and
 //! changed), `proofs/Taking.antt` (the outcome of a line that was taken). Over them stands a file for the

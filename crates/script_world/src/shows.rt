@@ -9,16 +9,28 @@ use crate::parts::Parts;
 use dht_ids::Post;
 use ivy_base::{Key, Memory};
 use script_driver::Taken;
-use script_model::NodeWord;
+use script_model::{NodeWord, Shown};
 use std::alloc::Global;
 
 impl Parts {
-    ghost use Rattle.world_model.specs.Faults.{holds_line, order_line, work_line};
+    ghost use Rattle.script_model.specs.declared.command.Shown.TheVariants as shown;
+    ghost use Rattle.world_model.specs.Shows.{show_line};
     ghost use Rattle.script_world.specs.PartsState.{DoesIn};
 
+    /// A line that shows something. The error is want of memory.
+    pub fn show(&self, alloc: Global, what: &Shown) -> Result<Taken, Memory>
+        ensures { IfOk result (λ taken. DoesIn (λ w outcome. outcome ≡ show_line w what.now) self.now taken self.now) }
+    {
+        match what {
+            Shown::Holds { node } => self.holds(alloc, node),
+            Shown::Order { log } => self.order(alloc, log.as_slice()),
+            Shown::Work { log } => self.work(alloc, log.as_slice()),
+        }
+    }
+
     /// The line `holds`: shows the keys of the blocks that a live node holds, ascending. The error is want of memory.
-    pub fn holds(&self, alloc: Global, node: &NodeWord) -> Result<Taken, Memory>
-        ensures { IfOk result (λ taken. DoesIn (λ w outcome. outcome ≡ holds_line w node.now) self.now taken self.now) }
+    fn holds(&self, alloc: Global, node: &NodeWord) -> Result<Taken, Memory>
+        ensures { IfOk result (λ taken. DoesIn (λ w outcome. outcome ≡ show_line w (shown.Holds node.now)) self.now taken self.now) }
     {
         let Some(peer) = self.peer_named(alloc, node)? else {
             return Ok(Taken::Refused);
@@ -30,8 +42,8 @@ impl Parts {
     }
 
     /// The line `order`: shows the records that a participant in a view holds. The error is want of memory.
-    pub fn order(&self, alloc: Global, log: &[u8]) -> Result<Taken, Memory>
-        ensures { IfOk result (λ taken. DoesIn (λ w outcome. outcome ≡ order_line w log.now) self.now taken self.now) }
+    fn order(&self, alloc: Global, log: &[u8]) -> Result<Taken, Memory>
+        ensures { IfOk result (λ taken. DoesIn (λ w outcome. outcome ≡ show_line w (shown.Order log.now)) self.now taken self.now) }
     {
         let Some(one) = self.participants.named(log) else {
             return Ok(Taken::Refused);
@@ -44,8 +56,8 @@ impl Parts {
 
     /// The line `work`: shows how many records a participant's last turn applied, where it is in a view. The error is want of
     /// memory.
-    pub fn work(&self, alloc: Global, log: &[u8]) -> Result<Taken, Memory>
-        ensures { IfOk result (λ taken. DoesIn (λ w outcome. outcome ≡ work_line w log.now) self.now taken self.now) }
+    fn work(&self, alloc: Global, log: &[u8]) -> Result<Taken, Memory>
+        ensures { IfOk result (λ taken. DoesIn (λ w outcome. outcome ≡ show_line w (shown.Work log.now)) self.now taken self.now) }
     {
         let Some(one) = self.participants.named(log) else {
             return Ok(Taken::Refused);

@@ -1,4 +1,7 @@
 pub mod Stage
 pub mod Replies
 pub mod FullRuns
+mod Signing
+pub mod Stands
 pub mod Promised
+pub mod Statuses

@@ -7,6 +7,7 @@ use Rattle.completeness_laws.proofs.CalmLines.{lines_are_served}
 use Rattle.stage_laws.specs.Promise.{PromisedDoesSomething, PromisedKeeps, PromisedLongLinesStop, StagePromises}
 use Rattle.stage_laws.specs.Stage.{StageStep}
 use Rattle.stage_laws.proofs.Replies.{stage_has_headline}
+use Rattle.stage_laws.proofs.Stands.{all_stands}
 use Rattle.stage_laws.proofs.Stage.{long_lines_stop, stage_does_something, stage_keeps, what_goes_is_a_step}
 
 -- a line of the stage that goes on is a line of all steps
@@ -14,7 +15,12 @@ goes_on : (w : Played) (line : List ℕ) (outcome : Outcome Played) → StageSte
 goes_on w line outcome step next output is = (what_goes_is_a_step w next line output (subst (λ o. StageStep w line o) is step)).1
 
 pub each_promises : StagePromises
-each_promises w line outcome keeps step = record { headline = stage_has_headline w line outcome keeps step; calm = lines_are_served w line outcome (goes_on w line outcome step) }
+each_promises w line outcome keeps step = record {
+  headline = stage_has_headline w line outcome keeps step;
+  calm = lines_are_served w line outcome (goes_on w line outcome step);
+  before = all_stands w keeps.0;
+  after = λ next output is. all_stands next (stage_keeps w next line output keeps (subst (λ o. StageStep w line o) is step)).0;
+}
 
 pub promised_keeps : PromisedKeeps
 promised_keeps w next line output keeps step = stage_keeps w next line output keeps step.0

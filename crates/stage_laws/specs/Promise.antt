@@ -1,20 +1,23 @@
 -- What is promised of each line of a script.
-use Rattle.std.specs.Prelude.{ℕ, List, ◌<◌, length}
+use Rattle.std.specs.Prelude.{◌≡◌, ℕ, List, ◌<◌, length}
 use Rattle.script_driver.specs.Run.{Outcome, Goes, WithLaw, line_limit}
 use Rattle.world_model.specs.Logs.{Played}
 use Rattle.world_laws.specs.Headline.{Headline}
 use Rattle.completeness_laws.specs.CalmLines.{IsServedWhereCalm}
 use Rattle.stage_laws.specs.Stage.{KeepsAll, StageStep}
+use Rattle.stage_laws.specs.Stands.{Stands}
 
--- Two things are promised.
 -- The headline: each turn's reply is the file system's answer on the replay of one causally closed set of verified records.
 -- Each other reply has its cause.
 -- Service in calm scripts. If the world was reached calmly, every block whose put was acknowledged is stored and can be read.
 -- No whole call fails because a block is missing, and a round moves each block to its owners.
 -- If the world was reached tidily too, the turn of a whole call takes all that the members have written, and nothing else.
+-- What stands in the world before the line and in the world after it: the ring of a calm script, the heads that left, one truth.
 pub record Promise (w : Played) (line : List ℕ) (outcome : Outcome Played) : Type 0 where
   pub headline : Headline w line outcome
   pub calm : IsServedWhereCalm w line outcome
+  pub before : Stands w
+  pub after : (next : Played) (output : List ℕ) → outcome ≡ Goes next output → Stands next
 
 -- The step of a line, with the promise.
 abbrev pub PromisedStep : Played → List ℕ → Outcome Played → Type 0

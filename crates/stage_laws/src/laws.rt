@@ -13,6 +13,7 @@ ghost use Rattle.stage_laws.specs.Laws.{
   StageRepliesAreOnReplay,
   WhatGoesIsAStep,
 };
+ghost use Rattle.stage_laws.specs.Statuses.{AnswersAreByTree, FinishesAreByTree, PlansAreByTree, TurnsRefuseSo};
 
 /// Laws and no code: a script begins in a world that keeps what it should, without a snapshot; each line of this stage that goes
 /// on leaves such a world, each has an outcome in such a world, and one that is too long doesn't go on.
@@ -44,12 +45,21 @@ pub fn stage_runs_fully()
     ensures tell { StageRunsTell }
 {}
 
-/// Laws and no code: what is promised of a line holds of each line of this stage from such a world: the headline, and that calm
-/// scripts are served. So the step with its promise leads on to such worlds, each line has an outcome by it, and one that is too long
-/// doesn't go on.
+/// Laws and no code: what is promised of a line holds of each line of this stage from such a world: the headline, that calm scripts
+/// are served, and what stands before and after the line. So the step with its promise leads on to such worlds, each line has an
+/// outcome by it, and one that is too long doesn't go on.
 pub fn stage_lines_are_promised()
     ensures promises { StagePromises }
     ensures keeps { PromisedKeeps }
     ensures does { PromisedDoesSomething }
     ensures stops { PromisedLongLinesStop }
+{}
+
+/// Laws and no code: what is answered, planned and finished on a tree is never refused with IO (5), ROFS (30), SERVERFAULT (10006) or
+/// JUKEBOX (10008). So a turn refuses by its trees, or with ROFS, or with SERVERFAULT where its keeper has failed since its start.
+pub fn trees_refuse_by_themselves()
+    ensures answers { AnswersAreByTree }
+    ensures plans { PlansAreByTree }
+    ensures finishes { FinishesAreByTree }
+    ensures turns { TurnsRefuseSo }
 {}

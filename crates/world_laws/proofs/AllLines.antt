@@ -6,7 +6,7 @@ use Rattle.script_driver.specs.Run.{Goes, Ends, Refuses, Exceeds}
 use Rattle.script_model.specs.declared.command.Command.{Command}
 use Rattle.script_model.specs.declared.command.Command.TheVariants as command
 use Rattle.world_model.specs.Logs.{Played}
-use Rattle.world_model.specs.Step.{Does, MayDoFirst, WithinLimit, most_bytes}
+use Rattle.world_model.specs.Step.{Does, MayDoFirst, WithinLimit, is_end, most_bytes}
 use Rattle.world_laws.specs.Keeps.{Keeps}
 use Rattle.world_laws.proofs.Lines.{damage_lines_keep, keeper_lines_keep, still_lines_keep, stop_lines_keep}
 use Rattle.world_laws.proofs.RingLines.{join_lines_keep, ring_lines_keep, round_lines_keep}
@@ -39,30 +39,16 @@ does_any : (w next : Played) (output : List ℕ) (o : Option Command) → Within
 does_any w next output None h = absurd (goes_or_refuses next output (within (nat_lt most_bytes (sum_by (λ b. length b) w.0.met)) next output (Goes next output ≡ Refuses) h))
 does_any w next output (Some c) h = (c, refl, within (nat_lt most_bytes (sum_by (λ b. length b) w.0.met)) next output (Does hss_judged w c (Goes next output)) h)
 
+-- it isn't the end
+pub goes_within : (w next : Played) (output : List ℕ) (o : Option Command) → MayDoFirst w o (Goes next output) → WithinLimit w o (Goes next output)
+goes_within w next output o h = by (is_end o) h
+  where
+    by : (b : Bool) → MatchBool b (Goes next output ≡ Ends) (WithinLimit w o (Goes next output)) → WithinLimit w o (Goes next output)
+    by true h = absurd (goes_or_ends next output h)
+    by false h = h
+
 pub does_line : (w next : Played) (output : List ℕ) (o : Option Command) → MayDoFirst w o (Goes next output) → Done w o next output
-does_line w next output None h = does_any w next output None h
-does_line w next output (Some (command.Ring nodes replicas)) h = does_any w next output (Some (command.Ring nodes replicas)) h
-does_line w next output (Some (command.Log log id seed sets)) h = does_any w next output (Some (command.Log log id seed sets)) h
-does_line w next output (Some (command.View view members former)) h = does_any w next output (Some (command.View view members former)) h
-does_line w next output (Some (command.Use log view)) h = does_any w next output (Some (command.Use log view)) h
-does_line w next output (Some (command.At sec nsec)) h = does_any w next output (Some (command.At sec nsec)) h
-does_line w next output (Some (command.As log pieces)) h = does_any w next output (Some (command.As log pieces)) h
-does_line w next output (Some (command.Open session log pieces)) h = does_any w next output (Some (command.Open session log pieces)) h
-does_line w next output (Some (command.Step session count)) h = does_any w next output (Some (command.Step session count)) h
-does_line w next output (Some (command.Finish session)) h = does_any w next output (Some (command.Finish session)) h
-does_line w next output (Some (command.Join number)) h = does_any w next output (Some (command.Join number)) h
-does_line w next output (Some (command.Stop node)) h = does_any w next output (Some (command.Stop node)) h
-does_line w next output (Some command.Round) h = does_any w next output (Some command.Round) h
-does_line w next output (Some (command.Lose count)) h = does_any w next output (Some (command.Lose count)) h
-does_line w next output (Some (command.Damage node key offset byte)) h = does_any w next output (Some (command.Damage node key offset byte)) h
-does_line w next output (Some (command.Snap log)) h = does_any w next output (Some (command.Snap log)) h
-does_line w next output (Some (command.Restart log)) h = does_any w next output (Some (command.Restart log)) h
-does_line w next output (Some (command.Keep log count new)) h = does_any w next output (Some (command.Keep log count new)) h
-does_line w next output (Some (command.Holds node)) h = does_any w next output (Some (command.Holds node)) h
-does_line w next output (Some (command.Order log)) h = does_any w next output (Some (command.Order log)) h
-does_line w next output (Some (command.Work log)) h = does_any w next output (Some (command.Work log)) h
-does_line w next output (Some command.Nothing) h = does_any w next output (Some command.Nothing) h
-does_line w next output (Some command.End) h = absurd (goes_or_ends next output h)
+does_line w next output o h = does_any w next output o (goes_within w next output o h)
 
 -- ---- each command
 
@@ -96,8 +82,6 @@ command_keeps w next output (command.Damage node key offset byte) left keeps doe
 command_keeps w next output (command.Snap log) left keeps does = left (inl tt)
 command_keeps w next output (command.Restart log) left keeps does = restart_lines_keep log w next output keeps does
 command_keeps w next output (command.Keep log count new) left keeps does = keeper_lines_keep log count new w next output keeps does
-command_keeps w next output (command.Holds node) left keeps does = still_lines_keep (command.Holds node) tt w next output keeps does
-command_keeps w next output (command.Order log) left keeps does = still_lines_keep (command.Order log) tt w next output keeps does
-command_keeps w next output (command.Work log) left keeps does = still_lines_keep (command.Work log) tt w next output keeps does
+command_keeps w next output (command.Show shown) left keeps does = still_lines_keep (command.Show shown) tt w next output keeps does
 command_keeps w next output command.Nothing left keeps does = still_lines_keep command.Nothing tt w next output keeps does
 command_keeps w next output command.End left keeps does = absurd (goes_or_ends next output does)

@@ -46,8 +46,7 @@ use Rattle.world_model.specs.Calls.AsLine.{sends_nothing as whole_sends_nothing,
 use Rattle.world_model.specs.Calls.OpenLine.{sends_nothing as opening_sends_nothing, is_open as opening_is_open, opens as opening_opens}
 use Rattle.world_model.specs.Calls.StepLine.{not_open as stepping_not_open, out_of_range as stepping_out_of_range, steps as stepping_steps}
 use Rattle.world_model.specs.Calls.FinishLine.{not_open as finishing_not_open, ends as finishing_ends}
-use Rattle.world_model.specs.Faults.{holds_by, holds_line, holds_text, node_named, order_line, order_text, showing, work_line, work_text}
-use Rattle.world_model.specs.Nodes.{Node}
+use Rattle.world_model.specs.Shows.{show_line}
 use Rattle.world_model.specs.Step.{Does}
 use Rattle.round_laws.proofs.Nodes.{Shape}
 use Rattle.round_laws.proofs.Fixing.{fates_first, fates_none as fates_nothing}
@@ -55,6 +54,7 @@ use Rattle.world_laws.specs.Calm.{IsQuiet}
 use Rattle.world_laws.proofs.Bringing.{found_named}
 use Rattle.world_laws.proofs.Frames.{all_mapped, into_map}
 use Rattle.world_laws.proofs.Lines.{meets_it, meets_more}
+use Rattle.world_laws.proofs.Shows.{shows_are_still}
 use Rattle.world_laws.proofs.NodeFates.{fate_rest}
 use Rattle.world_laws.proofs.SignedAmong.{met_stays, met_then}
 use Rattle.world_laws.proofs.SignedHeads.{from_map}
@@ -255,22 +255,6 @@ module _ (r : ℕ) (base : List Shape) (links : Peer → Links Peer) (start : �
   of_at w sec nsec true = changes_go r base links start ring Met Left w.0 _ w.1 w.1 refl refl refl refl refl (λ b h. h) (λ h ss. ss) refl
   of_at w sec nsec false = tt
 
-  of_holds : (w : Played) (n : Option Node) → OnwardIn w (holds_by w.0 n)
-  of_holds w None = tt
-  of_holds w (Some n) = by n.is_live
-    where
-      by : (t : Bool) → OnwardIn w (cond t (Goes w.0 (holds_text n)) Refuses)
-      by true = still_goes w
-      by false = tt
-
-  of_showing : (w : Played) (text : Participant → List ℕ) (p : Option Participant) → OnwardIn w (showing w.0 text p)
-  of_showing w text None = tt
-  of_showing w text (Some p) = by (is_some p.agent.view)
-    where
-      by : (t : Bool) → OnwardIn w (cond t (Goes w.0 (text p)) Refuses)
-      by true = still_goes w
-      by false = tt
-
   -- a log begins
   of_log : (w : Played) (name id seed : List ℕ) (sets : List Set) (o : Outcome Played) → w.0.replicas ≡ Some r → LogLine hss_judged w name id seed sets o → Onward w o
   of_log w name id seed sets _ ringed (log_before_ring h) = tt
@@ -437,9 +421,7 @@ module _ (r : ℕ) (base : List Shape) (links : Peer → Links Peer) (start : �
   of_command w (command.Snap log) outcome ringed quiet does = of_snap w log (participant w.0 log) outcome ringed refl does
   of_command w (command.Restart log) outcome ringed quiet does = of_restart w log (participant w.0 log) outcome refl does
   of_command w (command.Keep log count new) outcome ringed quiet does = absurd quiet
-  of_command w (command.Holds node) outcome ringed quiet does = by_function w (holds_line w.0 node) outcome does (of_holds w (node_named w.0 node))
-  of_command w (command.Order log) outcome ringed quiet does = by_function w (order_line w.0 log) outcome does (of_showing w (order_text w.0) (participant w.0 log))
-  of_command w (command.Work log) outcome ringed quiet does = by_function w (work_line w.0 log) outcome does (of_showing w work_text (participant w.0 log))
+  of_command w (command.Show shown) outcome ringed quiet does = by_function w (show_line w.0 shown) outcome does (shows_are_still w.0 shown (OnwardIn w) (λ text. still_goes w) tt tt)
   of_command w command.Nothing outcome ringed quiet does = subst (Onward w) (sym does) (still_goes w)
   of_command w command.End outcome ringed quiet does = subst (Onward w) (sym does) tt
 

@@ -8,11 +8,12 @@ use Rattle.script_model.specs.declared.command.Command.{Command}
 use Rattle.script_model.specs.declared.command.Command.TheVariants as command
 use Rattle.script_model.specs.Lines.{command_of}
 use Rattle.world_model.specs.Calls.{sending_of}
-use Rattle.world_model.specs.Faults.{damage_line, holds_line, lose_line, node_named, order_line, work_line}
+use Rattle.world_model.specs.Faults.{damage_line, lose_line, node_named}
 use Rattle.world_model.specs.Logs.{Played, at_line, keep_line, keys_of}
 use Rattle.world_model.specs.Ring.{JoinLine, RingLine, stop_line}
 use Rattle.world_model.specs.Rounds.{RoundLine}
-use Rattle.world_model.specs.Step.{Does, IvyStep, MayDo, MayDoFirst, WithinLimit, most_bytes}
+use Rattle.world_model.specs.Shows.{show_line}
+use Rattle.world_model.specs.Step.{Does, IvyStep, MayDo, MayDoFirst, WithinLimit, is_end, most_bytes}
 use Rattle.world_model.specs.Story.{Story}
 use Rattle.world_model.specs.World.{World, participant, session_named, view_named}
 use Rattle.world_laws.specs.Keeps.{Keeps}
@@ -43,9 +44,7 @@ command_does w st keeps (command.Damage node key offset byte) can fits = by_func
 command_does w st keeps (command.Snap log) can fits = snap_line w st keeps log (participant w log) refl can
 command_does w st keeps (command.Restart log) can fits = restart_line w st keeps log (participant w log) refl
 command_does w st keeps (command.Keep log count new) can fits = by_function w (keep_line w log count new)
-command_does w st keeps (command.Holds node) can fits = by_function w (holds_line w node)
-command_does w st keeps (command.Order log) can fits = by_function w (order_line w log)
-command_does w st keeps (command.Work log) can fits = by_function w (work_line w log)
+command_does w st keeps (command.Show shown) can fits = by_function w (show_line w shown)
 command_does w st keeps command.Nothing can fits = (Goes w [], λ su is. (Goes (w, su) [], refl, refl))
 command_does w st keeps command.End can fits = (Ends, λ su is. (Ends, refl, refl))
 
@@ -62,30 +61,12 @@ of_both w false May some = some
 within : (w : World) (st : Story) → Keeps (w, st) → (o : Option Command) → IfSome o (CanBeDone w) → ((c : Command) → o ≡ Some c → Fits c) → IsSeen w (λ su out. WithinLimit (w, su) o out)
 within w st keeps o can fits = of_both w (nat_lt most_bytes (sum_by (λ b. length b) w.met)) (λ su out. MayDo (w, su) o out) (may_do w st keeps o can fits)
 
+or_end : (w : World) (ends : Bool) (May : Story → Outcome Played → Type 0) → IsSeen w May → IsSeen w (λ su out. MatchBool ends (out ≡ Ends) (May su out))
+or_end w true May some = (Ends, λ su is. (Ends, refl, refl))
+or_end w false May some = some
+
 may_first : (w : World) (st : Story) → Keeps (w, st) → (o : Option Command) → IfSome o (CanBeDone w) → ((c : Command) → o ≡ Some c → Fits c) → IsSeen w (λ su out. MayDoFirst (w, su) o out)
-may_first w st keeps None can fits = within w st keeps None can fits
-may_first w st keeps (Some (command.Ring nodes replicas)) can fits = within w st keeps (Some (command.Ring nodes replicas)) can fits
-may_first w st keeps (Some (command.Log log id seed sets)) can fits = within w st keeps (Some (command.Log log id seed sets)) can fits
-may_first w st keeps (Some (command.View view members former)) can fits = within w st keeps (Some (command.View view members former)) can fits
-may_first w st keeps (Some (command.Use log view)) can fits = within w st keeps (Some (command.Use log view)) can fits
-may_first w st keeps (Some (command.At sec nsec)) can fits = within w st keeps (Some (command.At sec nsec)) can fits
-may_first w st keeps (Some (command.As log pieces)) can fits = within w st keeps (Some (command.As log pieces)) can fits
-may_first w st keeps (Some (command.Open session log pieces)) can fits = within w st keeps (Some (command.Open session log pieces)) can fits
-may_first w st keeps (Some (command.Step session count)) can fits = within w st keeps (Some (command.Step session count)) can fits
-may_first w st keeps (Some (command.Finish session)) can fits = within w st keeps (Some (command.Finish session)) can fits
-may_first w st keeps (Some (command.Join number)) can fits = within w st keeps (Some (command.Join number)) can fits
-may_first w st keeps (Some (command.Stop node)) can fits = within w st keeps (Some (command.Stop node)) can fits
-may_first w st keeps (Some command.Round) can fits = within w st keeps (Some command.Round) can fits
-may_first w st keeps (Some (command.Lose count)) can fits = within w st keeps (Some (command.Lose count)) can fits
-may_first w st keeps (Some (command.Damage node key offset byte)) can fits = within w st keeps (Some (command.Damage node key offset byte)) can fits
-may_first w st keeps (Some (command.Snap log)) can fits = within w st keeps (Some (command.Snap log)) can fits
-may_first w st keeps (Some (command.Restart log)) can fits = within w st keeps (Some (command.Restart log)) can fits
-may_first w st keeps (Some (command.Keep log count new)) can fits = within w st keeps (Some (command.Keep log count new)) can fits
-may_first w st keeps (Some (command.Holds node)) can fits = within w st keeps (Some (command.Holds node)) can fits
-may_first w st keeps (Some (command.Order log)) can fits = within w st keeps (Some (command.Order log)) can fits
-may_first w st keeps (Some (command.Work log)) can fits = within w st keeps (Some (command.Work log)) can fits
-may_first w st keeps (Some command.Nothing) can fits = within w st keeps (Some command.Nothing) can fits
-may_first w st keeps (Some command.End) can fits = (Ends, λ su is. (Ends, refl, refl))
+may_first w st keeps o can fits = or_end w (is_end o) (λ su out. WithinLimit (w, su) o out) (within w st keeps o can fits)
 
 pub each_line_does_something : EachLineDoesSomething
 each_line_does_something w line can story = may_first w story.0 story.1 (command_of line) can (λ c is. command_fits line c is)

@@ -22,7 +22,7 @@ use Rattle.world_model.specs.Calls.OpenLine.{sends_nothing as opening_sends_noth
 use Rattle.world_model.specs.Calls.StepLine.{not_open as stepping_not_open, out_of_range, steps}
 use Rattle.world_model.specs.Calls.FinishLine.{not_open as finishing_not_open, ends}
 use Rattle.world_model.specs.Logs.{Played}
-use Rattle.world_model.specs.Step.{Does, MayDo, MayDoFirst, WithinLimit, most_bytes}
+use Rattle.world_model.specs.Step.{Does, MayDo, MayDoFirst, WithinLimit, is_end, most_bytes}
 use Rattle.world_model.specs.Steps.{RunsOut, Scene, StepsOn}
 use Rattle.world_model.specs.Steps.StepsOn.{is_over as steps_over, more as steps_more, none as steps_none}
 use Rattle.world_model.specs.Steps.RunsOut.{is_over as runs_over, more as runs_more}
@@ -288,30 +288,12 @@ module _ (w : Played) (line : List ℕ) (keeps : Keeps w) (room : HaveRoom w.0) 
   within : (o : Option Command) → HasFull w line (MayDo w o) → HasFull w line (WithinLimit w o)
   within o has = in_limit (nat_lt most_bytes (sum_by (λ b. length b) w.0.met)) (MayDo w o) has
 
+  or_end : (ends : Bool) (May : Outcome Played → Type 0) → HasFull w line May → HasFull w line (λ outcome. MatchBool ends (outcome ≡ Ends) (May outcome))
+  or_end true May has = (Ends, refl, inl tt)
+  or_end false May has = has
+
   first : (o : Option Command) → HasFull w line (MayDo w o) → HasFull w line (MayDoFirst w o)
-  first None has = within None has
-  first (Some (command.Ring nodes replicas)) has = within (Some (command.Ring nodes replicas)) has
-  first (Some (command.Log log id seed sets)) has = within (Some (command.Log log id seed sets)) has
-  first (Some (command.View view members former)) has = within (Some (command.View view members former)) has
-  first (Some (command.Use log view)) has = within (Some (command.Use log view)) has
-  first (Some (command.At sec nsec)) has = within (Some (command.At sec nsec)) has
-  first (Some (command.As log ps)) has = within (Some (command.As log ps)) has
-  first (Some (command.Open session log ps)) has = within (Some (command.Open session log ps)) has
-  first (Some (command.Step session count)) has = within (Some (command.Step session count)) has
-  first (Some (command.Finish session)) has = within (Some (command.Finish session)) has
-  first (Some (command.Join number)) has = within (Some (command.Join number)) has
-  first (Some (command.Stop node)) has = within (Some (command.Stop node)) has
-  first (Some command.Round) has = within (Some command.Round) has
-  first (Some (command.Lose count)) has = within (Some (command.Lose count)) has
-  first (Some (command.Damage node key offset byte)) has = within (Some (command.Damage node key offset byte)) has
-  first (Some (command.Snap log)) has = within (Some (command.Snap log)) has
-  first (Some (command.Restart log)) has = within (Some (command.Restart log)) has
-  first (Some (command.Keep log count new)) has = within (Some (command.Keep log count new)) has
-  first (Some (command.Holds node)) has = within (Some (command.Holds node)) has
-  first (Some (command.Order log)) has = within (Some (command.Order log)) has
-  first (Some (command.Work log)) has = within (Some (command.Work log)) has
-  first (Some command.Nothing) has = within (Some command.Nothing) has
-  first (Some command.End) has = (Ends, refl, inl tt)
+  first o has = or_end (is_end o) (WithinLimit w o) (within o has)
 
   may_do : (o : Option Command) → command_of line ≡ o → IfSome o (CanBeDone w.0) → HasFull w line (MayDo w o)
   may_do None is can = (Refuses, refl, inl tt)

@@ -56,9 +56,11 @@ use Rattle.world_model.specs.Calls.AsLine.{sends_nothing as whole_sends_nothing,
 use Rattle.world_model.specs.Calls.OpenLine.{sends_nothing as opening_sends_nothing, is_open as opening_is_open, opens as opening_opens}
 use Rattle.world_model.specs.Calls.StepLine.{not_open as stepping_not_open, out_of_range as stepping_out_of_range, steps as stepping_steps}
 use Rattle.world_model.specs.Calls.FinishLine.{not_open as finishing_not_open, ends as finishing_ends}
-use Rattle.world_model.specs.Faults.{damage_by, damage_line, damaged_to, holds_by, holds_line, holds_text, lose_line, meets_some, node_named, key_named, order_line, order_text, showing, work_line, work_text}
-use Rattle.world_model.specs.Step.{Does, MayDoFirst, Untold, WithinLimit, most_bytes}
+use Rattle.world_model.specs.Faults.{damage_by, damage_line, damaged_to, lose_line, meets_some, node_named, key_named}
+use Rattle.world_model.specs.Shows.{show_line}
+use Rattle.world_model.specs.Step.{Does, MayDoFirst, Untold, WithinLimit, is_end, most_bytes}
 use Rattle.world_laws.specs.Laws.{MetGrows}
+use Rattle.world_laws.proofs.Shows.{shows_are_still}
 
 -- ---- blocks
 
@@ -299,22 +301,6 @@ of_damage w (Some n) (Some key) offset byte = of_damaged w n key (with_byte key 
 of_damage w (Some n) None offset byte = tt
 of_damage w None key offset byte = tt
 
-of_holds : (w : World) (n : Option Node) → OnGoes w (holds_by w n)
-of_holds w None = tt
-of_holds w (Some n) = by n.is_live
-  where
-    by : (t : Bool) → OnGoes w (cond t (Goes w (holds_text n)) Refuses)
-    by true = λ b h. h
-    by false = tt
-
-of_showing : (w : World) (text : Participant → List ℕ) (p : Option Participant) → OnGoes w (showing w text p)
-of_showing w text None = tt
-of_showing w text (Some p) = by (is_some p.agent.view)
-  where
-    by : (t : Bool) → OnGoes w (cond t (Goes w (text p)) Refuses)
-    by true = λ b h. h
-    by false = tt
-
 -- ---- the whole
 
 of_command : (w : Played) (c : Command) (outcome : Outcome Played) → Does hss_judged w c outcome → Keeps w outcome
@@ -336,9 +322,7 @@ of_command w (command.Damage node key offset byte) outcome does =
 of_command w (command.Snap log) outcome does = of_snap does
 of_command w (command.Restart log) outcome does = of_restart does
 of_command w (command.Keep log count new) outcome does = by_function w (keep_line w.0 log count new) outcome does (of_keep w.0 (participant w.0 log) count new)
-of_command w (command.Holds node) outcome does = by_function w (holds_line w.0 node) outcome does (of_holds w.0 (node_named w.0 node))
-of_command w (command.Order log) outcome does = by_function w (order_line w.0 log) outcome does (of_showing w.0 (order_text w.0) (participant w.0 log))
-of_command w (command.Work log) outcome does = by_function w (work_line w.0 log) outcome does (of_showing w.0 work_text (participant w.0 log))
+of_command w (command.Show shown) outcome does = by_function w (show_line w.0 shown) outcome does (shows_are_still w.0 shown (OnGoes w.0) (λ text b h. h) tt tt)
 of_command w command.Nothing outcome does = subst (λ (o : Outcome Played). Keeps w o) (sym does) (λ b h. h)
 of_command w command.End outcome does = subst (λ (o : Outcome Played). Keeps w o) (sym does) tt
 
@@ -351,29 +335,11 @@ of_any w None outcome does = within w (nat_lt most_bytes (sum_by (λ b. length b
 of_any w (Some c) outcome does = within w (nat_lt most_bytes (sum_by (λ b. length b) w.0.met)) outcome (Does hss_judged w c outcome) (of_command w c outcome) does
 
 of_line : (w : Played) (c : Option Command) (outcome : Outcome Played) → MayDoFirst w c outcome → Keeps w outcome
-of_line w None outcome does = of_any w None outcome does
-of_line w (Some (command.Ring nodes replicas)) outcome does = of_any w (Some (command.Ring nodes replicas)) outcome does
-of_line w (Some (command.Log log id seed sets)) outcome does = of_any w (Some (command.Log log id seed sets)) outcome does
-of_line w (Some (command.View view members former)) outcome does = of_any w (Some (command.View view members former)) outcome does
-of_line w (Some (command.Use log view)) outcome does = of_any w (Some (command.Use log view)) outcome does
-of_line w (Some (command.At sec nsec)) outcome does = of_any w (Some (command.At sec nsec)) outcome does
-of_line w (Some (command.As log pieces)) outcome does = of_any w (Some (command.As log pieces)) outcome does
-of_line w (Some (command.Open session log pieces)) outcome does = of_any w (Some (command.Open session log pieces)) outcome does
-of_line w (Some (command.Step session count)) outcome does = of_any w (Some (command.Step session count)) outcome does
-of_line w (Some (command.Finish session)) outcome does = of_any w (Some (command.Finish session)) outcome does
-of_line w (Some (command.Join node)) outcome does = of_any w (Some (command.Join node)) outcome does
-of_line w (Some (command.Stop node)) outcome does = of_any w (Some (command.Stop node)) outcome does
-of_line w (Some command.Round) outcome does = of_any w (Some command.Round) outcome does
-of_line w (Some (command.Lose count)) outcome does = of_any w (Some (command.Lose count)) outcome does
-of_line w (Some (command.Damage node key offset byte)) outcome does = of_any w (Some (command.Damage node key offset byte)) outcome does
-of_line w (Some (command.Snap log)) outcome does = of_any w (Some (command.Snap log)) outcome does
-of_line w (Some (command.Restart log)) outcome does = of_any w (Some (command.Restart log)) outcome does
-of_line w (Some (command.Keep log count new)) outcome does = of_any w (Some (command.Keep log count new)) outcome does
-of_line w (Some (command.Holds node)) outcome does = of_any w (Some (command.Holds node)) outcome does
-of_line w (Some (command.Order log)) outcome does = of_any w (Some (command.Order log)) outcome does
-of_line w (Some (command.Work log)) outcome does = of_any w (Some (command.Work log)) outcome does
-of_line w (Some command.Nothing) outcome does = of_any w (Some command.Nothing) outcome does
-of_line w (Some command.End) outcome does = subst (λ (o : Outcome Played). Keeps w o) (sym does) tt
+of_line w c outcome does = by (is_end c) does
+  where
+    by : (b : Bool) → MatchBool b (outcome ≡ Ends) (WithinLimit w c outcome) → Keeps w outcome
+    by true does = subst (λ (o : Outcome Played). Keeps w o) (sym does) tt
+    by false does = of_any w c outcome does
 
 pub met_grows : MetGrows
 met_grows w next line output does = of_line w (command_of line) (Goes next output) does

@@ -14,7 +14,8 @@ use Rattle.script_model.specs.Lines.{command_of}
 use Rattle.world_model.specs.Agents.{Entering, Kept, entering}
 use Rattle.world_model.specs.Calls.{OpenLine, Sending, sending_of}
 use Rattle.world_model.specs.Calls.OpenLine.{sends_nothing, is_open, opens}
-use Rattle.world_model.specs.Faults.{damage_line, holds_line, lose_line, node_named, order_line, work_line}
+use Rattle.world_model.specs.Faults.{damage_line, lose_line, node_named}
+use Rattle.world_model.specs.Shows.{show_line}
 use Rattle.world_model.specs.Keepers.{fails_next}
 use Rattle.world_model.specs.Logs.{LogLine, Played, RestartLine, SnapLine, ViewLine, after_entering, at_line, beside, keep_line, keys_of, use_by, with_newcomer}
 use Rattle.world_model.specs.Logs.LogLine.{before_ring, known as log_known, begins}
@@ -108,9 +109,7 @@ others_have_no_turn (command.Damage node key offset byte) w next output other do
 others_have_no_turn (command.Snap log) w next output other does = snap_none w (participant w.0 log) (Goes next output) does
 others_have_no_turn (command.Restart log) w next output other does = restart_none w (participant w.0 log) (Goes next output) does
 others_have_no_turn (command.Keep log count new) w next output other does = same_none w (keep_line w.0 log count new) (Goes next output) does
-others_have_no_turn (command.Holds node) w next output other does = same_none w (holds_line w.0 node) (Goes next output) does
-others_have_no_turn (command.Order log) w next output other does = same_none w (order_line w.0 log) (Goes next output) does
-others_have_no_turn (command.Work log) w next output other does = same_none w (work_line w.0 log) (Goes next output) does
+others_have_no_turn (command.Show shown) w next output other does = same_none w (show_line w.0 shown) (Goes next output) does
 others_have_no_turn command.Nothing w next output other does = subst (TellsNone w) (sym does) refl
 others_have_no_turn command.End w next output other does = subst (TellsNone w) (sym does) tt
 

@@ -51,13 +51,15 @@ use Rattle.world_model.specs.Calls.AsLine.{calls as whole_calls, sends_nothing a
 use Rattle.world_model.specs.Calls.OpenLine.{is_open as opening_is_open, opens as opening_opens, sends_nothing as opening_sends_nothing}
 use Rattle.world_model.specs.Calls.StepLine.{not_open as stepping_not_open, out_of_range as stepping_out_of_range, steps as stepping_steps}
 use Rattle.world_model.specs.Calls.FinishLine.{ends as finishing_ends, not_open as finishing_not_open}
-use Rattle.world_model.specs.Faults.{damage_by, damage_line, damaged_to, holds_by, holds_line, holds_text, key_named, lose_line, node_named, order_line, order_text, showing, work_line, work_text}
+use Rattle.world_model.specs.Faults.{damage_by, damage_line, damaged_to, key_named, lose_line, node_named}
+use Rattle.world_model.specs.Shows.{show_line}
 use Rattle.world_model.specs.Step.{Does, IvyStep, Untold}
 use Rattle.world_laws.specs.Keeps.{AreParticipants, Keeps}
 use Rattle.world_laws.specs.Laws.{MakesNoSnapshot}
 use Rattle.world_laws.proofs.AllLines.{does_line}
 use Rattle.world_laws.proofs.Lines.{ToSuch}
 use Rattle.world_laws.proofs.LogLines.{kept_whole}
+use Rattle.world_laws.proofs.Shows.{shows_are_still}
 use Rattle.world_laws.proofs.UseLines.{view_in, whole}
 use Rattle.world_laws.proofs.LineFits.{Fits, command_fits}
 use Rattle.hash_signature_model.specs.Signer.{Signer}
@@ -199,24 +201,6 @@ module _ (P : Agent → Keeper → Type 0) (lasts : IsLasting P) where
   of_damage w (Some n) None offset byte all = tt
   of_damage w None key offset byte all = tt
 
-  -- ---- lines that show something
-
-  of_holds : (w : World) (n : Option Node) → AllLast w.participants → OnGoes (holds_by w n)
-  of_holds w None all = tt
-  of_holds w (Some n) all = by n.is_live
-    where
-      by : (t : Bool) → OnGoes (cond t (Goes w (holds_text n)) Refuses)
-      by true = all
-      by false = tt
-
-  of_showing : (w : World) (text : Participant → List ℕ) (p : Option Participant) → AllLast w.participants → OnGoes (showing w text p)
-  of_showing w text None all = tt
-  of_showing w text (Some p) all = by (is_some p.agent.view)
-    where
-      by : (t : Bool) → OnGoes (cond t (Goes w (text p)) Refuses)
-      by true = all
-      by false = tt
-
   -- ---- lines of participants
 
   of_view : {w : Played} {name : List ℕ} {members former : Option (List PubKey)} {o : Outcome Played} → LastIn w → ViewLine hss_judged w name members former o → ToSuch LastIn o
@@ -337,9 +321,7 @@ module _ (P : Agent → Keeper → Type 0) (lasts : IsLasting P) where
   of_command w keeps all (command.Snap log) fits none outcome does = absurd (none log refl)
   of_command w keeps all (command.Restart log) fits none outcome does = of_restart log refl all does
   of_command w keeps all (command.Keep log count new) fits none outcome does = by_function w (keep_line w.0 log count new) outcome does (of_keep w.0 log (participant w.0 log) count new refl all)
-  of_command w keeps all (command.Holds node) fits none outcome does = by_function w (holds_line w.0 node) outcome does (of_holds w.0 (node_named w.0 node) all)
-  of_command w keeps all (command.Order log) fits none outcome does = by_function w (order_line w.0 log) outcome does (of_showing w.0 (order_text w.0) (participant w.0 log) all)
-  of_command w keeps all (command.Work log) fits none outcome does = by_function w (work_line w.0 log) outcome does (of_showing w.0 work_text (participant w.0 log) all)
+  of_command w keeps all (command.Show shown) fits none outcome does = by_function w (show_line w.0 shown) outcome does (shows_are_still w.0 shown OnGoes (λ text. all) tt tt)
   of_command w keeps all command.Nothing fits none outcome does = subst (λ (o : Outcome Played). ToSuch LastIn o) (sym does) all
   of_command w keeps all command.End fits none outcome does = subst (λ (o : Outcome Played). ToSuch LastIn o) (sym does) tt
 

@@ -1,5 +1,6 @@
 pub mod Examples
 pub mod Apart
+pub mod Shows
 pub mod Growing
 pub mod LineKinds
 pub mod Leaves
@@ -54,6 +55,7 @@ pub mod SessionLinesSteps
 pub mod OpenSessions
 pub mod SessionLines
 pub mod HeadlineOfPublishing
+pub mod HeadlineOfTrails
 pub mod HeadlineOfLines
 pub mod OneAsked
 pub mod TurnsTaken

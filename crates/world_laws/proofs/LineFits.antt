@@ -8,7 +8,8 @@ use Rattle.hash_signature_model.specs.Saved.{IsSigner}
 use Rattle.script_driver.specs.Run.{line_limit}
 use Rattle.script_model.specs.declared.command.Command.{Command}
 use Rattle.script_model.specs.declared.command.Command.TheVariants as command
-use Rattle.script_model.specs.Lines.{as_of, at_of, call_command, command_of, command_of_words, damage_of, end_of, holds_of, is_comment, join_of, keep_of, kept_of, log_of, lose_of, of_log, open_of, ring_command, ring_of, round_of, setup_command, step_of, stop_of, use_of, view_of}
+use Rattle.script_model.specs.declared.command.NodeWord.{NodeWord}
+use Rattle.script_model.specs.Lines.{as_of, at_of, call_command, command_of, command_of_words, damage_of, end_of, is_comment, join_of, keep_of, kept_of, log_of, lose_of, of_log, of_node, open_of, ring_command, ring_of, round_of, setup_command, show_command, shown_of, step_of, use_of, view_of}
 use Rattle.script_model.specs.Words.{◌>>=◌, byte_of, each_of, hex_bytes, key_of, name_of, names_of, node_of, number_below, parts_at, piece_of, sets_of, words_of}
 use Rattle.world_model.specs.Logs.{fresh_signer}
 use Rattle.world_laws.proofs.LineKeys.{key_is_signer}
@@ -127,11 +128,6 @@ join_fits [] = tt
 join_fits (i ∷ []) = fits1 (number_below (2 ^ 32) i) (λ x. command.Join x) (λ x. tt)
 join_fits (i ∷ w ∷ ws) = tt
 
-stop_fits : (ws : List (List ℕ)) → SomeFits (stop_of ws)
-stop_fits [] = tt
-stop_fits (n ∷ []) = fits1 (node_of n) (λ x. command.Stop x) (λ x. tt)
-stop_fits (n ∷ w ∷ ws) = tt
-
 round_fits : (ws : List (List ℕ)) → SomeFits (round_of ws)
 round_fits [] = tt
 round_fits (w ∷ ws) = tt
@@ -156,10 +152,10 @@ keep_fits (p ∷ k ∷ []) = tt
 keep_fits (p ∷ k ∷ w ∷ []) = fits3 (name_of p) (number_below (2 ^ 64) k) (kept_of w) (λ x y z. command.Keep x y z) (λ x y z e f. tt)
 keep_fits (p ∷ k ∷ w ∷ v ∷ ws) = tt
 
-holds_fits : (ws : List (List ℕ)) → SomeFits (holds_of ws)
-holds_fits [] = tt
-holds_fits (n ∷ []) = fits1 (node_of n) (λ x. command.Holds x) (λ x. tt)
-holds_fits (n ∷ w ∷ ws) = tt
+of_node_fits : (make : NodeWord → Command) → ((node : NodeWord) → Fits (make node)) → (ws : List (List ℕ)) → SomeFits (of_node make ws)
+of_node_fits make h [] = tt
+of_node_fits make h (n ∷ []) = fits1 (node_of n) make h
+of_node_fits make h (n ∷ w ∷ ws) = tt
 
 of_log_fits : (make : List ℕ → Command) → ((log : List ℕ) → Fits (make log)) → (ws : List (List ℕ)) → SomeFits (of_log make ws)
 of_log_fits make h [] = tt
@@ -181,10 +177,13 @@ choose_fits (c ∷ cs) other h g = by c.0 (choose_fits cs other h.1 g)
     by true later = h.0
     by false later = later
 
+show_fits : (word : List ℕ) (ws : List (List ℕ)) → SomeFits (show_command word ws)
+show_fits word ws = fits1 (shown_of word ws) (λ x. command.Show x) (λ x. tt)
+
 setup_fits : (word : List ℕ) (ws : List (List ℕ)) → SomeFits (setup_command word ws)
 setup_fits word ws = choose_fits
     ((bytes_eq word (codes "ring"), ring_of ws) ∷ (bytes_eq word (codes "log"), log_of ws) ∷ (bytes_eq word (codes "view"), view_of ws) ∷ (bytes_eq word (codes "use"), use_of ws) ∷ (bytes_eq word (codes "at"), at_of ws) ∷ [])
-    None (ring_fits ws, (log_fits ws, (view_fits ws, (use_fits ws, (at_fits ws, tt))))) tt
+    (show_command word ws) (ring_fits ws, (log_fits ws, (view_fits ws, (use_fits ws, (at_fits ws, tt))))) (show_fits word ws)
 
 call_fits : (word : List ℕ) (ws : List (List ℕ)) → SomeFits (call_command word ws)
 call_fits word ws = choose_fits
@@ -193,17 +192,15 @@ call_fits word ws = choose_fits
 
 ring_command_fits : (word : List ℕ) (ws : List (List ℕ)) → SomeFits (ring_command word ws)
 ring_command_fits word ws = choose_fits
-    ((bytes_eq word (codes "join"), join_of ws) ∷ (bytes_eq word (codes "stop"), stop_of ws) ∷ (bytes_eq word (codes "round"), round_of ws) ∷ (bytes_eq word (codes "lose"), lose_of ws) ∷ (bytes_eq word (codes "damage"), damage_of ws)
-    ∷ (bytes_eq word (codes "holds"), holds_of ws) ∷ [])
-    (call_command word ws) (join_fits ws, (stop_fits ws, (round_fits ws, (lose_fits ws, (damage_fits ws, (holds_fits ws, tt)))))) (call_fits word ws)
+    ((bytes_eq word (codes "join"), join_of ws) ∷ (bytes_eq word (codes "stop"), of_node (λ x. command.Stop x) ws) ∷ (bytes_eq word (codes "round"), round_of ws) ∷ (bytes_eq word (codes "lose"), lose_of ws) ∷ (bytes_eq word (codes "damage"), damage_of ws) ∷ [])
+    (call_command word ws) (join_fits ws, (of_node_fits (λ x. command.Stop x) (λ x. tt) ws, (round_fits ws, (lose_fits ws, (damage_fits ws, tt))))) (call_fits word ws)
 
 words_fit : (ws : List (List ℕ)) → SomeFits (command_of_words ws)
 words_fit [] = tt
 words_fit (word ∷ ws) = choose_fits
-    ((bytes_eq word (codes "snap"), of_log (λ x. command.Snap x) ws) ∷ (bytes_eq word (codes "restart"), of_log (λ x. command.Restart x) ws) ∷ (bytes_eq word (codes "keep"), keep_of ws)
-    ∷ (bytes_eq word (codes "order"), of_log (λ x. command.Order x) ws) ∷ (bytes_eq word (codes "work"), of_log (λ x. command.Work x) ws) ∷ [])
+    ((bytes_eq word (codes "snap"), of_log (λ x. command.Snap x) ws) ∷ (bytes_eq word (codes "restart"), of_log (λ x. command.Restart x) ws) ∷ (bytes_eq word (codes "keep"), keep_of ws) ∷ [])
     (ring_command word ws)
-    (of_log_fits (λ x. command.Snap x) (λ x. tt) ws, (of_log_fits (λ x. command.Restart x) (λ x. tt) ws, (keep_fits ws, (of_log_fits (λ x. command.Order x) (λ x. tt) ws, (of_log_fits (λ x. command.Work x) (λ x. tt) ws, tt)))))
+    (of_log_fits (λ x. command.Snap x) (λ x. tt) ws, (of_log_fits (λ x. command.Restart x) (λ x. tt) ws, (keep_fits ws, tt)))
     (ring_command_fits word ws)
 
 line_fits : (line : List ℕ) → SomeFits (command_of line)

@@ -29,8 +29,8 @@ use Rattle.world_model.specs.Calls.AsLine.{sends_nothing as whole_sends_nothing,
 use Rattle.world_model.specs.Calls.OpenLine.{sends_nothing as opening_sends_nothing, is_open as opening_is_open, opens as opening_opens}
 use Rattle.world_model.specs.Calls.StepLine.{not_open as stepping_not_open, out_of_range as stepping_out_of_range, steps as stepping_steps}
 use Rattle.world_model.specs.Calls.FinishLine.{not_open as finishing_not_open, ends as finishing_ends}
-use Rattle.world_model.specs.Step.{Does, MayDoFirst, Untold, WithinLimit, most_bytes}
-use Rattle.world_laws.specs.Kinds.{Kind, Going, Refused, Limited, kind, ring_kind, log_kind, view_kind, sending_kind, open_kind, session_kind, join_kind, round_kind, in_view_kind, command_kind, within_limit_kind, first_kind, LineHasOneKind}
+use Rattle.world_model.specs.Step.{Does, MayDoFirst, Untold, WithinLimit, is_end, most_bytes}
+use Rattle.world_laws.specs.Kinds.{Kind, Going, Ending, Refused, Limited, kind, ring_kind, log_kind, view_kind, sending_kind, open_kind, session_kind, join_kind, round_kind, in_view_kind, command_kind, within_limit_kind, first_kind, LineHasOneKind}
 
 -- a test that is known to be true, or false
 if_true : (b : Bool) (k l : Kind) → b ≡ true → cond b k l ≡ k
@@ -170,9 +170,7 @@ of_command w (command.Damage node key offset byte) outcome does = by_function w 
 of_command w (command.Snap log) outcome does = of_snap does
 of_command w (command.Restart log) outcome does = of_restart does
 of_command w (command.Keep log count new) outcome does = by_function w _ outcome does
-of_command w (command.Holds node) outcome does = by_function w _ outcome does
-of_command w (command.Order log) outcome does = by_function w _ outcome does
-of_command w (command.Work log) outcome does = by_function w _ outcome does
+of_command w (command.Show shown) outcome does = by_function w _ outcome does
 of_command w command.Nothing outcome does = ap kind does
 of_command w command.End outcome does = ap kind does
 
@@ -185,29 +183,11 @@ of_first w None outcome does = within (nat_lt most_bytes (sum_by (λ b. length b
 of_first w (Some c) outcome does = within (nat_lt most_bytes (sum_by (λ b. length b) w.0.met)) outcome (Does hss_judged w c outcome) (command_kind w c) (of_command w c outcome) does
 
 of_line : (w : Played) (c : Option Command) (outcome : Outcome Played) → MayDoFirst w c outcome → kind outcome ≡ first_kind w c
-of_line w None outcome does = of_first w None outcome does
-of_line w (Some (command.Ring nodes replicas)) outcome does = of_first w (Some (command.Ring nodes replicas)) outcome does
-of_line w (Some (command.Log log id seed sets)) outcome does = of_first w (Some (command.Log log id seed sets)) outcome does
-of_line w (Some (command.View view members former)) outcome does = of_first w (Some (command.View view members former)) outcome does
-of_line w (Some (command.Use log view)) outcome does = of_first w (Some (command.Use log view)) outcome does
-of_line w (Some (command.At sec nsec)) outcome does = of_first w (Some (command.At sec nsec)) outcome does
-of_line w (Some (command.As log pieces)) outcome does = of_first w (Some (command.As log pieces)) outcome does
-of_line w (Some (command.Open session log pieces)) outcome does = of_first w (Some (command.Open session log pieces)) outcome does
-of_line w (Some (command.Step session count)) outcome does = of_first w (Some (command.Step session count)) outcome does
-of_line w (Some (command.Finish session)) outcome does = of_first w (Some (command.Finish session)) outcome does
-of_line w (Some (command.Join node)) outcome does = of_first w (Some (command.Join node)) outcome does
-of_line w (Some (command.Stop node)) outcome does = of_first w (Some (command.Stop node)) outcome does
-of_line w (Some command.Round) outcome does = of_first w (Some command.Round) outcome does
-of_line w (Some (command.Lose count)) outcome does = of_first w (Some (command.Lose count)) outcome does
-of_line w (Some (command.Damage node key offset byte)) outcome does = of_first w (Some (command.Damage node key offset byte)) outcome does
-of_line w (Some (command.Snap log)) outcome does = of_first w (Some (command.Snap log)) outcome does
-of_line w (Some (command.Restart log)) outcome does = of_first w (Some (command.Restart log)) outcome does
-of_line w (Some (command.Keep log count new)) outcome does = of_first w (Some (command.Keep log count new)) outcome does
-of_line w (Some (command.Holds node)) outcome does = of_first w (Some (command.Holds node)) outcome does
-of_line w (Some (command.Order log)) outcome does = of_first w (Some (command.Order log)) outcome does
-of_line w (Some (command.Work log)) outcome does = of_first w (Some (command.Work log)) outcome does
-of_line w (Some command.Nothing) outcome does = of_first w (Some command.Nothing) outcome does
-of_line w (Some command.End) outcome does = ap kind does
+of_line w c outcome does = by (is_end c) does
+  where
+    by : (b : Bool) → MatchBool b (outcome ≡ Ends) (WithinLimit w c outcome) → kind outcome ≡ cond b Ending (within_limit_kind w c)
+    by true does = ap kind does
+    by false does = of_first w c outcome does
 
 pub line_has_one_kind : LineHasOneKind
 line_has_one_kind w line outcome does = of_line w (command_of line) outcome does

@@ -1,6 +1,6 @@
 -- Lines without sessions leave a world that keeps what it should.
 use Rattle.std.proofs.Common.{◌≡◌, inl, inr, ℕ, ◌+◌, ◌<◌, Bool, true, false, cond, ◌&&◌, List, [], ◌∷◌, ◌++◌, length, Option, Some, None, refl, sym, ap, ◌∙◌, subst, arith, Contains, nat_lt, nat_le}
-use Rattle.std.specs.Prelude.{◌==◌, is_some, map, option_map, option_and_then, unwrap_or}
+use Rattle.std.specs.Prelude.{◌==◌, map, option_map, option_and_then, unwrap_or}
 use Rattle.std.specs.List.{AllByRecursion, find, list_any}
 use Rattle.std.specs.Map.{lookup}
 use Rattle.std.specs.FinMap.Entries.{find as value_at, put}
@@ -39,12 +39,14 @@ use Rattle.world_model.specs.World.{World, Participant, meets, node_at, particip
 use Rattle.world_model.specs.Story.{Story}
 use Rattle.world_model.specs.Logs.{Played, at_line, beside, goes_if, keep_by, keep_line}
 use Rattle.world_model.specs.Ring.{stop_line}
-use Rattle.world_model.specs.Faults.{damage_by, damage_line, damaged_to, holds_by, holds_line, holds_text, key_named, lose_line, meets_some, node_named, order_line, order_text, owner_of_key, showing, work_line, work_text}
+use Rattle.world_model.specs.Faults.{damage_by, damage_line, damaged_to, key_named, lose_line, meets_some, node_named, owner_of_key}
+use Rattle.world_model.specs.Shows.{show_line}
 use Rattle.world_laws.specs.Keeps.{HasRing, Keeps}
 use Rattle.world_laws.specs.Frames.{AreOfRing, Change, DamageLinesKeep, KeeperLinesKeep, StillLinesKeep, StopLinesKeep, unchanged}
 use Rattle.world_laws.proofs.Bringing.{found_named}
 use Rattle.world_laws.proofs.Frames.{held_more, made_still, no_changes, of_ring, participant_keeps, still_some, unchanged_mild, world_changes}
 use Rattle.world_laws.proofs.NodeFates.{HoldsMet, each_replaced}
+use Rattle.world_laws.proofs.Shows.{shows_are_still}
 use Rattle.world_laws.proofs.StoredBlocks.{put_each, put_store}
 
 -- ---- outcomes
@@ -99,28 +101,10 @@ module _ (w : Played) (keeps : Keeps w) where
   lose_keeps : (count : ℕ) → Keeping w.1 (lose_line w.0 count)
   lose_keeps count = goes_if_keeps w.1 (nat_lt 0 count && nat_le count 1000000) (record w.0 { lost = (w.0.asked + count) ∷ w.0.lost }) (λ t. later w.0.now.sec w.0.now.nsec ((w.0.asked + count) ∷ w.0.lost) keeps.moment.sec keeps.moment.nsec)
 
-  holds_keeps : (n : Option Node) → Keeping w.1 (holds_by w.0 n)
-  holds_keeps None = tt
-  holds_keeps (Some n) = by n.is_live
-    where
-      by : (t : Bool) → Keeping w.1 (cond t (Goes w.0 (holds_text n)) Refuses)
-      by true = keeps
-      by false = tt
-
-  showing_keeps : (text : Participant → List ℕ) (p : Option Participant) → Keeping w.1 (showing w.0 text p)
-  showing_keeps text None = tt
-  showing_keeps text (Some p) = by (is_some p.agent.view)
-    where
-      by : (t : Bool) → Keeping w.1 (cond t (Goes w.0 (text p)) Refuses)
-      by true = keeps
-      by false = tt
-
 pub still_lines_keep : StillLinesKeep
 still_lines_keep (command.At sec nsec) still w next output keeps does = by_world w.1 (at_line w.0 sec nsec) next output does (at_keeps w keeps sec nsec)
 still_lines_keep (command.Lose count) still w next output keeps does = by_world w.1 (lose_line w.0 count) next output does (lose_keeps w keeps count)
-still_lines_keep (command.Holds at_node) still w next output keeps does = by_world w.1 (holds_line w.0 at_node) next output does (holds_keeps w keeps (node_named w.0 at_node))
-still_lines_keep (command.Order log) still w next output keeps does = by_world w.1 (order_line w.0 log) next output does (showing_keeps w keeps (order_text w.0) (participant w.0 log))
-still_lines_keep (command.Work log) still w next output keeps does = by_world w.1 (work_line w.0 log) next output does (showing_keeps w keeps work_text (participant w.0 log))
+still_lines_keep (command.Show shown) still w next output keeps does = by_world w.1 (show_line w.0 shown) next output does (shows_are_still w.0 shown (Keeping w.1) (λ text. keeps) tt tt)
 still_lines_keep command.Nothing still w next output keeps does = subst (λ (x : Outcome Played). ToSuch Keeps x) (sym does) keeps
 still_lines_keep (command.Ring nodes replicas) still w next output keeps does = absurd still
 still_lines_keep (command.Log log id seed sets) still w next output keeps does = absurd still

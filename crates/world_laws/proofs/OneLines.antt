@@ -20,7 +20,8 @@ use Rattle.agent_model.specs.Others.{basis_of}
 use Rattle.world_model.specs.Agents.{Kept, kept_bytes, own}
 use Rattle.world_model.specs.Fates.{Puts}
 use Rattle.world_model.specs.World.{Participant, World, named_bytes, participant, session_named, with_participant}
-use Rattle.world_model.specs.Faults.{damage_line, holds_line, lose_line, node_named, order_line, work_line}
+use Rattle.world_model.specs.Faults.{damage_line, lose_line, node_named}
+use Rattle.world_model.specs.Shows.{show_line}
 use Rattle.world_model.specs.Ring.{JoinLine, RingLine, stop_line}
 use Rattle.world_model.specs.Rounds.{RoundLine}
 use Rattle.world_model.specs.Rounds.RoundLine.{goes as round_goes}
@@ -35,6 +36,7 @@ use Rattle.world_model.specs.Steps.{met_by}
 use Rattle.world_laws.specs.Keeps.{IsKeptSo, IsSavedWell, Keeps}
 use Rattle.world_laws.specs.Kinds.{Ending, Going, Limited, Refused, kind}
 use Rattle.world_laws.specs.Laws.{FullRunsAreOne, HadMemory, HasMemoryIn, StepsAreOne}
+use Rattle.world_laws.proofs.AllLines.{goes_within}
 use Rattle.world_laws.proofs.Bringing.{found_named}
 use Rattle.world_laws.proofs.EachLine.{each_line_keeps}
 use Rattle.world_laws.proofs.Frames.{nodes_of_ring}
@@ -183,28 +185,7 @@ module _ (w : Played) where
   does_it c one text h = within_limit (nat_lt most_bytes (sum_by (λ b. length b) w.0.met)) (Does hss_judged w c (Goes one text)) one text h
 
   obeyed : (c : Command) (one : Played) (text : List ℕ) → MayDoFirst w (Some c) (Goes one text) → Does hss_judged w c (Goes one text)
-  obeyed (command.Ring nodes replicas) one text h = does_it (command.Ring nodes replicas) one text h
-  obeyed (command.Log log id seed sets) one text h = does_it (command.Log log id seed sets) one text h
-  obeyed (command.View view members former) one text h = does_it (command.View view members former) one text h
-  obeyed (command.Use log view) one text h = does_it (command.Use log view) one text h
-  obeyed (command.At sec nsec) one text h = does_it (command.At sec nsec) one text h
-  obeyed (command.As log pieces) one text h = does_it (command.As log pieces) one text h
-  obeyed (command.Open session log pieces) one text h = does_it (command.Open session log pieces) one text h
-  obeyed (command.Step session count) one text h = does_it (command.Step session count) one text h
-  obeyed (command.Finish session) one text h = does_it (command.Finish session) one text h
-  obeyed (command.Join node) one text h = does_it (command.Join node) one text h
-  obeyed (command.Stop node) one text h = does_it (command.Stop node) one text h
-  obeyed command.Round one text h = does_it command.Round one text h
-  obeyed (command.Lose count) one text h = does_it (command.Lose count) one text h
-  obeyed (command.Damage node key offset byte) one text h = does_it (command.Damage node key offset byte) one text h
-  obeyed (command.Snap log) one text h = does_it (command.Snap log) one text h
-  obeyed (command.Restart log) one text h = does_it (command.Restart log) one text h
-  obeyed (command.Keep log count new) one text h = does_it (command.Keep log count new) one text h
-  obeyed (command.Holds node) one text h = does_it (command.Holds node) one text h
-  obeyed (command.Order log) one text h = does_it (command.Order log) one text h
-  obeyed (command.Work log) one text h = does_it (command.Work log) one text h
-  obeyed command.Nothing one text h = does_it command.Nothing one text h
-  obeyed command.End one text h = h
+  obeyed c one text h = does_it c one text (goes_within w one text (Some c) h)
 
   none_obeyed : (one : Played) (text : List ℕ) → MayDoFirst w None (Goes one text) → ⊥
   none_obeyed one text h = goes_or_refuses one text (within_limit (nat_lt most_bytes (sum_by (λ b. length b) w.0.met)) (Goes one text ≡ Refuses) one text h)
@@ -229,9 +210,7 @@ module _ (w : Played) (keeps : Keeps w) (line : List ℕ) (one other : Played) (
   command_one (command.Snap log) is does doing = snap_one w (participant w.0 log) one other text words does doing
   command_one (command.Restart log) is does doing = restart_one w keeps log (participant w.0 log) refl one other text words apart does doing
   command_one (command.Keep log count new) is does doing = by_function (beside w.1 (keep_line w.0 log count new)) one other text words does doing
-  command_one (command.Holds node) is does doing = by_function (beside w.1 (holds_line w.0 node)) one other text words does doing
-  command_one (command.Order log) is does doing = by_function (beside w.1 (order_line w.0 log)) one other text words does doing
-  command_one (command.Work log) is does doing = by_function (beside w.1 (work_line w.0 log)) one other text words does doing
+  command_one (command.Show shown) is does doing = by_function (beside w.1 (show_line w.0 shown)) one other text words does doing
   command_one command.Nothing is does doing = by_function (Goes w []) one other text words does doing
   command_one command.End is does doing = absurd (goes_or_ends one text does)
 

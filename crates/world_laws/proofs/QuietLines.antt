@@ -1,6 +1,6 @@
 -- A line by which no session begins or goes on leaves sessions as they are, or drops them, and shows no reply.
-use Rattle.std.proofs.Common.{◌≡◌, ℕ, Bool, true, false, cond, List, [], ◌++◌, Option, Some, None, refl, sym, ap, ◌∙◌, subst, arith, Contains}
-use Rattle.std.specs.Prelude.{is_some, nat_lt, nat_le, ◌&&◌}
+use Rattle.std.proofs.Common.{◌≡◌, ℕ, Bool, true, false, cond, List, [], ◌∷◌, ◌++◌, Option, Some, None, refl, sym, ap, ◌∙◌, subst, arith, Contains}
+use Rattle.std.specs.Prelude.{nat_lt, nat_le, ◌&&◌}
 use Rattle.ivy_base.specs.declared.key.Key.{Key}
 use Rattle.ivy_base.specs.declared.key.PubKey.{PubKey}
 use Rattle.hash_signature_model.specs.declared.set.Set.{Set}
@@ -14,6 +14,7 @@ use Rattle.agent_model.specs.Views.Entering.{Entered, NotMember, NotNamed, Keepe
 use Rattle.script_driver.specs.Run.{Outcome, Goes, Ends, Refuses, Exceeds}
 use Rattle.script_model.specs.declared.command.Command.{Command}
 use Rattle.script_model.specs.declared.command.Command.TheVariants as command
+use Rattle.script_model.specs.declared.command.Shown.{Shown}
 use Rattle.world_model.specs.Agents.{Entering, Kept, entering}
 use Rattle.world_model.specs.Keepers.{asked_to_save, fails_next}
 use Rattle.world_model.specs.World.{World, Participant, participant, view_named, with_node}
@@ -33,7 +34,8 @@ use Rattle.world_model.specs.Logs.LogLine.{before_ring as log_before_ring, known
 use Rattle.world_model.specs.Logs.ViewLine.{known as view_known, no_members as view_no_members, no_former as view_no_former, one_head_key as view_one_head_key, exceeds as view_exceeds, makes as view_makes}
 use Rattle.world_model.specs.Logs.RestartLine.{nobody as restart_nobody, outside as restart_outside, starts as restart_starts}
 use Rattle.world_model.specs.Logs.SnapLine.{nobody as snap_nobody, outside as snap_outside, fails as snap_fails, makes as snap_makes}
-use Rattle.world_model.specs.Faults.{damage_by, damage_line, damaged_to, holds_by, holds_line, holds_text, lose_line, node_named, key_named, order_line, order_text, showing, work_line, work_text}
+use Rattle.world_model.specs.Faults.{damage_by, damage_line, damaged_to, lose_line, node_named, key_named}
+use Rattle.world_model.specs.Shows.{show_line, word_of}
 use Rattle.world_model.specs.Rounds.{RoundLine}
 use Rattle.world_model.specs.Calls.{reply_line}
 use Rattle.world_model.specs.Steps.{Acts, RunsOut, Scene, Steps, StepsOn}
@@ -44,6 +46,7 @@ use Rattle.world_model.specs.World.{NamedSession}
 use Rattle.log_model.proofs.Lists.{from_filter}
 use Rattle.round_laws.proofs.Rounding.{leaves_the_rest}
 use Rattle.world_laws.proofs.ShownReplies.{byte_at}
+use Rattle.world_laws.proofs.Shows.{shows_are_still, shows_no_reply}
 use Rattle.std.specs.Prelude.{codes}
 use Rattle.snapshot_model.specs.Spelling.{root_name}
 use Rattle.agent_model.specs.Others.{basis_of}
@@ -226,27 +229,9 @@ of_damage w (Some n) (Some key) offset byte = of_damaged w n key (with_byte key 
 of_damage w (Some n) None offset byte = tt
 of_damage w None key offset byte = tt
 
-of_holds : (w : World) (n : Option Node) → OnGoes w (holds_by w n)
-of_holds w None = tt
-of_holds w (Some n) = by n.is_live
-  where
-    by : (t : Bool) → OnGoes w (cond t (Goes w (holds_text n)) Refuses)
-    by true = quiet_same w w (holds_text n) (refl, refl) (λ xid rest e. (let at : 104 ≡ 114 = ap (byte_at 0) e in omega (arith, at)))
-    by false = tt
-
-of_showing : (w : World) (text : Participant → List ℕ) (p : Option Participant) → ((q : Participant) → IsUnlike (text q)) → OnGoes w (showing w text p)
-of_showing w text None unlike = tt
-of_showing w text (Some p) unlike = by (is_some p.agent.view)
-  where
-    by : (t : Bool) → OnGoes w (cond t (Goes w (text p)) Refuses)
-    by true = quiet_same w w (text p) (refl, refl) (unlike p)
-    by false = tt
-
-not_order : (w : World) (p : Participant) → IsUnlike (order_text w p)
-not_order w p xid rest e = (let at : 111 ≡ 114 = ap (byte_at 0) e in omega (arith, at))
-
-not_work : (p : Participant) → IsUnlike (work_text p)
-not_work p xid rest e = (let at : 119 ≡ 114 = ap (byte_at 0) e in omega (arith, at))
+of_show : (w : World) (s : Shown) → OnGoes w (show_line w s)
+of_show w s = shows_are_still w s (OnGoes w)
+    (λ text. quiet_same w w (word_of s ++ 32 ∷ text) (refl, refl) (λ xid rest e. shows_no_reply s text (reply xid SystemError) rest e)) tt tt
 
 -- ---- the whole
 
@@ -277,8 +262,6 @@ quiet_command w (command.Damage node key offset byte) other outcome does =
 quiet_command w (command.Snap log) other outcome does = of_snap does
 quiet_command w (command.Restart log) other outcome does = of_restart does
 quiet_command w (command.Keep log count new) other outcome does = by_function w (keep_line w.0 log count new) outcome does (of_keep w.0 (participant w.0 log) count new)
-quiet_command w (command.Holds node) other outcome does = by_function w (holds_line w.0 node) outcome does (of_holds w.0 (node_named w.0 node))
-quiet_command w (command.Order log) other outcome does = by_function w (order_line w.0 log) outcome does (of_showing w.0 (order_text w.0) (participant w.0 log) (not_order w.0))
-quiet_command w (command.Work log) other outcome does = by_function w (work_line w.0 log) outcome does (of_showing w.0 work_text (participant w.0 log) not_work)
+quiet_command w (command.Show shown) other outcome does = by_function w (show_line w.0 shown) outcome does (of_show w.0 shown)
 quiet_command w command.Nothing other outcome does = subst (λ (o : Outcome Played). Quietly w o) (sym does) (quiet_same w.0 w.0 [] (refl, refl) no_text)
 quiet_command w command.End other outcome does = subst (λ (o : Outcome Played). Quietly w o) (sym does) tt

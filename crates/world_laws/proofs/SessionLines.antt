@@ -27,6 +27,7 @@ use Rattle.world_laws.specs.Keeps.{HasSaid, IsInHand, Keeps}
 use Rattle.world_laws.specs.Laws.{CallLinesKeep}
 use Rattle.world_laws.proofs.Beginning.{calls_begin}
 use Rattle.world_laws.proofs.Bringing.{found_named}
+use Rattle.world_laws.proofs.HeadlineOfTrails.{trails_are_heard}
 use Rattle.world_laws.proofs.Opening.{IsSent, sent_by}
 use Rattle.world_laws.proofs.OpenSessions.{back_keeps, begun_keeps, cause_told, closed_keeps, named_hand, replied_keeps}
 use Rattle.world_laws.proofs.SessionLinesSteps.{Leads, runs_lead, steps_on_lead}
@@ -58,9 +59,9 @@ module _ (w : Played) (keeps : Keeps w) where
       new = led.leaves.3;
       turns = led.leaves.4;
       caused = λ shows. record {
-        number = end.began.number;
-        session = end.session;
+        end = end;
         said = said;
+        ends = record { replicas = r; ringed = ringed; start = start; begins = (s, t, is, begins, refl); runs = its_runs; over = over; leaves = refl; heard = trails_are_heard r t.by its_runs };
         asked_by = (led.same.number, led.same.call.0 ∙ first.0 ∙ named, asked);
         shown = refl;
         cause = said_at_end end r said led.leaves.1 over;
@@ -82,6 +83,9 @@ module _ (w : Played) (keeps : Keeps w) where
 
       hand : IsInHand start r
       hand = calls_begin w r s t keeps ringed (subst (λ (n : List ℕ). participant w.0 n ≡ Some s.by) (sym named) sent.is_by) sent.in_view begins
+
+      its_runs : RunsOut hss_judged r t.by start end
+      its_runs = subst (λ (n : List ℕ). RunsOut hss_judged r n start end) (sym first.0) runs
 
       led : Leads start end r
       led = runs_lead r s.by.name runs first.0 (begun_keeps w keeps r ringed) hand ringed
@@ -116,16 +120,16 @@ module _ (w : Played) (keeps : Keeps w) where
     step_holds : (count : ℕ) → Leads start end r → HoldsOf w (command.Step name count) (with_session end.world name end.session, with_began end.story name end.began) []
     step_holds count led = record { more = led.leaves.2; new = led.leaves.3; turns = led.leaves.4; caused = λ shows. absurd shows }
 
-    finish_holds : (said : Said) → end.session.stage ≡ Over (Some said) → Leads start end r
+    finish_holds : (said : Said) → end.session.stage ≡ Over (Some said) → RunsOut hss_judged r s.by start end → Leads start end r
         → HoldsOf w (command.Finish name) (replied (without_session end.world name) said, without_began end.story name) (shown_end end.session said)
-    finish_holds said over led = record {
+    finish_holds said over runs led = record {
       more = led.leaves.2;
       new = led.leaves.3;
       turns = led.leaves.4;
       caused = λ shows. record {
-        number = end.began.number;
-        session = end.session;
+        end = end;
         said = said;
+        ends = record { replicas = r; ringed = ringed; start = start; begins = (s, is, refl); runs = runs; over = over; leaves = refl; heard = trails_are_heard r s.by runs };
         asked_by = (s, is, led.same.number, led.same.call.0, led.same.call.1);
         shown = refl;
         cause = cause_told end.story (without_began end.story name) end.began.number end.session said refl (said_at_end end r said led.leaves.1 over);
@@ -141,7 +145,7 @@ module _ (w : Played) (keeps : Keeps w) where
   finish_line_holds : (name : List ℕ) (o : Option Session) (out : Outcome Played) → session_named w.0 name ≡ o → FinishLine hss_judged w name o out → HoldsThen w (command.Finish name) out
   finish_line_holds name _ _ is none_to_end = tt
   finish_line_holds name _ _ is (ends s r end said ringed runs over) =
-      let led = ended name s is r ringed end runs in (closed name s is r ringed end led said, finish_holds name s is r ringed end said over led)
+      let led = ended name s is r ringed end runs in (closed name s is r ringed end led said, finish_holds name s is r ringed end said over runs led)
 
 pub call_lines_keep : CallLinesKeep
 call_lines_keep (command.As log pieces) w next output call keeps does = as_holds w keeps log pieces (sending_of w.0 log pieces) (Goes next output) refl does
@@ -161,8 +165,6 @@ call_lines_keep (command.Damage node key offset byte) w next output call keeps d
 call_lines_keep (command.Snap log) w next output call keeps does = absurd call
 call_lines_keep (command.Restart log) w next output call keeps does = absurd call
 call_lines_keep (command.Keep log count new) w next output call keeps does = absurd call
-call_lines_keep (command.Holds node) w next output call keeps does = absurd call
-call_lines_keep (command.Order log) w next output call keeps does = absurd call
-call_lines_keep (command.Work log) w next output call keeps does = absurd call
+call_lines_keep (command.Show shown) w next output call keeps does = absurd call
 call_lines_keep command.Nothing w next output call keeps does = absurd call
 call_lines_keep command.End w next output call keeps does = absurd call

@@ -1,13 +1,14 @@
 -- Lines that show something, or set the moment or a loss, change nothing else.
-use Rattle.std.proofs.Common.{◌≡◌, ℕ, Bool, true, false, cond, List, Option, Some, None, refl, sym, subst}
-use Rattle.std.specs.Prelude.{nat_lt, nat_le, is_some, ◌&&◌}
+use Rattle.std.proofs.Common.{◌≡◌, Bool, true, false, refl, sym, subst}
+use Rattle.std.specs.Prelude.{nat_lt, nat_le, ◌&&◌}
 use Rattle.script_driver.specs.Run.{Outcome, Goes, Ends, Refuses, Exceeds}
 use Rattle.script_model.specs.declared.command.Command.TheVariants as command
-use Rattle.world_model.specs.Nodes.{Node}
-use Rattle.world_model.specs.World.{World, Participant, participant}
+use Rattle.world_model.specs.World.{World}
 use Rattle.world_model.specs.Logs.{Played, at_line, beside, goes_if}
-use Rattle.world_model.specs.Faults.{holds_by, holds_line, holds_text, lose_line, node_named, order_line, order_text, showing, work_line, work_text}
+use Rattle.world_model.specs.Faults.{lose_line}
+use Rattle.world_model.specs.Shows.{show_line}
 use Rattle.world_laws.specs.Laws.{StillLinesChangeNothing}
+use Rattle.world_laws.proofs.Shows.{shows_are_still}
 
 -- but for the moment and losses it is that world
 abbrev IsAlmost : World → World → Type 0
@@ -39,28 +40,10 @@ of_goes_if : (w next : World) (t : Bool) → IsAlmost w next → AllGo w (goes_i
 of_goes_if w next true h = h
 of_goes_if w next false h = tt
 
-of_holds : (w : World) (n : Option Node) → AllGo w (holds_by w n)
-of_holds w None = tt
-of_holds w (Some n) = by n.is_live
-  where
-    by : (t : Bool) → AllGo w (cond t (Goes w (holds_text n)) Refuses)
-    by true = refl
-    by false = tt
-
-of_showing : (w : World) (text : Participant → List ℕ) (p : Option Participant) → AllGo w (showing w text p)
-of_showing w text None = tt
-of_showing w text (Some p) = by (is_some p.agent.view)
-  where
-    by : (t : Bool) → AllGo w (cond t (Goes w (text p)) Refuses)
-    by true = refl
-    by false = tt
-
 pub still_lines : StillLinesChangeNothing
 still_lines w next (command.At sec nsec) output still does = of_line w (at_line w.0 sec nsec) (Goes next output) does (of_goes_if w.0 _ (nat_lt sec 4294967296 && nat_lt nsec 1000000000) refl)
 still_lines w next (command.Lose count) output still does = of_line w (lose_line w.0 count) (Goes next output) does (of_goes_if w.0 _ (nat_lt 0 count && nat_le count 1000000) refl)
-still_lines w next (command.Holds node) output still does = of_line w (holds_line w.0 node) (Goes next output) does (of_holds w.0 (node_named w.0 node))
-still_lines w next (command.Order log) output still does = of_line w (order_line w.0 log) (Goes next output) does (of_showing w.0 (order_text w.0) (participant w.0 log))
-still_lines w next (command.Work log) output still does = of_line w (work_line w.0 log) (Goes next output) does (of_showing w.0 work_text (participant w.0 log))
+still_lines w next (command.Show shown) output still does = of_line w (show_line w.0 shown) (Goes next output) does (shows_are_still w.0 shown (AllGo w.0) (λ text. refl) tt tt)
 still_lines w next command.Nothing output still does = subst (λ (o : Outcome Played). IsStillIn w o) (sym does) (refl, refl)
 still_lines w next (command.Ring nodes replicas) output still does = absurd still
 still_lines w next (command.Log log id seed sets) output still does = absurd still

@@ -1,6 +1,6 @@
 -- What holds of each reply. It is the file system's answer on one tree, or it has another cause.
 -- The tree is the replay, from nothing, of one causally closed set of verified records, of members of the caller's view alone.
-use Rattle.std.specs.Prelude.{◌≡◌, ℕ, ◌++◌, List, Contains, Some}
+use Rattle.std.specs.Prelude.{◌≡◌, ◌⊎◌, ℕ, ◌++◌, List, Contains, Some}
 use Rattle.ivy_base.specs.Naming.{NamesTellApart}
 use Rattle.log_model.specs.Closed.{IsClosed, IsClosedPart, log_of}
 use Rattle.log_model.specs.Record.{Record}
@@ -11,21 +11,27 @@ use Rattle.turn_model.specs.Turn.{Asked, Candidate, IsAtHand, turn_on}
 use Rattle.world_model.specs.Agents.{inputs, own}
 use Rattle.agent_model.specs.Candidates.{AreCandidatesOf}
 use Rattle.agent_model.specs.Standing.{Refresh}
-use Rattle.session_model.specs.Brought.{brought_in}
+use Rattle.session_model.specs.Brought.{asks_in, brought_in}
 use Rattle.session_model.specs.Courses.{grounds_of}
 use Rattle.session_model.specs.Refreshing.{Note, Refreshes, Done}
 use Rattle.session_model.specs.Replies.{Asks}
-use Rattle.session_model.specs.Sessions.{Said, Session}
+use Rattle.session_model.specs.Sessions.{Over, Said, Session}
 use Rattle.script_driver.specs.Run.{Outcome, Goes}
 use Rattle.script_model.specs.declared.command.Command.{Command}
 use Rattle.script_model.specs.declared.command.Command.TheVariants as command
 use Rattle.script_model.specs.Lines.{command_of}
 use Rattle.script_model.specs.Messages.{message_of}
-use Rattle.world_model.specs.World.{session_named}
-use Rattle.world_model.specs.Story.{Story, HadTurn, began_of}
+use Rattle.dhash_model.specs.Signed.{hss_judged}
+use Rattle.dht_ids.specs.Asked.{told}
+use Rattle.dht_ids.specs.declared.ask.Ask.{Ask}
+use Rattle.dht_ids.specs.declared.ask.Heard.{Heard}
+use Rattle.world_model.specs.Fates.{FateOf}
+use Rattle.world_model.specs.World.{World, session_named, without_session}
+use Rattle.world_model.specs.Story.{Story, HadTurn, began_of, beginning, having_begun, without_began}
 use Rattle.world_model.specs.Keepers.{fails_next}
 use Rattle.world_model.specs.Logs.{Played}
-use Rattle.world_model.specs.Calls.{shown_end}
+use Rattle.world_model.specs.Calls.{BeginsWith, Sending, replied, scene_of, sending_of, shown_end}
+use Rattle.world_model.specs.Steps.{RunsOut, Scene, StepsOn}
 use Rattle.world_laws.specs.Causes.{HasCause}
 
 -- ---- a turn
@@ -86,14 +92,56 @@ IsAskedBy w (command.As log pieces) number s = (number ≡ w.1.begun) × (s.by �
 IsAskedBy w (command.Finish name) number s = (before : Session) × (session_named w.0 name ≡ Some before) × (number ≡ (began_of w.1 name).number) × (s.by ≡ before.by) × (s.message ≡ before.message)
 IsAskedBy w _ number s = ⊥
 
--- What the line shows is the reply of its session, and that reply has its cause.
+-- Where the steps of the line's call begin: in the world and the story of the line.
+-- Of `as` the session begins with what the line sends. Of `end S` it is the open session of that name, as the lines before left it.
+abbrev pub StepsBeginAt : Played → Command → Scene → Type 0
+StepsBeginAt w (command.As log pieces) start = (s : Sending) × (t : Session) × (sending_of w.0 log pieces ≡ Some s) × BeginsWith w.0 s t
+    × (start ≡ record { world = w.0; story = having_begun w.1; session = t; began = beginning w.1 s.by.name })
+StepsBeginAt w (command.Finish name) start = (s : Session) × (session_named w.0 name ≡ Some s) × (start ≡ scene_of w s (began_of w.1 name))
+StepsBeginAt w _ start = ⊥
+
+-- What is left behind their end: the reply counts for later lines, and the session is open no longer.
+abbrev pub left_behind : Command → Scene → Said → Played
+left_behind (command.Finish name) end said = (replied (without_session end.world name) said, without_began end.story name)
+left_behind _ end said = (replied end.world said, end.story)
+
+-- The trail of a session: the asks by which it was brought something since it last began, and those of its get or put on its way.
+abbrev pub trail_of : Session → List Heard
+trail_of s = asks_in s.parts ++ s.current
+
+-- On the way from one scene to another the session asked a node, and heard the fate of that ask in the world there:
+-- what the node answers by what it holds, or silence, exactly if it is stopped or the ask is lost.
+pub record IsHeard (replicas : ℕ) (name : List ℕ) (start end : Scene) (h : Heard) : Type 0 where
+  pub count : ℕ
+  pub scene : Scene
+  pub leads : StepsOn hss_judged replicas name count start scene
+  pub goes_on : RunsOut hss_judged replicas name scene end
+  pub question : Ask
+  pub next : World
+  pub fate : FateOf hss_judged scene.world h.node question h.got next
+  pub tells : Contains (told h.node question h.got) h
+
+-- The steps that the line made, all up to the end of its session, which says this.
+-- What the session has in its trail it had at their beginning, or heard in them.
+pub record StepsEndAt (w : Played) (command : Command) (next : Played) (end : Scene) (said : Said) : Type 0 where
+  pub replicas : ℕ
+  pub ringed : w.0.replicas ≡ Some replicas
+  pub start : Scene
+  pub begins : StepsBeginAt w command start
+  pub runs : RunsOut hss_judged replicas start.session.by start end
+  pub over : end.session.stage ≡ Over (Some said)
+  pub leaves : next ≡ left_behind command end said
+  pub heard : (h : Heard) → Contains (trail_of end.session) h
+      → Contains (trail_of start.session) h ⊎ IsHeard replicas start.session.by start end h
+
+-- What the line shows is the reply of the session at the end of the steps that it made, and that reply has its cause.
 pub record IsCaused (w : Played) (command : Command) (next : Played) (output : List ℕ) : Type 0 where
-  pub number : ℕ
-  pub session : Session
+  pub end : Scene
   pub said : Said
-  pub asked_by : IsAskedBy w command number session
-  pub shown : output ≡ shown_end session said
-  pub cause : HasCause next.1 number session said
+  pub ends : StepsEndAt w command next end said
+  pub asked_by : IsAskedBy w command end.began.number end.session
+  pub shown : output ≡ shown_end end.session said
+  pub cause : HasCause next.1 end.began.number end.session said
 
 -- ---- the law of a step
 
@@ -105,8 +153,7 @@ pub record HoldsOf (w : Played) (command : Command) (next : Played) (output : Li
   pub caused : ShowsReply command → IsCaused w command next output
 
 -- The headline, of a line that goes on. Each turn that it made is on the replay of one causally closed set of verified records.
--- The reply that it shows, if it shows one, has its cause.
--- The step itself says where answers come from. Each answer in a session's trail is what the asked node answers by what it holds.
--- Exactly if that node is stopped or the ask is lost, it is silence.
+-- The reply that it shows, if it shows one, is that of the session at the end of its steps, and has its cause.
+-- Each answer in the trail of that session is the fate of its ask, in these steps or in those of the lines before.
 abbrev pub Headline : Played → List ℕ → Outcome Played → Type 0
 Headline w line outcome = (c : Command) (next : Played) (output : List ℕ) → command_of line ≡ Some c → outcome ≡ Goes next output → HoldsOf w c next output

@@ -11,8 +11,9 @@ use Rattle.world_model.specs.Ring.{is_known_id, is_refused_ring, peer_numbered, 
 use Rattle.world_model.specs.World.{World, Participant, participant, peer_of, session_named, view_named}
 use Rattle.world_model.specs.Logs.{Played, at_line, is_too_large, keep_line, keys_of, use_line}
 use Rattle.world_model.specs.Calls.{Sending, is_step_count, sending_of}
-use Rattle.world_model.specs.Faults.{damage_line, holds_line, lose_line, node_named, order_line, work_line}
-use Rattle.world_model.specs.Step.{IvyStep, most_bytes}
+use Rattle.world_model.specs.Faults.{damage_line, lose_line, node_named}
+use Rattle.world_model.specs.Shows.{show_line}
+use Rattle.world_model.specs.Step.{IvyStep, is_end, most_bytes}
 
 pub data Kind : Type 0 where
   Going : Kind
@@ -86,9 +87,7 @@ command_kind w (command.Damage node key offset byte) = kind (damage_line w.0 nod
 command_kind w (command.Snap log) = in_view_kind (participant w.0 log)
 command_kind w (command.Restart log) = in_view_kind (participant w.0 log)
 command_kind w (command.Keep log count new) = kind (keep_line w.0 log count new)
-command_kind w (command.Holds node) = kind (holds_line w.0 node)
-command_kind w (command.Order log) = kind (order_line w.0 log)
-command_kind w (command.Work log) = kind (work_line w.0 log)
+command_kind w (command.Show shown) = kind (show_line w.0 shown)
 command_kind w command.Nothing = Going
 command_kind w command.End = Ending
 
@@ -97,8 +96,7 @@ within_limit_kind w None = if nat_lt most_bytes (sum_by (λ b. length b) w.0.met
 within_limit_kind w (Some c) = if nat_lt most_bytes (sum_by (λ b. length b) w.0.met) then Limited else command_kind w c
 
 abbrev pub first_kind : Played → Option Command → Kind
-first_kind w (Some command.End) = Ending
-first_kind w c = within_limit_kind w c
+first_kind w c = if is_end c then Ending else within_limit_kind w c
 
 -- Each outcome of a line is of the line's kind: no two cases of a command overlap, and a line that is refused, meets a limit or ends the run does nothing else.
 abbrev pub LineHasOneKind : Type 0

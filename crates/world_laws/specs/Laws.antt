@@ -77,9 +77,7 @@ MetGrows = (w next : Played) (line output : List ℕ) → IvyStep w line (Goes n
 abbrev pub IsStill : Command → Type 0
 IsStill (command.At sec nsec) = Unit {0}
 IsStill (command.Lose count) = Unit {0}
-IsStill (command.Holds node) = Unit {0}
-IsStill (command.Order log) = Unit {0}
-IsStill (command.Work log) = Unit {0}
+IsStill (command.Show shown) = Unit {0}
 IsStill command.Nothing = Unit {0}
 IsStill _ = ⊥
 

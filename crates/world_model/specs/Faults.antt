@@ -1,14 +1,9 @@
--- Lines of faults and of shows, and how nodes and keys are named.
-use Rattle.std.specs.Prelude.{ℕ, ◌+◌, ◌-◌, ◌==◌, nat_lt, nat_le, ◌&&◌, List, [], ◌∷◌, ◌++◌, codes, length, find, drop, Option, Some, None, is_some, option_map, if◌then◌else◌}
-use Rattle.std.specs.List.{flat_map}
-use Rattle.std.specs.Fmt.{decimal}
-use Rattle.hex.specs.Hex.{encode_lower}
+-- Lines of faults, and how nodes and keys are named.
+use Rattle.std.specs.Prelude.{ℕ, ◌+◌, ◌-◌, ◌==◌, nat_lt, nat_le, ◌&&◌, List, [], ◌∷◌, find, drop, Option, Some, None, option_map, if◌then◌else◌}
 use Rattle.ivy_base.specs.declared.key.Key.{Key}
 use Rattle.ivy_base.specs.Naming.{head_key_of}
 use Rattle.ring_model.specs.Circle.{number}
 use Rattle.ring_model.specs.Members.{first, owners}
-use Rattle.log_model.specs.Record.{Record}
-use Rattle.log_model.specs.Rank.{weight}
 use Rattle.log_model.specs.View.{view_name}
 use Rattle.dht_ids.specs.Peers.{place}
 use Rattle.dht_ids.specs.declared.peer.Peer.{Peer}
@@ -21,7 +16,7 @@ use Rattle.script_model.specs.declared.command.NodeWord.TheVariants as node
 use Rattle.script_model.specs.Words.{◌>>=◌}
 use Rattle.world_model.specs.Agents.{own}
 use Rattle.world_model.specs.Nodes.{Node}
-use Rattle.world_model.specs.World.{World, Participant, participant, view_named, with_node, node_at, peer_of, name_of_owner, meets}
+use Rattle.world_model.specs.World.{World, participant, view_named, with_node, node_at, peer_of, meets}
 use Rattle.world_model.specs.Ring.{live_in_order}
 use Rattle.world_model.specs.Logs.{goes_if}
 
@@ -68,38 +63,3 @@ damage_by w _ _ offset byte = Refuses
 
 abbrev pub damage_line : World → NodeWord → KeyWord → ℕ → ℕ → Outcome World
 damage_line w at named offset byte = damage_by w (node_named w at) (key_named w named) offset byte
-
--- ---- what a live node holds
-
-abbrev pub holds_text : Node → List ℕ
-holds_text n = codes "holds " ++ decimal (peer_of n).number ++ 32 ∷ decimal (length n.blocks) ++ 10 ∷ flat_map (λ e. encode_lower e.0.0 ++ 10 ∷ []) n.blocks
-
-abbrev pub holds_by : World → Option Node → Outcome World
-holds_by w None = Refuses
-holds_by w (Some n) = if n.is_live then Goes w (holds_text n) else Refuses
-
-abbrev pub holds_line : World → NodeWord → Outcome World
-holds_line w at = holds_by w (node_named w at)
-
--- ---- what a participant holds above its basis, and how much its last turn applied
-
--- a record by its weight, its log and its number
-abbrev pub record_line : World → Record → List ℕ
-record_line w r = decimal (weight r) ++ 32 ∷ name_of_owner w r.owner ++ 32 ∷ decimal r.seq ++ 10 ∷ []
-
-abbrev pub order_text : World → Participant → List ℕ
-order_text w p = codes "order " ++ p.name ++ 32 ∷ decimal (length p.agent.holding.held) ++ 10 ∷ flat_map (record_line w) p.agent.holding.held
-
-abbrev pub work_text : Participant → List ℕ
-work_text p = codes "work " ++ p.name ++ 32 ∷ decimal p.work ++ 10 ∷ []
-
--- a participant that entered a view shows this
-abbrev pub showing : World → (Participant → List ℕ) → Option Participant → Outcome World
-showing w text None = Refuses
-showing w text (Some p) = if is_some p.agent.view then Goes w (text p) else Refuses
-
-abbrev pub order_line : World → List ℕ → Outcome World
-order_line w log = showing w (order_text w) (participant w log)
-
-abbrev pub work_line : World → List ℕ → Outcome World
-work_line w log = showing w work_text (participant w log)

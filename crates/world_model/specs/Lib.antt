@@ -10,6 +10,7 @@ pub mod Rounds
 pub mod Logs
 pub mod Calls
 pub mod Faults
+pub mod Shows
 pub mod Step
 pub mod RingOf
 pub mod Holding

@@ -1,5 +1,5 @@
 -- The step of a script: what a line may do in a world with its story. Each kind of line has its module; a kind that comes later is one more case.
-use Rattle.std.specs.Prelude.{◌≡◌, ℕ, nat_lt, List, [], Option, Some, None, MatchBool, length, sum_by}
+use Rattle.std.specs.Prelude.{◌≡◌, ℕ, nat_lt, Bool, true, false, List, [], Option, Some, None, MatchBool, length, sum_by}
 use Rattle.ivy_base.specs.declared.key.Key.{Key}
 use Rattle.dht_ids.specs.declared.judge.Judged.{Judged}
 use Rattle.dhash_model.specs.Signed.{hss_judged}
@@ -12,7 +12,8 @@ use Rattle.world_model.specs.Ring.{RingLine, JoinLine, stop_line}
 use Rattle.world_model.specs.Rounds.{RoundLine}
 use Rattle.world_model.specs.Logs.{Played, LogLine, ViewLine, RestartLine, SnapLine, at_line, beside, keep_line, keys_of, use_line}
 use Rattle.world_model.specs.Calls.{AsLine, OpenLine, StepLine, FinishLine, sending_of}
-use Rattle.world_model.specs.Faults.{damage_line, holds_line, lose_line, node_named, order_line, work_line}
+use Rattle.world_model.specs.Faults.{damage_line, lose_line, node_named}
+use Rattle.world_model.specs.Shows.{show_line}
 
 -- what a command does that the story doesn't tell of
 abbrev pub Untold : Played → (Outcome World → Type 0) → Outcome Played → Type 0
@@ -37,9 +38,7 @@ Does judged w (command.Damage node key offset byte) outcome = outcome ≡ beside
 Does judged w (command.Snap log) outcome = SnapLine judged w (participant w.0 log) outcome
 Does judged w (command.Restart log) outcome = RestartLine w (participant w.0 log) outcome
 Does judged w (command.Keep log count new) outcome = outcome ≡ beside w.1 (keep_line w.0 log count new)
-Does judged w (command.Holds node) outcome = outcome ≡ beside w.1 (holds_line w.0 node)
-Does judged w (command.Order log) outcome = outcome ≡ beside w.1 (order_line w.0 log)
-Does judged w (command.Work log) outcome = outcome ≡ beside w.1 (work_line w.0 log)
+Does judged w (command.Show shown) outcome = outcome ≡ beside w.1 (show_line w.0 shown)
 Does judged w command.Nothing outcome = outcome ≡ Goes w []
 Does judged w command.End outcome = outcome ≡ Ends
 
@@ -55,9 +54,13 @@ most_bytes = 16777216
 abbrev pub WithinLimit : Played → Option Command → Outcome Played → Type 0
 WithinLimit w command outcome = MatchBool (nat_lt most_bytes (sum_by (λ b. length b) w.0.met)) (outcome ≡ Exceeds) (MayDo w command outcome)
 
+abbrev pub is_end : Option Command → Bool
+is_end (Some command.End) = true
+is_end _ = false
+
+-- the end ends the run, whatever was met
 abbrev pub MayDoFirst : Played → Option Command → Outcome Played → Type 0
-MayDoFirst w (Some command.End) outcome = outcome ≡ Ends
-MayDoFirst w command outcome = WithinLimit w command outcome
+MayDoFirst w command outcome = MatchBool (is_end command) (outcome ≡ Ends) (WithinLimit w command outcome)
 
 -- what a line may do: what its command does, and a line that is no command is refused
 abbrev pub IvyStep : Played → List ℕ → Outcome Played → Type 0

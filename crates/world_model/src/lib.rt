@@ -13,7 +13,7 @@
 //! - `specs/Fates.antt`: the fate of an ask;
 //! - `specs/Steps.antt`: the steps of a session;
 //! - the lines: `specs/Ring.antt`, `specs/Rounds.antt`, `specs/Logs.antt`, `specs/Calls.antt`,
-//!   `specs/Faults.antt`;
+//!   `specs/Faults.antt`, `specs/Shows.antt`;
 //! - `specs/Step.antt`: the step of a script;
 //! - `specs/RingOf.antt`, `specs/Holding.antt`: which nodes live, and what they hold.
 #![tactic(auto)]

@@ -1,10 +1,11 @@
 use Rattle.dhash_model.specs.Signed.{hss_judged}
 use Rattle.script_machine.proofs.OtherLines.{function_in, function_line, ring_line, untold_line}
-use Rattle.script_machine.proofs.StayingRing.{at_stays, damage_stays, holds_stays, join_stays, keep_stays, lose_stays, order_stays, round_stays, stop_stays, work_stays}
-use Rattle.world_model.specs.Faults.{damage_line, holds_line, lose_line, node_named, order_line, work_line}
+use Rattle.script_machine.proofs.StayingRing.{at_stays, damage_stays, join_stays, keep_stays, lose_stays, round_stays, show_stays, stop_stays}
+use Rattle.world_model.specs.Faults.{damage_line, lose_line, node_named}
 use Rattle.world_model.specs.Logs.{at_line, keep_line}
 use Rattle.world_model.specs.Ring.{JoinLine, stop_line}
 use Rattle.world_model.specs.Rounds.{RoundLine}
+use Rattle.world_model.specs.Shows.{show_line}
 use Rattle.script_machine.proofs.machine.ScriptMachine.obey.Goals as goal
 
 pub returns-in-Ring : goal.returns-in-Ring
@@ -52,14 +53,8 @@ returns-in-Restart c = rw (c.in-Restart.is, ← c.as_slice-in-Restart.ensures) c
 pub returns-in-Keep : goal.returns-in-Keep
 returns-in-Keep c = rw (← c.self-in-Keep.view_is, c.in-Keep.is, ← c.as_slice-in-Keep.ensures) (function_line c.self-in-Keep.inside.sessions.items c.self-in-Keep.inside.parts c.keep.new.self (λ w. keep_line w c.as_slice-in-Keep.result.now c.in-Keep.count c.in-Keep.new) c.keep.result (keep_stays c.as_slice-in-Keep.result.now c.in-Keep.count c.in-Keep.new) c.keep.ensures)
 
-pub returns-in-Holds : goal.returns-in-Holds
-returns-in-Holds c = rw (← c.self-in-Holds.view_is, c.in-Holds.is) (function_line c.self-in-Holds.inside.sessions.items c.self-in-Holds.inside.parts c.self-in-Holds.inside.parts (λ w. holds_line w c.in-Holds.node) c.holds.result (holds_stays c.in-Holds.node) c.holds.ensures)
-
-pub returns-in-Order : goal.returns-in-Order
-returns-in-Order c = rw (← c.self-in-Order.view_is, c.in-Order.is, ← c.as_slice-in-Order.ensures) (function_line c.self-in-Order.inside.sessions.items c.self-in-Order.inside.parts c.self-in-Order.inside.parts (λ w. order_line w c.as_slice-in-Order.result.now) c.order.result (order_stays c.as_slice-in-Order.result.now) c.order.ensures)
-
-pub returns-in-Work : goal.returns-in-Work
-returns-in-Work c = rw (← c.self-in-Work.view_is, c.in-Work.is, ← c.as_slice-in-Work.ensures) (function_line c.self-in-Work.inside.sessions.items c.self-in-Work.inside.parts c.self-in-Work.inside.parts (λ w. work_line w c.as_slice-in-Work.result.now) c.work.result (work_stays c.as_slice-in-Work.result.now) c.work.ensures)
+pub returns-in-Show : goal.returns-in-Show
+returns-in-Show c = rw (← c.self-in-Show.view_is, c.in-Show.is) (function_line c.self-in-Show.inside.sessions.items c.self-in-Show.inside.parts c.self-in-Show.inside.parts (λ w. show_line w c.in-Show.shown) c.show.result (show_stays c.in-Show.shown) c.show.ensures)
 
 pub returns-in-At : goal.returns-in-At
 returns-in-At c = rw (← c.self-in-At.view_is, c.in-At.is) (function_in c.self-in-At.inside.sessions.items c.self-in-At.inside.parts c.at.new.self (λ w. at_line w c.in-At.sec c.in-At.nsec) c.at.result (at_stays c.in-At.sec c.in-At.nsec) c.at.ensures)

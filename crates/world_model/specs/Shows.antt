@@ -1,0 +1,68 @@
+-- Lines that show something: they change nothing.
+use Rattle.std.specs.Prelude.{List, ℕ, [], ◌∷◌, ◌++◌, codes, length, Option, Some, None, is_some, if◌then◌else◌}
+use Rattle.std.specs.List.{flat_map}
+use Rattle.std.specs.Fmt.{decimal}
+use Rattle.hex.specs.Hex.{encode_lower}
+use Rattle.log_model.specs.Record.{Record}
+use Rattle.log_model.specs.Rank.{weight}
+use Rattle.script_driver.specs.Run.{Outcome, Goes, Refuses, Exceeds}
+use Rattle.script_model.specs.declared.command.Shown.{Shown}
+use Rattle.script_model.specs.declared.command.Shown.TheVariants as shown
+use Rattle.world_model.specs.Nodes.{Node}
+use Rattle.world_model.specs.World.{World, Participant, participant, peer_of, name_of_owner}
+use Rattle.world_model.specs.Faults.{node_named}
+
+-- what there is to show: nothing, more than a line may show, or this
+pub data Showing : Type 0 where
+  Absent : Showing
+  TooMuch : Showing
+  Text : List ℕ → Showing
+
+-- ---- what a live node holds
+
+abbrev pub holds_text : Node → List ℕ
+holds_text n = decimal (peer_of n).number ++ 32 ∷ decimal (length n.blocks) ++ 10 ∷ flat_map (λ e. encode_lower e.0.0 ++ 10 ∷ []) n.blocks
+
+abbrev pub of_live : Option Node → Showing
+of_live None = Absent
+of_live (Some n) = if n.is_live then Text (holds_text n) else Absent
+
+-- ---- what a participant holds above its basis, and how much its last turn applied
+
+-- a record by its weight, its log and its number
+abbrev pub record_line : World → Record → List ℕ
+record_line w r = decimal (weight r) ++ 32 ∷ name_of_owner w r.owner ++ 32 ∷ decimal r.seq ++ 10 ∷ []
+
+abbrev pub order_text : World → Participant → List ℕ
+order_text w p = p.name ++ 32 ∷ decimal (length p.agent.holding.held) ++ 10 ∷ flat_map (record_line w) p.agent.holding.held
+
+abbrev pub work_text : Participant → List ℕ
+work_text p = p.name ++ 32 ∷ decimal p.work ++ 10 ∷ []
+
+-- a participant that entered a view shows this
+abbrev pub of_entered : (Participant → List ℕ) → Option Participant → Showing
+of_entered text None = Absent
+of_entered text (Some p) = if is_some p.agent.view then Text (text p) else Absent
+
+-- ---- the line
+
+-- the word that the line and what it shows begin with
+abbrev pub word_of : Shown → List ℕ
+word_of (shown.Holds node) = codes "holds"
+word_of (shown.Order log) = codes "order"
+word_of (shown.Work log) = codes "work"
+
+-- what is shown behind that word
+abbrev pub showing : World → Shown → Showing
+showing w (shown.Holds node) = of_live (node_named w node)
+showing w (shown.Order log) = of_entered (order_text w) (participant w log)
+showing w (shown.Work log) = of_entered work_text (participant w log)
+
+-- a line that shows nothing is refused, and one that would show too much meets a limit
+abbrev pub shown_as : World → List ℕ → Showing → Outcome World
+shown_as w word Absent = Refuses
+shown_as w word TooMuch = Exceeds
+shown_as w word (Text text) = Goes w (word ++ 32 ∷ text)
+
+abbrev pub show_line : World → Shown → Outcome World
+show_line w s = shown_as w (word_of s) (showing w s)
