@@ -1,5 +1,5 @@
 -- How a session in code settles, is over, and begins.
-use Rattle.std.proofs.Common.{◌≡◌, ◌≢◌, ⊎_elim, inl, inr, ℕ, true, false, List, [], ◌∷◌, Option, Some, None, Result, Ok, refl, sym, ap, ◌∙◌, subst}
+use Rattle.std.proofs.Common.{◌≡◌, ◌≢◌, ⊎_elim, ℕ, true, false, List, [], ◌∷◌, Option, Some, None, Result, Ok, refl, sym, ap, ◌∙◌, subst}
 use Rattle.std.specs.Prelude.{IfOk, IfSome, IsSomeAnd}
 use Rattle.ivy_base.specs.declared.memory.Memory.{Memory}
 use Rattle.dht_ids.specs.declared.peer.Peer.{Peer}
@@ -16,11 +16,12 @@ use Rattle.log_fetch.specs.Standings.{standing_of}
 use Rattle.ivy_agent.specs.Calls as calls
 use Rattle.ivy_session.specs.declared.served.Served.{Served}
 use Rattle.ivy_session.specs.declared.session.Next.TheVariants as next
-use Rattle.ivy_session.specs.declared.session.Stage.{Stage}
-use Rattle.ivy_session.specs.declared.session.Stage.TheVariants as stage
-use Rattle.ivy_session.specs.States.{BeginsAs, IsAt, IsSession, SessionState, is_told, is_turning, session_awaited}
+use Rattle.ivy_session.specs.Cutting.{IsCutAsWanted}
+use Rattle.ivy_session.specs.States.{BeginsAs, SessionState, is_turning, served_of, session_awaited}
 use Rattle.ivy_session.specs.Stepping.{IsSameSession, NextIs}
 use Rattle.ivy_session.specs.Stepping.NextIs.{settles as next_settles, is_over as next_over, lacks_memory as next_lacks, is_cut as next_cut, is_unrouted}
+use Rattle.ivy_session.proofs.Ended.{over_has_asked, over_is_past}
+use Rattle.ivy_session.proofs.Staying.{some_same, taken_same}
 use Rattle.server_model.specs.Acts.{Settling}
 use Rattle.server_model.specs.Driving.{Driven, over_with}
 use Rattle.server_model.specs.Driving.Does.{settles}
@@ -31,20 +32,8 @@ use Rattle.ivy_server.specs.Served.{Leave}
 use Rattle.ivy_server.specs.Sessions.{BeginsWith, GoesOn, Held, IsDriven, IsOver, Place, Setting, Touched, judges}
 use Rattle.ivy_server.proofs.Asks.{as_place, driven_then}
 use Rattle.ivy_server.proofs.Marks.{leave_settle}
-use Rattle.ivy_server.proofs.Over.{over_has_asked, over_is_past}
-use Rattle.ivy_server.proofs.Ways.{one_act, taken_same}
-
--- one on its way isn't told to be over yet
-module _ (s : Session) (st : SessionState HssJudge) where
-  told_or_not : (at : Stage HssJudge) → IsAt judges s st at → is_told at ≡ false
-  told_or_not (stage.Refreshing c f) h = refl
-  told_or_not (stage.Turning c) h = refl
-  told_or_not (stage.Publishing told p) h = refl
-  told_or_not (stage.Over told) h = refl
-  told_or_not stage.Told h = absurd h
-
-  pub not_told : IsSession judges s st → is_told st.stage ≡ false
-  not_told h = told_or_not st.stage h.at
+use Rattle.ivy_server.proofs.Ways.{one_act}
+use Rattle.ivy_server.proofs.Whole.{lacking_refreshed, more_is_whole, over_is_whole, refreshing_is_whole}
 
 module _ (place : Place) (here : Driven) (old : Held) (is : IsDriven place here old) where
   no_entry : here.session.entries ≢ []
@@ -54,8 +43,9 @@ module _ {P K S C : Type 0} (setting : Setting P K S C) (here : Driven) (old : H
   -- ---- a settling
 
   pub settle_goes : (acks : List Ack) (new : Held) (before after : Touched P C) → IsSameSession old.session new.session
+      → IsCutAsWanted old.session new.session (next.Settle acks)
       → NextIs judges old.session new.session here.session here.cache new.cache (next.Settle acks) → GivesSettling setting.by before.pass acks after.pass → after.marks ≡ before.marks → GoesOn setting here new before after
-  settle_goes acks new before after same (next_settles said _ at free stays session) gives marks =
+  settle_goes acks new before after same cut (next_settles said _ at free stays session) gives marks =
       let publishes : here.session.stage ≡ Publishing said [] acks = ⊎_elim (λ e. e) (λ nobody. absurd (no_entry setting.place here old is nobody.0)) at in
       record {
         acts = Settling acks ∷ [];
@@ -63,34 +53,41 @@ module _ {P K S C : Type 0} (setting : Setting P K S C) (here : Driven) (old : H
         went = one_act _ (settles said acks publishes);
         follows = follows_settles acks follows_none gives;
         leave = subst (λ m. Leave setting.gives before.marks (Settling acks ∷ []) m) (sym marks) (leave_settle before.marks acks);
-        driven = driven_then setting.place here old is (over_with here said) new same session (sym stays) is.viewed (over_has_asked judges (record here.session { stage = Over said }) new.session said refl session)
+        driven = driven_then setting.place here old is (over_with here said) new same session (sym stays) (more_is_whole old.session new.session (next.Settle acks) cut refl ∙ is.cut) is.viewed (over_has_asked judges (record here.session { stage = Over said }) new.session said refl session)
             (over_is_past judges (record here.session { stage = Over said }) new.session said refl session);
-        cut = λ e. inl e;
       }
 
   -- ---- the end
 
-  pub done_is_over : (served : Served) (new : Held) → NextIs judges old.session new.session here.session here.cache new.cache (next.Done served) → IsOver setting here new served
-  done_is_over _ new (next_over said at stays noted) = record { there = here; said = said; went = none; over = at; is_told = refl; cache = sym stays; cut = λ e. inl e }
-  done_is_over _ new (next_lacks t u said takes lacking at noted) = record {
+  pub done_is_over : (served : Served) (new : Held) → IsCutAsWanted old.session new.session (next.Done served) → NextIs judges old.session new.session here.session here.cache new.cache (next.Done served) → IsOver setting here new served
+  done_is_over _ new cut (next_over said at stays noted) = record {
+    there = here;
+    said = said;
+    went = none;
+    over = at;
+    is_told = refl;
+    cache = sym stays;
+    cut = over_is_whole old.session new.session (next.Done (served_of said)) cut judges here.session said is.is at ∙ is.cut;
+  }
+  done_is_over _ new cut (next_lacks t u said takes lacking at noted) = record {
     there = record { session = u; cache = new.cache; is_cut = here.is_cut };
     said = Some said;
     went = lacks_memory (record { session = t; cache = new.cache; is_cut = here.is_cut }) u none (as_place setting.place here old is (λ n. TakesSome hss_judged n here.session here.cache t new.cache) takes, refl) lacking;
     over = at;
     is_told = refl;
     cache = refl;
-    cut = λ e. inl e;
+    cut = refreshing_is_whole old.session new.session (next.Done (served_of (Some said))) cut judges here.session is.is (sym (ap (λ (s : Session). s.stage) (some_same takes)) ∙ lacking_refreshed lacking) ∙ is.cut;
   }
-  done_is_over _ new (next_cut said posts acks at flag noted stays) = record {
+  done_is_over _ new cut (next_cut said posts acks at flag noted stays) = record {
     there = record (over_with here said) { is_cut = true };
     said = said;
     went = is_cut said posts acks none at;
     over = refl;
     is_told = refl;
     cache = sym stays;
-    cut = λ e. inr flag;
+    cut = flag;
   }
-  done_is_over _ new (is_unrouted t told takes nobody) = absurd (no_entry setting.place here old is (sym (taken_same takes).entries ∙ nobody.none))
+  done_is_over _ new cut (is_unrouted t told takes nobody) = absurd (no_entry setting.place here old is (sym (ap (λ (s : Session). s.entries) (taken_same takes)) ∙ nobody.none))
 
 -- ---- the beginning
 
@@ -115,9 +112,9 @@ module _ {P K S : Type 0} (by : Passes P K S) (place : Place) (some : IsSomeAnd 
         )
 
     -- the session is on its way
-    pub begun_with : (st : SessionState HssJudge) → st.replicas ≡ place.replicas → st.entries ≡ place.entries → place.entries ≢ [] → BeginsAs judges message (standing_of standing) st → session_awaited st ≡ None → is_turning st.stage ≡ false
+    pub begun_with : (st : SessionState HssJudge) → st.replicas ≡ place.replicas → st.entries ≡ place.entries → place.entries ≢ [] → BeginsAs judges message (standing_of standing) st → session_awaited st ≡ None → is_turning st.stage ≡ false → st.is_cut ≡ false
         → BeginsWith by place message p q (Some st)
-    begun_with st replicas entries some_entry begins free no_turn cache =
+    begun_with st replicas entries some_entry begins free no_turn whole cache =
         let b = begins [] in
         let g = gives_so place.view refl in
         record {
@@ -128,6 +125,7 @@ module _ {P K S : Type 0} (by : Passes P K S) (place : Place) (some : IsSomeAnd 
           driven = record {
             is = b.2;
             cache = refl;
+            cut = whole;
             viewed = g.1 ∙ ap (λ (s : ModelStanding). Some s.view) (sym (begins_so message st.entries (standing_of standing) b.0 b.1));
             asked = λ waits. absurd (waits free);
             replicas = replicas;

@@ -1,6 +1,6 @@
 mod Ways
 mod Marks
-mod Over
+mod Whole
 mod Asks
 mod Turns
 mod Ends

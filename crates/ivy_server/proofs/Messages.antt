@@ -1,6 +1,5 @@
 -- A message whose session goes its way in code is served, as the definitions have it.
-use Rattle.std.proofs.Common.{◌≡◌, ◌⊎◌, ⊎_elim, ℕ, Bool, true, false, List, [], ◌++◌, Option, Some, None, refl, sym, ap, ◌∙◌, subst}
-use Rattle.std.specs.Prelude.{◌||◌}
+use Rattle.std.proofs.Common.{◌≡◌, ℕ, Bool, true, false, List, [], ◌++◌, Option, Some, None, refl, sym, ap, ◌∙◌, subst}
 use Rattle.std.proofs.lemmas.List.{append-nil}
 use Rattle.nfs_model.specs.declared.replies.Reply.{Reply}
 use Rattle.dht_ids.specs.declared.ask.Answer.{Answer as Answered}
@@ -20,6 +19,7 @@ use Rattle.session_model.specs.Sessions.{Cache, Hears, Over, Publishing, Refresh
 use Rattle.session_model.specs.Sessions.Hears.{gets_on, got, puts_on, puts}
 use Rattle.ivy_session.specs.declared.served.Served.{Served}
 use Rattle.ivy_session.specs.States.{SessionState, reply_or_none, served_of}
+use Rattle.ivy_session.proofs.Staying.{taken_same}
 use Rattle.server_model.specs.Acts.{Act, Gave}
 use Rattle.server_model.specs.Driving.{Does, Driven, Makes, Went}
 use Rattle.server_model.specs.Driving.Does.{asks, asks_in_vain, turns, settles}
@@ -35,7 +35,7 @@ use Rattle.ivy_server.specs.Passes.{Passes, by_passes}
 use Rattle.ivy_server.specs.Sessions.{BeginsWith, CameOf, Held, IsDriven, IsServingOf, IsUnderWay, Place, Setting, StepsFrom, Touched, outcome_for, place_of, ring_in}
 use Rattle.ivy_server.specs.declared.message.Outcome.{Outcome}
 use Rattle.ivy_server.proofs.Marks.{leave_none, leave_then}
-use Rattle.ivy_server.proofs.Ways.{WentTo, follows_then, taken_same, went_then}
+use Rattle.ivy_server.proofs.Ways.{WentTo, follows_then, went_then}
 
 -- ---- what a session says
 
@@ -70,9 +70,9 @@ module _ (Q : Option Said → Type 0) (of_reply : (xid : ℕ) (reply : Reply) �
   makes_says xid s notes (makes_lacking t lacking) q = lacks_says lacking
 
   does_says : {here there : Driven} {act : Act} → Does ring here act there → Says Q here.session.stage → Says Q there.session.stage
-  does_says (asks taken heard t node question answer takes hears ends) q = fails_says ends (hears_says hears.0 (subst (Says Q) (sym (taken_same takes.0).stage) q))
+  does_says (asks taken heard t node question answer takes hears ends) q = fails_says ends (hears_says hears.0 (subst (Says Q) (sym (ap (λ (t : Session). t.stage) (taken_same takes.0))) q))
   does_says (asks_in_vain taken heard t node question answer takes hears lacking) q = lacks_says lacking
-  does_says (turns taken t notes xid turn gave takes refreshed asking makes) q = makes_says xid taken.session notes makes (subst (Says Q) (sym (taken_same takes.0).stage) q)
+  does_says (turns taken t notes xid turn gave takes refreshed asking makes) q = makes_says xid taken.session notes makes (subst (Says Q) (sym (ap (λ (t : Session). t.stage) (taken_same takes.0))) q)
   does_says (settles said acks at) q = subst (Says Q) at q
 
   pub went_says : {start there : Driven} {acts : List Act} → Went ring start acts there → Says Q start.session.stage → Says Q there.session.stage
@@ -94,21 +94,11 @@ says_something : (ring : Ring) {message : List ℕ} {entries : List Peer} {stand
 says_something ring o begins way at =
     subst (Says IsSaid) at (went_says IsSaid (λ xid reply. (said_of xid reply, refl)) (λ xid. (said_no_memory xid, refl)) ring way (begins_saying begins))
 
--- ---- flags
-
-either_first : (a b : Bool) → a ≡ true → (a || b) ≡ true
-either_first true b e = refl
-either_first false b e = cc e
-
-either_second : (a b : Bool) → b ≡ true → (a || b) ≡ true
-either_second true b e = refl
-either_second false b e = e
-
 -- ---- a message
 
 module _ {P K S C : Type 0} (setting : Setting P K S C) (message : List ℕ) (old : Cache) (before : Touched P C) where
   pub begun_serving : (q : P) (st : SessionState HssJudge) → BeginsWith setting.by setting.place message before.pass q (Some st)
-      → IsServingOf setting message old before (record { pass = q; marks = before.marks }) (record { session = st; cache = old }) false
+      → IsServingOf setting message old before (record { pass = q; marks = before.marks }) (record { session = st; cache = old })
   begun_serving q st begins =
       let b = begins old in
       record {
@@ -123,14 +113,10 @@ module _ {P K S C : Type 0} (setting : Setting P K S C) (message : List ℕ) (ol
         follows = follows_none;
         leave = leave_none before.marks;
         driven = b.driven;
-        cut = λ e. cc e;
       }
 
-  module _ (now after : Touched P C) (held new : Held) (flag : Bool) (serving : IsServingOf setting message old before now held flag) where
-    then_cut : (there : Driven) → (there.is_cut ≡ true → (serving.there.is_cut ≡ true) ⊎ (new.session.is_cut ≡ true)) → there.is_cut ≡ true → (flag || new.session.is_cut) ≡ true
-    then_cut there cut e = ⊎_elim (λ first. either_first flag new.session.is_cut (serving.cut first)) (λ second. either_second flag new.session.is_cut second) (cut e)
-
-    pub serving_goes : StepsFrom setting held new now after None → IsServingOf setting message old before after new (flag || new.session.is_cut)
+  module _ (now after : Touched P C) (held new : Held) (serving : IsServingOf setting message old before now held) where
+    pub serving_goes : StepsFrom setting held new now after None → IsServingOf setting message old before after new
     serving_goes steps =
         let g = steps serving.there serving.driven in
         record {
@@ -145,15 +131,14 @@ module _ {P K S C : Type 0} (setting : Setting P K S C) (message : List ℕ) (ol
           follows = follows_then serving.follows g.follows;
           leave = leave_then before.marks now.marks after.marks serving.acts g.acts serving.leave g.leave;
           driven = g.driven;
-          cut = then_cut g.there g.cut;
         }
 
-    came_so : (reply : Option (List ℕ)) (cut : Bool) → Serves (by_passes setting.by) (ring_in setting.place) (record { taker = before.pass; cache = old }) message serving.acts (record { reply = reply; is_cut = cut }) (record { taker = now.pass; cache = new.cache })
-        → (cut ≡ true → (flag || new.session.is_cut) ≡ true) → CameOf setting message old new.cache before now (outcome_for (reply_or_none reply) (flag || new.session.is_cut))
-    came_so None cut is noticed = record { acts = serving.acts; cut = cut; serves = is; leave = serving.leave; noticed = λ e. refl }
-    came_so (Some reply) cut is noticed = record { acts = serving.acts; cut = cut; serves = is; leave = serving.leave; noticed = noticed }
+    came_so : (reply : Option (List ℕ)) (flag : Bool) → Serves (by_passes setting.by) (ring_in setting.place) (record { taker = before.pass; cache = old }) message serving.acts (record { reply = reply; is_cut = flag }) (record { taker = now.pass; cache = new.cache })
+        → CameOf setting message old new.cache before now (outcome_for (reply_or_none reply) flag)
+    came_so None flag is = (flag, record { acts = serving.acts; serves = is; leave = serving.leave })
+    came_so (Some reply) flag is = record { acts = serving.acts; serves = is; leave = serving.leave }
 
-    pub serving_ends : (served : Served) → StepsFrom setting held new now after (Some served) → CameOf setting message old new.cache before after (outcome_for served (flag || new.session.is_cut))
+    pub serving_ends : (served : Served) → StepsFrom setting held new now after (Some served) → CameOf setting message old new.cache before after (outcome_for served new.session.is_cut)
     serving_ends served steps =
         let e = steps serving.there serving.driven in
         let over = e.0 in
@@ -162,19 +147,19 @@ module _ {P K S C : Type 0} (setting : Setting P K S C) (message : List ℕ) (ol
         let said = says_something (ring_in setting.place) over.said serving.begins way over.over in
         let is : Serves (by_passes setting.by) (ring_in setting.place) (record { taker = before.pass; cache = old }) message serving.acts (record { reply = said.0.message; is_cut = over.there.is_cut }) (record { taker = now.pass; cache = over.there.cache }) =
         serves serving.standing serving.began now.pass serving.session over.there serving.acts said.0 serving.stands serving.begins way (over.over ∙ ap (λ (o : Option Said). Over o) said.1) serving.follows in
-        subst (λ (t : Touched P C). CameOf setting message old new.cache before t (outcome_for served (flag || new.session.is_cut))) (sym e.1)
-        (subst (λ (s : Served). CameOf setting message old new.cache before now (outcome_for s (flag || new.session.is_cut))) (ap (λ (o : Option Said). served_of o) (sym said.1) ∙ sym over.is_told)
-        (came_so said.0.message over.there.is_cut
-        (subst (λ (c : Cache). Serves (by_passes setting.by) (ring_in setting.place) (record { taker = before.pass; cache = old }) message serving.acts (record { reply = said.0.message; is_cut = over.there.is_cut }) (record { taker = now.pass; cache = c })) over.cache is)
-        (then_cut over.there over.cut)))
+        subst (λ (t : Touched P C). CameOf setting message old new.cache before t (outcome_for served new.session.is_cut)) (sym e.1)
+        (subst (λ (s : Served). CameOf setting message old new.cache before now (outcome_for s new.session.is_cut)) (ap (λ (o : Option Said). served_of o) (sym said.1) ∙ sym over.is_told)
+        (came_so said.0.message new.session.is_cut
+        (subst (λ (b : Bool). Serves (by_passes setting.by) (ring_in setting.place) (record { taker = before.pass; cache = old }) message serving.acts (record { reply = said.0.message; is_cut = b }) (record { taker = now.pass; cache = new.cache })) (sym over.cut)
+        (subst (λ (c : Cache). Serves (by_passes setting.by) (ring_in setting.place) (record { taker = before.pass; cache = old }) message serving.acts (record { reply = said.0.message; is_cut = over.there.is_cut }) (record { taker = now.pass; cache = c })) over.cache is))))
 
 -- ---- in a place that stayed
 
 pub same_place : {replicas other : ℕ} {entries others : List Peer} {view seen : Option View} → replicas ≡ other → entries ≡ others → view ≡ seen → place_of replicas entries view ≡ place_of other others seen
 same_place r e v = λ i. place_of (r i) (e i) (v i)
 
-module _ {P K S C : Type 0} (by : Passes P K S) (gives : C → ℕ × ℕ → C → Type 0) (place later : Place) (same : later ≡ place) (message : List ℕ) (old : Cache) (before now : Touched P C) (held : Held) (flag : Bool)
-    (serving : IsServingOf (record { by = by; gives = gives; place = place }) message old before now held flag) where
+module _ {P K S C : Type 0} (by : Passes P K S) (gives : C → ℕ × ℕ → C → Type 0) (place later : Place) (same : later ≡ place) (message : List ℕ) (old : Cache) (before now : Touched P C) (held : Held)
+    (serving : IsServingOf (record { by = by; gives = gives; place = place }) message old before now held) where
   pub under_way_still : IsUnderWay later held
   under_way_still = (serving.there, subst (λ (p : Place). IsDriven p serving.there held) (sym same) serving.driven)
 
@@ -182,16 +167,14 @@ module _ {P K S C : Type 0} (by : Passes P K S) (gives : C → ℕ × ℕ → C 
     abbrev StepsIn : Option Served → Place → Type 0
     StepsIn told p = StepsFrom (record { by = by; gives = gives; place = p }) held new now after told
 
-    pub still_goes : StepsIn None later → (up : Bool) → up ≡ (flag || new.session.is_cut) → IsServingOf (record { by = by; gives = gives; place = place }) message old before after new up
-    still_goes steps up is =
-        subst (IsServingOf (record { by = by; gives = gives; place = place }) message old before after new) (sym is)
-        (serving_goes (record { by = by; gives = gives; place = place }) message old before now after held new flag serving (subst (StepsIn None) same steps))
+    pub still_goes : StepsIn None later → IsServingOf (record { by = by; gives = gives; place = place }) message old before after new
+    still_goes steps = serving_goes (record { by = by; gives = gives; place = place }) message old before now after held new serving (subst (StepsIn None) same steps)
 
-    pub still_ends : (told : Served) → StepsIn (Some told) later → (up : Bool) → up ≡ (flag || new.session.is_cut) → (out : Outcome) → out ≡ outcome_for told up
+    pub still_ends : (told : Served) → StepsIn (Some told) later → (flag : Bool) → flag ≡ new.session.is_cut → (out : Outcome) → out ≡ outcome_for told flag
         → CameOf (record { by = by; gives = gives; place = place }) message old new.cache before after out
-    still_ends told steps up is out out_is =
+    still_ends told steps flag is out out_is =
         subst (CameOf (record { by = by; gives = gives; place = place }) message old new.cache before after) (sym (out_is ∙ ap (λ (b : Bool). outcome_for told b) is))
-        (serving_ends (record { by = by; gives = gives; place = place }) message old before now after held new flag serving told (subst (StepsIn (Some told)) same steps))
+        (serving_ends (record { by = by; gives = gives; place = place }) message old before now after held new serving told (subst (StepsIn (Some told)) same steps))
 
 -- it begins in such a place
 module _ {P K S C : Type 0} (by : Passes P K S) (gives : C → ℕ × ℕ → C → Type 0) (place begun : Place) (same : begun ≡ place) (message written : List ℕ) (is : written ≡ message) (old : Cache) (before : Touched P C) where
@@ -199,7 +182,7 @@ module _ {P K S C : Type 0} (by : Passes P K S) (gives : C → ℕ × ℕ → C 
   BeganIn q st p m = BeginsWith by p m before.pass q (Some st)
 
   pub first_serving : (q : P) (st : SessionState HssJudge) → BeganIn q st begun written → (made : Option (List Made)) → made ≡ before.marks.made
-      → IsServingOf (record { by = by; gives = gives; place = place }) message old before (record { pass = q; marks = record before.marks { made = made } }) (record { session = st; cache = old }) false
+      → IsServingOf (record { by = by; gives = gives; place = place }) message old before (record { pass = q; marks = record before.marks { made = made } }) (record { session = st; cache = old })
   first_serving q st begins made made_is =
-      subst (λ (m : Option (List Made)). IsServingOf (record { by = by; gives = gives; place = place }) message old before (record { pass = q; marks = record before.marks { made = m } }) (record { session = st; cache = old }) false) (sym made_is)
+      subst (λ (m : Option (List Made)). IsServingOf (record { by = by; gives = gives; place = place }) message old before (record { pass = q; marks = record before.marks { made = m } }) (record { session = st; cache = old })) (sym made_is)
       (begun_serving (record { by = by; gives = gives; place = place }) message old before q st (subst (λ (p : Place). BeganIn q st p message) same (subst (BeganIn q st begun) is begins)))

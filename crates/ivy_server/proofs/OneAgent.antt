@@ -76,7 +76,7 @@ module _ {A B : Type 0} (f : A → B) (first : Taker A) (other : Taker B) (does 
   link_too (write_fault reply is_cut count next less) = write_fault reply is_cut count (next_too next) less
   link_too (unwritten reply is_cut count next less) = unwritten reply is_cut count (next_too next) less
   link_too (was_cut reply next) = was_cut reply (next_too next)
-  link_too (stopped read served looked) = stopped read (each_too served) (looked_too looked)
+  link_too (stopped rest more begins served looked) = stopped rest more begins (each_too served) (looked_too looked)
 
 -- ---- an agent that is its own pass
 

@@ -9,22 +9,24 @@ use Rattle.log_fetch.specs.declared.refresh.Refresh.{Refresh}
 use Rattle.ivy_session.specs.declared.served.Served.{Served}
 use Rattle.ivy_session.specs.declared.session.Next.{Next}
 use Rattle.ivy_session.specs.declared.session.Next.TheVariants as next
+use Rattle.ivy_session.specs.Cutting.{IsCutAsWanted}
 use Rattle.ivy_session.specs.States.{is_turning, session_awaited}
 use Rattle.ivy_session.specs.Stepping.{IsNext}
+use Rattle.ivy_session.proofs.Hearing.{asks_for_data}
 use Rattle.server_model.specs.Driving.{Driven}
 use Rattle.ivy_server.specs.Passes.{GivesSettling}
 use Rattle.ivy_server.specs.Sessions.{GoesOn, HasHadTurn, HasHeardOf, Held, IsDriven, IsOver, IsUnderWay, MayTurn, Place, Setting, Touched, judges}
-use Rattle.ivy_server.proofs.Asks.{AsksThen, ask_goes, asks_then, wants}
+use Rattle.ivy_server.proofs.Asks.{Asks, ask_goes, asks_then, wants}
 use Rattle.ivy_server.proofs.Ends.{done_is_over, settle_goes}
 use Rattle.ivy_server.proofs.Turns.{may_turn, turn_goes, turns_then}
-use Rattle.ivy_server.proofs.Ways.{asks_for_data}
+use Rattle.ivy_server.proofs.Whole.{more_is_whole}
 
 -- what is wanted next by the code
 abbrev pub Wants : Held → Held → Next → Type 0
 Wants old mid wanted = IsNext judges old.session mid.session old.cache mid.cache wanted
 
 module _ (place : Place) (old : Held) (under_way : IsUnderWay place old) (mid : Held) where
-  asking : (node : Peer) (question : Ask) → Wants old mid (next.Ask node question) → AsksThen place under_way.0 old under_way.1 mid node question
+  asking : (node : Peer) (question : Ask) → Wants old mid (next.Ask node question) → Asks place under_way.0 old under_way.1 mid node question
   asking node question wanted = asks_then place under_way.0 old under_way.1 mid node question (wants place under_way.0 old under_way.1 mid (next.Ask node question) wanted)
 
   pub ask_is_awaited : (node : Peer) (question : Ask) → Wants old mid (next.Ask node question) → session_awaited mid.session ≡ None → ⊥
@@ -37,19 +39,19 @@ module _ (place : Place) (old : Held) (under_way : IsUnderWay place old) (mid : 
   turn_may_be refresh wanted = may_turn place under_way.0 old under_way.1 mid refresh (turns_then place under_way.0 old under_way.1 mid refresh (wants place under_way.0 old under_way.1 mid (next.Turn refresh) wanted))
 
 module _ {P K S C : Type 0} (setting : Setting P K S C) (old mid new : Held) where
-  pub ask_steps : (before : Touched P C) (later : Option (List Heard)) (node : Peer) (question : Ask) → Wants old mid (next.Ask node question) → HasHeardOf (node, question) mid new before.marks.trail later → is_turning new.session.stage ≡ false
+  pub ask_steps : (before : Touched P C) (later : Option (List Heard)) (node : Peer) (question : Ask) → Wants old mid (next.Ask node question) → IsCutAsWanted old.session mid.session (next.Ask node question) → HasHeardOf (node, question) mid new before.marks.trail later → is_turning new.session.stage ≡ false
       → (here : Driven) → IsDriven setting.place here old → GoesOn setting here new before (record before { marks = record before.marks { trail = later } })
-  ask_steps before later node question wanted heard past here is =
-      ask_goes setting here old mid new is node question wanted.0 (asks_then setting.place here old is mid node question (wants setting.place here old is mid (next.Ask node question) wanted)) heard.heard.0 past before later heard
+  ask_steps before later node question wanted cut heard past here is =
+      ask_goes setting here old mid new is node question wanted.0 (more_is_whole old.session mid.session (next.Ask node question) cut refl ∙ is.cut) (asks_then setting.place here old is mid node question (wants setting.place here old is mid (next.Ask node question) wanted)) heard.heard.0 past before later heard
 
-  pub turn_steps : (before after : Touched P C) (refresh : Refresh) → Wants old mid (next.Turn refresh) → new.cache ≡ mid.cache → HasHadTurn setting refresh mid.session new.session before after → is_turning new.session.stage ≡ false
+  pub turn_steps : (before after : Touched P C) (refresh : Refresh) → Wants old mid (next.Turn refresh) → IsCutAsWanted old.session mid.session (next.Turn refresh) → new.cache ≡ mid.cache → HasHadTurn setting refresh mid.session new.session before after → is_turning new.session.stage ≡ false
       → (here : Driven) → IsDriven setting.place here old → GoesOn setting here new before after
-  turn_steps before after refresh wanted stays had past here is =
-      turn_goes setting here old mid new is refresh wanted.0 (turns_then setting.place here old is mid refresh (wants setting.place here old is mid (next.Turn refresh) wanted)) stays before after had past
+  turn_steps before after refresh wanted cut stays had past here is =
+      turn_goes setting here old mid new is refresh wanted.0 (more_is_whole old.session mid.session (next.Turn refresh) cut refl ∙ is.cut) (turns_then setting.place here old is mid refresh (wants setting.place here old is mid (next.Turn refresh) wanted)) stays before after had past
 
-  pub settle_steps : (before after : Touched P C) (acks : List Ack) → Wants old new (next.Settle acks) → GivesSettling setting.by before.pass acks after.pass → after.marks ≡ before.marks
+  pub settle_steps : (before after : Touched P C) (acks : List Ack) → Wants old new (next.Settle acks) → IsCutAsWanted old.session new.session (next.Settle acks) → GivesSettling setting.by before.pass acks after.pass → after.marks ≡ before.marks
       → (here : Driven) → IsDriven setting.place here old → GoesOn setting here new before after
-  settle_steps before after acks wanted gives marks here is = settle_goes setting here old is acks new before after wanted.0 (wants setting.place here old is new (next.Settle acks) wanted) gives marks
+  settle_steps before after acks wanted cut gives marks here is = settle_goes setting here old is acks new before after wanted.0 cut (wants setting.place here old is new (next.Settle acks) wanted) gives marks
 
-  pub done_steps : (before : Touched P C) (served : Served) → Wants old new (next.Done served) → (here : Driven) → IsDriven setting.place here old → IsOver setting here new served × (before ≡ before)
-  done_steps before served wanted here is = (done_is_over setting here old is served new (wants setting.place here old is new (next.Done served) wanted), refl)
+  pub done_steps : (before : Touched P C) (served : Served) → Wants old new (next.Done served) → IsCutAsWanted old.session new.session (next.Done served) → (here : Driven) → IsDriven setting.place here old → IsOver setting here new served × (before ≡ before)
+  done_steps before served wanted cut here is = (done_is_over setting here old is served new cut (wants setting.place here old is new (next.Done served) wanted), refl)

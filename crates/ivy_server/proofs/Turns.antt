@@ -1,51 +1,39 @@
 -- A turn of a session in code, whatever came of it, is a way of the session of the definitions.
-use Rattle.std.proofs.Common.{◌≡◌, ⊎_elim, inl, inr, ℕ, Bool, true, false, List, [], ◌∷◌, Option, Some, None, Result, Ok, Err, refl, sym, ap, ◌∙◌, subst, Contains}
+use Rattle.std.proofs.Common.{◌≡◌, ⊎_elim, ℕ, Bool, true, false, List, [], ◌∷◌, Option, Some, None, Result, Ok, Err, refl, sym, ap, ◌∙◌, subst}
 use Rattle.std.specs.Prelude.{IfErr, IfSome, IsSomeAnd}
-use Rattle.std.specs.List.{AllByRecursion}
-use Rattle.ivy_base.specs.declared.key.PubKey.{PubKey}
 use Rattle.ivy_base.specs.declared.operation.Moment.{Moment}
 use Rattle.dhash_model.specs.Signed.{hss_judged}
-use Rattle.log_heads.specs.declared.judge.HssJudge.{HssJudge}
 use Rattle.log_model.specs.Signing.{Signing}
-use Rattle.log_model.proofs.Lists.{here, there}
-use Rattle.log_model.specs.Record.{Record}
-use Rattle.log_model.specs.Spelling.{IsMoment}
-use Rattle.log_model.specs.Vector.{Stamp}
 use Rattle.log_model.specs.View.{View}
-use Rattle.log_model.specs.Fetched.{owner_of}
-use Rattle.log_records.specs.Batches.{Batch, owners_in}
-use Rattle.wire_model.proofs.OneReading.{one_call}
+use Rattle.log_records.specs.Batches.{Batch}
 use Rattle.turn_model.specs.Turn.{Asked as ModelAsked}
 use Rattle.dht_ids.specs.declared.post.Post.{Post}
 use Rattle.agent_model.specs.Standing.{Refresh as ModelRefresh, Standing as ModelStanding, anew_in}
 use Rattle.agent_model.specs.Turning.{Behind, BelowTide, TurnEnd}
-use Rattle.session_model.specs.Brought.{brought_in}
 use Rattle.session_model.specs.Courses.{HasRefreshed, IsRefusal, LacksMemory, anew, answered, ended}
-use Rattle.session_model.specs.Refreshing.{Done, Note}
+use Rattle.session_model.specs.Refreshing.{Note}
 use Rattle.session_model.specs.Replies.{Asks, said_no_memory, said_of}
-use Rattle.session_model.specs.Sessions.{Over, Publishing, Said, Session, TakesAll, in_publishing_order}
+use Rattle.session_model.specs.Sessions.{Over, Publishing, Said, Session, in_publishing_order}
 use Rattle.session_model.specs.Sessions.TakesSome.{none as some_none}
-use Rattle.session_laws.proofs.OneRefresh.{refresh_is_one}
-use Rattle.log_fetch.specs.declared.asked.Asked.{Asked}
 use Rattle.log_fetch.specs.declared.refresh.Refresh.{Refresh}
 use Rattle.log_fetch.specs.declared.turned.Turned.{Turned}
 use Rattle.log_fetch.specs.declared.turned.TurnFault.{TurnFault}
 use Rattle.log_fetch.specs.declared.turned.TurnFault.TheVariants as fault
 use Rattle.log_fetch.specs.Edges.{edge_in}
 use Rattle.log_fetch.specs.Standings.{asked_of, refresh_of, standing_of}
-use Rattle.ivy_agent.specs.Answering.{IsCall}
 use Rattle.ivy_agent.specs.Calls as calls
 use Rattle.ivy_agent.specs.Holders.{Holder}
 use Rattle.ivy_agent.specs.Turns.{IsFetchedIn, TakesTurn, TurnsAs}
 use Rattle.ivy_agent.proofs.Bounds.{bounds_in}
 use Rattle.ivy_session.specs.declared.session.Next.TheVariants as next
-use Rattle.ivy_session.specs.declared.session.Stage.{Stage}
-use Rattle.ivy_session.specs.declared.session.Stage.TheVariants as stage
-use Rattle.ivy_session.specs.States.{HasAsked, IsAt, IsSession, SessionState, asked_at, is_turning}
+use Rattle.ivy_session.specs.Cutting.{IsCutAsTurned}
+use Rattle.ivy_session.specs.States.{HasAsked, IsSession, is_turning}
 use Rattle.ivy_session.specs.Stepping as code
 use Rattle.ivy_session.specs.Stepping.{IsAnewFor, IsBatchOf, IsSameSession, NextIs, TurnedIs}
 use Rattle.ivy_session.specs.Stepping.IsRefused.{begins_anew as code_begins, lacks_memory as code_lacks, gives_up as code_gives_up}
-use Rattle.ivy_session.specs.Stepping.NextIs.{turns as next_turns}
+use Rattle.ivy_session.proofs.Called.{IsAskedOf, asks_as, batch_of_members, refreshed_as, turn_is_asked}
+use Rattle.ivy_session.proofs.Staying.{lacking_standing, taken_same}
+use Rattle.ivy_session.proofs.Wanted.{TurnsThen, then_same, turns_then as session_turns}
 use Rattle.server_model.specs.Acts.{Gave, Lacked, Refused, Replied, TakingTurn, TurnAsked}
 use Rattle.server_model.specs.Driving.{Driven, Makes, as_session, over_with}
 use Rattle.server_model.specs.Driving.Does.{turns}
@@ -56,82 +44,32 @@ use Rattle.ivy_server.specs.Passes.{GivesTurn}
 use Rattle.ivy_server.specs.Passes.GivesTurn.{replies as gives_reply, refuses as gives_refusal, lacks_memory as gives_nothing}
 use Rattle.ivy_server.specs.Served.{Leave, moment_of}
 use Rattle.ivy_server.specs.Sessions.{GoesOn, HasHadTurn, Held, IsDriven, MayTurn, Place, Setting, Touched, judges}
-use Rattle.ivy_server.proofs.Asks.{driven_then, then_same, as_place}
+use Rattle.ivy_server.proofs.Asks.{driven_then}
 use Rattle.ivy_server.proofs.Marks.{leave_lacked, leave_refused, leave_replied}
-use Rattle.ivy_server.proofs.Ways.{lacking_standing, one_act, taken_same}
+use Rattle.ivy_server.proofs.Ways.{one_act}
+use Rattle.ivy_server.proofs.Whole.{answered_is_whole, refused_is_whole}
 
 -- ---- what a refresh brought may be given to a turn
 
-all_members : (members : List PubKey) (chains : List (Stamp × List Record)) → ((owner : PubKey) → Contains (owners_in chains) owner → Contains members owner) → AllByRecursion (λ c. Contains members (owner_of c.1)) chains
-all_members members [] named = tt
-all_members members (c ∷ cs) named = (named (owner_of c.1) (here (owner_of c.1) (owners_in cs)), all_members members cs (λ owner among. named owner (there (owner_of c.1) (owners_in cs) owner among)))
-
 fetched_in : (s : ModelStanding) (b : Batch) → IsBatchOf s b → IsFetchedIn s.view b
-fetched_in s b h = record { under = (edge_in s.edges, h.under); members = all_members s.view.members b.chains h.members }
+fetched_in s b h = record { under = (edge_in s.edges, h.under); members = batch_of_members s b h }
 
 some_view : (view : Option View) (v : View) (b : Batch) → view ≡ Some v → IsFetchedIn v b → IsSomeAnd view (λ w. IsFetchedIn w b)
 some_view view v b is fetched = subst (λ (o : Option View). IsSomeAnd o (λ w. IsFetchedIn w b)) (sym is) fetched
-
--- ---- what was asked for is one
-
-turning_or_not : true ≡ false → ⊥
-turning_or_not e = cc e
-
-same_asked : (a b : Asked) → Some a ≡ Some b → a ≡ b
-same_asked a b e = cc e
-
-none_asked : (a : Asked) → None ≡ Some a → ⊥
-none_asked a e = cc e
-
-asks_one_number : (view : View) (message : List ℕ) (xid number : ℕ) (asked other : ModelAsked) → Asks view message xid asked → Asks view message number other → xid ≡ number
-asks_one_number view message xid number asked other a b = sym a.xid_is ∙ ap (λ c. c.xid) (one_call message a.call b.call a.is_call b.is_call) ∙ b.xid_is
-
-module _ (s : Session) (st : SessionState HssJudge) where
-  -- what it is asked is the message's
-  call_of : (at : Stage HssJudge) (asked : Asked) → is_turning at ≡ true → asked_at at ≡ Some asked → IsAt judges s st at → (xid : ℕ) × Asks s.standing.view s.message xid (asked_of asked) × ((now : Moment) → IsMoment now → IsCall (asked_of asked) now)
-  call_of (stage.Refreshing c f) asked turning is h = absurd (turning_or_not (sym turning))
-  call_of (stage.Turning c) asked turning is h =
-      subst (λ (a : Asked). (xid : ℕ) × Asks s.standing.view s.message xid (asked_of a) × ((now : Moment) → IsMoment now → IsCall (asked_of a) now)) (same_asked c.asked asked is)
-      (c.xid, h.call.asks, λ now moment. record { caller = h.call.caller; args = h.call.args; moment = moment })
-  call_of (stage.Publishing told q) asked turning is h = absurd (none_asked asked is)
-  call_of (stage.Over told) asked turning is h = absurd (none_asked asked is)
-  call_of stage.Told asked turning is h = absurd (none_asked asked is)
-
-  -- nothing is on its way where a turn is awaited
-  free_now : (at : Stage HssJudge) → is_turning at ≡ true → IsAt judges s st at → s.current ≡ []
-  free_now (stage.Refreshing c f) turning h = absurd (turning_or_not (sym turning))
-  free_now (stage.Turning c) turning h = h.free
-  free_now (stage.Publishing told q) turning h = absurd (turning_or_not (sym turning))
-  free_now (stage.Over told) turning h = absurd (turning_or_not (sym turning))
-  free_now stage.Told turning h = absurd h
 
 -- ---- where a turn is wanted
 
 module _ (place : Place) (here : Driven) (old : Held) (is : IsDriven place here old) where
   -- what was at hand is taken, and the refresh is done
-  pub record TurnsThen (mid : Held) (refresh : Refresh) : Type 0 where
-    pub taken : Session
-    pub notes : List Note
-    pub takes : TakesAll hss_judged place.replicas here.session here.cache taken mid.cache
-    pub session : IsSession judges taken mid.session
-    pub turning : is_turning mid.session.stage ≡ true
-    pub done : HasRefreshed taken notes (refresh_of refresh)
-    pub batch : IsBatchOf taken.standing refresh.batch
+  abbrev pub Turns : Held → Refresh → Type 0
+  Turns mid refresh = TurnsThen judges hss_judged place.replicas here.session here.cache mid.session mid.cache refresh
 
-  pub turns_then : (mid : Held) (refresh : Refresh) → NextIs judges old.session mid.session here.session here.cache mid.cache (next.Turn refresh) → TurnsThen mid refresh
-  turns_then mid refresh (next_turns t notes _ takes session turning done batch) = record {
-    taken = t;
-    notes = notes;
-    takes = as_place place here old is (λ n. TakesAll hss_judged n here.session here.cache t mid.cache) takes;
-    session = session;
-    turning = turning;
-    done = done;
-    batch = batch;
-  }
+  pub turns_then : (mid : Held) (refresh : Refresh) → NextIs judges old.session mid.session here.session here.cache mid.cache (next.Turn refresh) → Turns mid refresh
+  turns_then mid refresh wanted = session_turns judges hss_judged place.replicas here.session here.cache old.session refl is.replicas mid.session mid.cache refresh wanted
 
-  pub may_turn : (mid : Held) (refresh : Refresh) → TurnsThen mid refresh → MayTurn place.view refresh mid.session
+  pub may_turn : (mid : Held) (refresh : Refresh) → Turns mid refresh → MayTurn place.view refresh mid.session
   may_turn mid refresh h =
-      let viewed : place.view ≡ Some h.taken.standing.view = is.viewed ∙ ap (λ s. Some s.view) (sym (taken_same h.takes).standing) in
+      let viewed : place.view ≡ Some h.taken.standing.view = is.viewed ∙ ap (λ (s : Session). Some s.standing.view) (sym (taken_same h.takes)) in
       record {
         waits = h.turning;
         session = h.taken;
@@ -139,13 +77,14 @@ module _ (place : Place) (here : Driven) (old : Held) (is : IsDriven place here 
         viewed = viewed;
         batch = some_view place.view h.taken.standing.view refresh.batch viewed (fetched_in h.taken.standing refresh.batch h.batch);
         bounds = bounds_in h.taken h.notes refresh h.done;
-        is_call = λ asked now is_asked moment. (call_of h.taken mid.session mid.session.stage asked h.turning is_asked h.session.at).2 now moment;
+        is_call = λ asked now is_asked moment.
+            let a = turn_is_asked judges h.taken mid.session asked h.session h.turning is_asked in record { caller = a.caller; args = a.args; moment = moment };
       }
 
 -- ---- the turn
 
 module _ {P K S C : Type 0} (setting : Setting P K S C) (here : Driven) (old mid new : Held) (is : IsDriven setting.place here old) (refresh : Refresh) (first : IsSameSession old.session mid.session)
-    (wanted : TurnsThen setting.place here old is mid refresh) (stays : new.cache ≡ mid.cache) (before after : Touched P C) (had : HasHadTurn setting refresh mid.session new.session before after) (past : is_turning new.session.stage ≡ false) where
+    (whole : mid.session.is_cut ≡ here.is_cut) (wanted : Turns setting.place here old is mid refresh) (stays : new.cache ≡ mid.cache) (before after : Touched P C) (had : HasHadTurn setting refresh mid.session new.session before after) (past : is_turning new.session.stage ≡ false) where
   abbrev taken : Driven
   taken = record { session = wanted.taken; cache = mid.cache; is_cut = here.is_cut }
 
@@ -162,20 +101,19 @@ module _ {P K S C : Type 0} (setting : Setting P K S C) (here : Driven) (old mid
   same = then_same old.session mid.session new.session first had.told.0
 
   viewed : setting.place.view ≡ Some view
-  viewed = is.viewed ∙ ap (λ s. Some s.view) (sym (taken_same wanted.takes).standing)
+  viewed = is.viewed ∙ ap (λ (s : Session). Some s.standing.view) (sym (taken_same wanted.takes))
 
   in_view : had.turn.found.agent.view ≡ Some view
   in_view = had.turn.in_view ∙ viewed
 
-  call : (xid : ℕ) × Asks view wanted.taken.message xid (asked_of had.asked) × ((moment : Moment) → IsMoment moment → IsCall (asked_of had.asked) moment)
-  call = call_of wanted.taken mid.session mid.session.stage had.asked wanted.turning had.is_asked wanted.session.at
+  call : IsAskedOf wanted.taken had.asked
+  call = turn_is_asked judges wanted.taken mid.session had.asked wanted.session wanted.turning had.is_asked
 
   asks_so : (xid : ℕ) (other : ModelAsked) → Asks view wanted.taken.message xid other → Asks view wanted.taken.message xid (asked_of had.asked)
-  asks_so xid other a = subst (λ (n : ℕ). Asks view wanted.taken.message n (asked_of had.asked)) (asks_one_number view wanted.taken.message call.0 xid (asked_of had.asked) other call.1 a) call.1
+  asks_so xid other a = asks_as view wanted.taken.message call.xid xid (asked_of had.asked) other call.asks a
 
   done_so : (notes : List Note) (given : ModelRefresh) → HasRefreshed wanted.taken notes given → HasRefreshed wanted.taken notes (refresh_of refresh)
-  done_so notes given d =
-      subst (λ (ns : List Note). HasRefreshed wanted.taken ns (refresh_of refresh)) (refresh_is_one wanted.taken.standing (brought_in wanted.taken.parts) wanted.notes notes (refresh_of refresh) given Done Done wanted.done.1 d.1).0 wanted.done
+  done_so notes given d = refreshed_as wanted.taken wanted.notes notes (refresh_of refresh) given wanted.done d
 
   waits_for_none : (t : Session) → HasAsked new.session t
   waits_for_none t waits = absurd (waits had.free)
@@ -187,15 +125,14 @@ module _ {P K S C : Type 0} (setting : Setting P K S C) (here : Driven) (old mid
     leave : Leave setting.gives before.marks (TakingTurn turn gave ∷ []) after.marks
 
   module _ (gave : Gave) (acted : HasActed gave) (notes : List Note) (xid : ℕ) (done : HasRefreshed wanted.taken notes (refresh_of refresh)) (asks : Asks view wanted.taken.message xid (asked_of had.asked)) where
-    goes_by : (t : Session) → Makes wanted.taken notes xid gave t → IsSession judges t new.session → setting.place.view ≡ Some t.standing.view → Goes
-    goes_by t makes session also = record {
+    goes_by : (t : Session) → Makes wanted.taken notes xid gave t → IsSession judges t new.session → new.session.is_cut ≡ mid.session.is_cut → setting.place.view ≡ Some t.standing.view → Goes
+    goes_by t makes session same_flag also = record {
       acts = TakingTurn turn gave ∷ [];
       there = as_session taken t;
       went = one_act _ (turns taken t notes xid turn gave (wanted.takes, refl) done asks makes);
       follows = follows_turns turn gave follows_none acted.gives;
       leave = acted.leave;
-      driven = driven_then setting.place here old is (as_session taken t) new same session (sym stays) also (waits_for_none t) past;
-      cut = λ e. inl e;
+      driven = driven_then setting.place here old is (as_session taken t) new same session (sym stays) (same_flag ∙ whole) also (waits_for_none t) past;
     }
 
     -- and the session is cut behind it
@@ -207,20 +144,18 @@ module _ {P K S C : Type 0} (setting : Setting P K S C) (here : Driven) (old mid
       went = is_cut said posts [] (one_act _ (turns taken t notes xid turn gave (wanted.takes, refl) done asks makes)) at;
       follows = follows_turns turn gave follows_none acted.gives;
       leave = acted.leave;
-      driven = driven_then setting.place here old is _ new same session (sym stays) also (waits_for_none (record t { stage = Over said })) past;
-      cut = λ e. inr flag;
+      driven = driven_then setting.place here old is _ new same session (sym stays) flag also (waits_for_none (record t { stage = Over said })) past;
     }
 
     -- or memory is wanting then
-    goes_lacking : (t u : Session) → Makes wanted.taken notes xid gave t → LacksMemory t u → IsSession judges u new.session → setting.place.view ≡ Some t.standing.view → Goes
-    goes_lacking t u makes lacking session also = record {
+    goes_lacking : (t u : Session) → Makes wanted.taken notes xid gave t → LacksMemory t u → IsSession judges u new.session → new.session.is_cut ≡ mid.session.is_cut → setting.place.view ≡ Some t.standing.view → Goes
+    goes_lacking t u makes lacking session same_flag also = record {
       acts = TakingTurn turn gave ∷ [];
       there = as_session taken u;
       went = lacks_memory (as_session taken t) u (one_act _ (turns taken t notes xid turn gave (wanted.takes, refl) done asks makes)) (some_none, refl) lacking;
       follows = follows_turns turn gave follows_none acted.gives;
       leave = acted.leave;
-      driven = driven_then setting.place here old is (as_session taken u) new same session (sym stays) (also ∙ ap (λ s. Some s.view) (sym (lacking_standing lacking))) (waits_for_none u) past;
-      cut = λ e. inl e;
+      driven = driven_then setting.place here old is (as_session taken u) new same session (sym stays) (same_flag ∙ whole) (also ∙ ap (λ s. Some s.view) (sym (lacking_standing lacking))) (waits_for_none u) past;
     }
 
   abbrev Took : Result Turned TurnFault → Type 0
@@ -239,12 +174,13 @@ module _ {P K S C : Type 0} (setting : Setting P K S C) (here : Driven) (old mid
         (record { brought = refl; asked = refl; now = refl; reply = took.gives.bytes }) made;
   }
 
-  by_answer : (turned : Turned) (took : Took (Ok turned)) → MadeSo (Ok turned) → code.IsAnswered judges mid.session new.session wanted.taken turned took.reply → Goes
-  by_answer turned took made a =
+  by_answer : (turned : Turned) (took : Took (Ok turned)) → MadeSo (Ok turned) → IsCutAsTurned mid.session new.session (Ok turned) → code.IsAnswered judges mid.session new.session wanted.taken turned took.reply → Goes
+  by_answer turned took made cut_so a =
       let acted = replied turned took made in
       let done = done_so a.notes a.given a.refreshed in
       let asks = asks_so a.xid a.asked a.asks in
-      ⊎_elim (λ session. goes_by (Replied took.reply turned.posts) acted a.notes a.xid done asks (answered wanted.taken (said_of a.xid took.reply) a.notes turned.posts) (answers took.reply turned.posts) session viewed)
+      ⊎_elim (λ session. goes_by (Replied took.reply turned.posts) acted a.notes a.xid done asks (answered wanted.taken (said_of a.xid took.reply) a.notes turned.posts) (answers took.reply turned.posts) session
+      (answered_is_whole mid.session new.session (Ok turned) cut_so judges (answered wanted.taken (said_of a.xid took.reply) a.notes turned.posts) session (Some (said_of a.xid took.reply), in_publishing_order turned.posts, [], refl)) viewed)
       (λ cut. goes_cut (Replied took.reply turned.posts) acted a.notes a.xid done asks (answered wanted.taken (said_of a.xid took.reply) a.notes turned.posts) (Some (said_of a.xid took.reply)) (in_publishing_order turned.posts)
       (answers took.reply turned.posts) refl cut.0 cut.1 viewed)
       a.publishes
@@ -257,14 +193,14 @@ module _ {P K S C : Type 0} (setting : Setting P K S C) (here : Driven) (old mid
     leave = leave_lacked before.marks after.marks had.moment turn refl had.gave had.trail made;
   }
 
-  by_lack : Took (Err fault.Memory) → MadeSo (Err fault.Memory) → (t : Session) → LacksMemory wanted.taken t → IsSession judges t new.session → Goes
-  by_lack took made t lacking session =
-      goes_by Lacked (lacked took made) wanted.notes call.0 wanted.done call.1 t (makes_lacking t lacking) session (viewed ∙ ap (λ s. Some s.view) (sym (lacking_standing lacking)))
+  by_lack : Took (Err fault.Memory) → MadeSo (Err fault.Memory) → (t : Session) → LacksMemory wanted.taken t → IsSession judges t new.session → new.session.is_cut ≡ mid.session.is_cut → Goes
+  by_lack took made t lacking session same_flag =
+      goes_by Lacked (lacked took made) wanted.notes call.xid wanted.done call.asks t (makes_lacking t lacking) session same_flag (viewed ∙ ap (λ s. Some s.view) (sym (lacking_standing lacking)))
 
   -- ---- it was refused
 
   module _ (end : TurnEnd) (refusal : IsRefusal end) (standing : ModelStanding) (took : TurnsAs setting.by.signs setting.by.is_whole setting.by.saves view (refresh_of refresh) (asked_of had.asked) (moment_of had.moment) had.turn.found false end had.turn.after)
-      (anew_is : standing ≡ anew_in setting.by.signs had.turn.after.agent view) (made : after.marks.made ≡ before.marks.made) where
+      (anew_is : standing ≡ anew_in setting.by.signs had.turn.after.agent view) (made : after.marks.made ≡ before.marks.made) (same_flag : new.session.is_cut ≡ mid.session.is_cut) where
     refused : HasActed (Refused standing)
     refused = record {
       gives = subst (λ (s : ModelStanding). GivesTurn setting.by before.pass turn (Refused s) after.pass) (sym anew_is)
@@ -276,23 +212,25 @@ module _ {P K S C : Type 0} (setting : Setting P K S C) (here : Driven) (old mid
     anew_viewed = viewed ∙ ap (λ (s : ModelStanding). Some s.view) (sym anew_is)
 
     by_refusal : code.IsRefused judges mid.session new.session wanted.taken standing → Goes
-    by_refusal (code_begins few session) = goes_by (Refused standing) refused wanted.notes call.0 wanted.done call.1 (anew wanted.taken standing) (begins_anew standing few) session anew_viewed
-    by_refusal (code_lacks t few lacking session) = goes_lacking (Refused standing) refused wanted.notes call.0 wanted.done call.1 (anew wanted.taken standing) t (begins_anew standing few) lacking session anew_viewed
+    by_refusal (code_begins few session) = goes_by (Refused standing) refused wanted.notes call.xid wanted.done call.asks (anew wanted.taken standing) (begins_anew standing few) session same_flag anew_viewed
+    by_refusal (code_lacks t few lacking session) = goes_lacking (Refused standing) refused wanted.notes call.xid wanted.done call.asks (anew wanted.taken standing) t (begins_anew standing few) lacking session same_flag anew_viewed
     by_refusal (code_gives_up xid notes given other many done asks session) =
-        goes_by (Refused standing) refused notes xid (done_so notes given done) (asks_so xid other asks) (ended wanted.taken (said_no_memory xid) notes None) (gives_up standing many) session viewed
+        goes_by (Refused standing) refused notes xid (done_so notes given done) (asks_so xid other asks) (ended wanted.taken (said_no_memory xid) notes None) (gives_up standing many) session same_flag viewed
 
   -- ---- whatever it was
 
-  by_turn : (result : Result Turned TurnFault) → Took result → MadeSo result → TurnedIs judges mid.session new.session wanted.taken result → Goes
-  by_turn (Ok turned) took made told = by_answer turned took made (told took.reply took.gives.bytes)
-  by_turn (Err fault.Memory) took made told = by_lack took made told.0 told.1 told.2
-  by_turn (Err (fault.Behind standing)) took made told = by_refusal Behind tt (standing_of standing) took.turns took.anew made told
-  by_turn (Err (fault.BelowTide standing)) took made told = by_refusal BelowTide tt (standing_of standing) took.turns took.anew made told
+  by_turn : (result : Result Turned TurnFault) → Took result → MadeSo result → IsCutAsTurned mid.session new.session result → TurnedIs judges mid.session new.session wanted.taken result → Goes
+  by_turn (Ok turned) took made cut told = by_answer turned took made cut (told took.reply took.gives.bytes)
+  by_turn (Err fault.Memory) took made cut told = by_lack took made told.0 told.1 told.2 (refused_is_whole mid.session new.session (Err fault.Memory) cut refl)
+  by_turn (Err (fault.Behind standing)) took made cut told =
+      by_refusal Behind tt (standing_of standing) took.turns took.anew made (refused_is_whole mid.session new.session (Err (fault.Behind standing)) cut refl) told
+  by_turn (Err (fault.BelowTide standing)) took made cut told =
+      by_refusal BelowTide tt (standing_of standing) took.turns took.anew made (refused_is_whole mid.session new.session (Err (fault.BelowTide standing)) cut refl) told
 
   pub turn_goes : Goes
   turn_goes = by_turn had.result
       (subst (λ (o : Option View). IfSome o (λ v. TakesTurn setting.by.signs setting.by.is_whole setting.by.saves v (refresh_of refresh) (asked_of had.asked) (moment_of had.moment) had.turn.found had.result had.turn.after)) viewed had.turn.turn)
-      had.made (had.told.1 wanted.taken wanted.session)
+      had.made had.cut (had.told.1 wanted.taken wanted.session)
 
 -- ---- what the session is told of its turn
 

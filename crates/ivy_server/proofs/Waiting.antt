@@ -1,5 +1,5 @@
 -- The messages that wait are served one by one, and a link goes on piece by piece.
-use Rattle.std.proofs.Common.{◌≡◌, ◌≢◌, ◌⊎◌, inl, inr, ℕ, ◌<◌, ◌≤◌, List, [], ◌∷◌, ◌++◌, length, take, Option, Some, None, refl, sym, ap, ◌∙◌, subst, arith}
+use Rattle.std.proofs.Common.{◌≡◌, ◌≢◌, ◌⊎◌, inl, inr, ℕ, zero, suc, ◌<◌, ◌≤◌, List, [], ◌∷◌, ◌++◌, length, take, Option, Some, None, refl, sym, ap, ◌∙◌, subst, arith}
 use Rattle.std.proofs.lemmas.List.{append_assoc, append-nil}
 use Rattle.ivy_io.proofs.KnownLemmas.{onto-nil, onto-onto}
 use Rattle.ivy_io.specs.Known.{IsAtEnd, onto}
@@ -18,7 +18,7 @@ use Rattle.ivy_server.specs.Sessions.{Place, Setting, server_of}
 use Rattle.ivy_server.specs.Streams.{HasReadPiece, HasServedOne, HasServedPiece, IsBetween, IsOnAfter, IsServing, SourceState, piece_end, piece_last}
 use Rattle.ivy_server.specs.declared.serve.Piece.{Piece}
 use Rattle.ivy_server.specs.declared.serve.Piece.TheVariants as piece
-use Rattle.ivy_server.proofs.Streams.{reads_first, reads_on, rose_since, serving_first}
+use Rattle.ivy_server.proofs.Streams.{begins_on, reads_first, rose_since, serving_first}
 
 -- what serving a message touches
 pub record Near (P C : Type 0) : Type 0 where
@@ -121,6 +121,10 @@ same_end a b e = cc e
 at_most : (a b c : ℕ) → a ≤ b → b ≤ c → a ≤ c
 at_most a b c first second = omega (arith, first, second)
 
+some_more : (rest piece : List ℕ) → piece ≢ [] → rest ++ piece ≢ []
+some_more [] piece some e = some e
+some_more (byte ∷ rest) piece some e = cc e
+
 -- ---- a link, piece by piece
 
 module _ {P K S C : Type 0} (setting : Setting P K S C) (start : Surroundings P C) where
@@ -133,7 +137,7 @@ module _ {P K S C : Type 0} (setting : Setting P K S C) (start : Surroundings P 
       let serving = serving_first setting start (sym (onto-nil start.left)) in
       record {
         course = record { read = []; acts = serving.acts; written = _ };
-        link = stopped ([], record { framed = []; fit = tt; are = refl; spelled = refl }) serving.served (inl refl);
+        link = stopped [] (inl refl) (record { framed = []; fit = tt; are = refl; spelled = refl }) serving.served (inl refl);
         left = serving.left;
         held = serving.held;
         marks = serving.marks;
@@ -212,7 +216,7 @@ module _ {P K S C : Type 0} (setting : Setting P K S C) (start : Surroundings P 
       })
       ends_by piece.Memory h how e = subst (IsServed (server_of setting) start now) (same_end ended.Memory how e) (record {
         course = record { read = on.read ++ h.0; acts = on.serving.acts; written = _ };
-        link = stopped (reads_on on.read h.0 on.taken (on.between.split.0, on.between.split.1.begins)) on.serving.served (inl refl);
+        link = stopped (on.between.split.0 ++ h.0) (inr (some_more on.between.split.0 h.0 h.2)) (begins_on on.read h.0 on.between.split.0 on.taken on.between.split.1.begins) on.serving.served (inl refl);
         left = left_so h.0 h.1;
         held = on.serving.held;
         marks = on.serving.marks;
@@ -294,6 +298,12 @@ module _ {P K S C : Type 0} (setting : Setting P K S C) (start : Surroundings P 
 pub cut_off : (read : List ℕ) (taken : List (List ℕ)) (frames : Frames) → IsBetween read taken frames → (IsSplit read (taken ++ frames.waiting) [] → ⊥) → (rest : List ℕ) × (rest ≢ []) × IsSplit read taken rest
 cut_off read taken frames between not_whole =
     (between.split.0, λ empty. not_whole (subst (λ (l : List (List ℕ)). IsSplit read l []) (sym (append-nil taken) ∙ ap (λ l. taken ++ l) (sym between.none)) (subst (IsSplit read taken) empty between.split.1)), between.split.1)
+
+-- a source that gave something
+pub gave_some : (into : List ℕ) (n : ℕ) → (n ≡ 0 → ⊥) → n ≤ length into → take n into ≢ []
+gave_some into zero some few e = absurd (some refl)
+gave_some [] (suc n) some few e = absurd (omega (arith, few))
+gave_some (byte ∷ into) (suc n) some few e = cc e
 
 -- a source that gave nothing into some room is at its end
 pub ended_source : (old new : Option (List ℕ)) (into : List ℕ) (n : ℕ) → n ≡ 0 → 0 < length into → (old ≡ onto (take n into) new) × (n ≡ 0 → 0 < length into → IsAtEnd new) → (new ≡ old) × IsAtEnd new

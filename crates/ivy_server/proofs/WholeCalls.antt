@@ -1,10 +1,10 @@
 -- Whole calls end a link with Done, where nothing fails.
-use Rattle.std.proofs.Common.{◌≡◌, ◌⊎◌, ⊎_elim, inl, inr, ℕ, ◌+◌, true, false, List, [], ◌∷◌, ◌++◌, length, map, Option, Some, None, refl, sym, ap, ◌∙◌, subst, arith, length-append}
+use Rattle.std.proofs.Common.{◌≡◌, ◌⊎◌, ⊎_elim, inl, inr, ℕ, false, List, [], ◌∷◌, ◌++◌, map, Option, Some, None, refl, sym, ap, ◌∙◌, subst}
 use Rattle.std.specs.List.{AllByRecursion, flat_map}
 use Rattle.std.proofs.lemmas.List.{append_assoc, append-nil}
 use Rattle.ivy_io.specs.Causes.{Rose}
 use Rattle.ivy_io.specs.Known.{IsAtEnd, onto}
-use Rattle.rpc_wire.proofs.FrameLemmas.{header_length, not_both, one_marked, one_split}
+use Rattle.rpc_wire.proofs.FrameLemmas.{not_both, one_marked, one_split}
 use Rattle.rpc_wire.proofs.FrameRuns.{whole_are_split}
 use Rattle.rpc_wire.specs.Frames.{Fits, Framed, IsOver, IsSplit, IsTooLong, fragment, header, marked, message as bytes_in}
 use Rattle.agent_model.specs.Standing.{Standing}
@@ -26,6 +26,7 @@ use Rattle.server_model.specs.declared.ended.Ended.TheVariants as ended
 use Rattle.ivy_server.specs.Laws.{IsAnyCall, WholeCallsAreDone}
 use Rattle.ivy_server.specs.Served.{HasEndCause, Surroundings}
 use Rattle.ivy_server.proofs.Messages.{Says, went_says}
+use Rattle.ivy_server.proofs.Streams.{not_empty}
 
 -- ---- what is no call has no reply, and nothing else
 
@@ -62,18 +63,6 @@ module _ {P : Type 0} (taker : Taker P) (ring : Ring) where
       h.2 (ap (λ (x : Said). x.message) (sym (same_said said h.0 h.1)) ∙ none) call
 
 -- ---- bytes of whole messages
-
-no_sum : (a h l r m t : ℕ) → t ≡ ((a + (h + l)) + r) + m → t ≡ 0 → h ≡ 4 → ⊥
-no_sum a h l r m t is none four = absurd (four_or_none (a + h + l + r + m) h (omega (arith, is, none)) four)
-  where
-    four_or_none : (all part : ℕ) → part ≡ 0 → part ≡ 4 → ⊥
-    four_or_none all part none four = cc (sym none ∙ four)
-
-not_empty : (f : Framed) (rest more : List ℕ) → (marked f ++ rest) ++ more ≡ [] → ⊥
-not_empty f rest more e = no_sum (length (flat_map (fragment false) f.earlier)) (length (header true (length f.last))) (length f.last) (length rest) (length more) (length ((marked f ++ rest) ++ more))
-    (length-append (marked f ++ rest) more ∙ ap (λ n. n + length more) (length-append (marked f) rest ∙ ap (λ n. n + length rest)
-    (length-append (flat_map (fragment false) f.earlier) (fragment true f.last) ∙ ap (λ n. length (flat_map (fragment false) f.earlier) + n) (length-append (header true (length f.last)) f.last))))
-    (ap (λ (l : List ℕ). length l) e) (header_length true (length f.last))
 
 -- the messages with which they begin are of them
 among : (Q : List ℕ → Type 0) (framed front : List Framed) (rest : List ℕ) → AllByRecursion Fits framed → AllByRecursion Fits front → flat_map marked framed ≡ flat_map marked front ++ rest → AllByRecursion (λ f. Q (bytes_in f)) framed
@@ -160,7 +149,7 @@ module _ {P C : Type 0} (taker : Taker P) (ring : Ring) (framed : List Framed) (
   by_link (write_fault reply is_cut count next less) left cause = absurd (no_writes cause)
   by_link (unwritten reply is_cut count next less) left cause = inr refl
   by_link (was_cut reply next) left cause = inr refl
-  by_link (stopped read served looked) left cause = inr refl
+  by_link (stopped rest more begins served looked) left cause = inr refl
 
 pub whole_calls_are_done : {P C : Type 0} (taker : Taker P) (gives : C → ℕ × ℕ → C → Type 0) → WholeCallsAreDone taker gives
 whole_calls_are_done taker gives ring framed before after how fit calls known served no_reads no_writes =

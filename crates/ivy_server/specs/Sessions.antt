@@ -1,5 +1,5 @@
 -- A session in code on its way on a link.
-use Rattle.std.specs.Prelude.{◌≡◌, ◌≢◌, ◌⊎◌, ℕ, Bool, true, false, List, [], Option, Some, None, IfOk, IfSome, IsSomeAnd, OnErr, Result}
+use Rattle.std.specs.Prelude.{◌≡◌, ◌≢◌, ℕ, Bool, true, false, List, [], Option, Some, None, IfOk, IfSome, IsSomeAnd, OnErr, Result}
 use Rattle.ivy_base.specs.declared.memory.Memory.{Memory}
 use Rattle.ivy_base.specs.declared.operation.Moment.{Moment}
 use Rattle.log_model.specs.Spelling.{IsMoment}
@@ -28,9 +28,10 @@ use Rattle.ivy_session.specs.declared.served.Served.{Served}
 use Rattle.ivy_session.specs.declared.served.Served.TheVariants as served
 use Rattle.ivy_session.specs.States.{HasAsked, IsSession, SessionState, asked_at, is_turning, served_of, session_awaited}
 use Rattle.ivy_session.specs.Stepping.{IsHeard, IsTurned}
+use Rattle.ivy_session.specs.Cutting.{IsCutAsHeard, IsCutAsTurned}
 use Rattle.server_model.specs.Acts.{Act}
 use Rattle.server_model.specs.Driving.{Driven, Went}
-use Rattle.server_model.specs.Serving.{Serves, driven_first}
+use Rattle.server_model.specs.Serving.{Answer as Answered, Serves, driven_first}
 use Rattle.server_model.specs.Takers.{Follows, MayHaveLooked, Ring}
 use Rattle.ivy_server.specs.Passes.{GivesNothing, GivesStanding, Passes, by_passes}
 use Rattle.ivy_server.specs.Served.{Leave, Marks, Server, moment_of}
@@ -80,10 +81,12 @@ pub record Touched (P C : Type 0) : Type 0 where
   pub pass : P
   pub marks : Marks C
 
--- The session in code may be this one of the definitions. It is in the agents' view, knows some node, and awaits no turn.
+-- The session in code may be this one of the definitions, and is cut where that is. It is in the agents' view, knows some node, and awaits
+-- no turn.
 pub record IsDriven (place : Place) (here : Driven) (held : Held) : Type 0 where
   pub is : IsSession judges here.session held.session
   pub cache : here.cache ≡ held.cache
+  pub cut : held.session.is_cut ≡ here.is_cut
   pub viewed : place.view ≡ Some here.session.standing.view
   pub asked : HasAsked held.session here.session
   pub replicas : held.session.replicas ≡ place.replicas
@@ -119,6 +122,7 @@ pub record HasHeardOf (asking : Peer × Ask) (old new : Held) (trail later : Opt
   pub asked : IfOk answer (λ a. later ≡ longer trail (told asking.0 asking.1 a))
   pub unasked : OnErr answer (later ≡ trail)
   pub heard : IsHeard judges old.session new.session old.cache new.cache answer
+  pub cut : IsCutAsHeard old.session new.session
 
 -- ---- a turn
 
@@ -145,6 +149,7 @@ module _ {P K S C : Type 0} (setting : Setting P K S C) where
     pub made : MadeThen before.marks.made after.marks.made refresh asked (moment_of moment) result
     pub trail : after.marks.trail ≡ before.marks.trail
     pub told : IsTurned judges old new result
+    pub cut : IsCutAsTurned old new result
     pub free : session_awaited new ≡ None
 
   -- ---- a step
@@ -157,7 +162,6 @@ module _ {P K S C : Type 0} (setting : Setting P K S C) where
     pub follows : Follows (by_passes setting.by) before.pass acts after.pass
     pub leave : Leave setting.gives before.marks acts after.marks
     pub driven : IsDriven setting.place there new
-    pub cut : there.is_cut ≡ true → (here.is_cut ≡ true) ⊎ (new.session.is_cut ≡ true)
 
   -- It was over, or memory was wanting and it is over, and that was told.
   pub record IsOver (here : Driven) (new : Held) (told : Served) : Type 0 where
@@ -167,7 +171,7 @@ module _ {P K S C : Type 0} (setting : Setting P K S C) where
     pub over : there.session.stage ≡ Over said
     pub is_told : told ≡ served_of said
     pub cache : there.cache ≡ new.cache
-    pub cut : there.is_cut ≡ true → (here.is_cut ≡ true) ⊎ (new.session.is_cut ≡ true)
+    pub cut : new.session.is_cut ≡ there.is_cut
 
   abbrev pub StepsTo : Driven → Held → Touched P C → Touched P C → Option Served → Type 0
   StepsTo here new before after None = GoesOn here new before after
@@ -179,8 +183,8 @@ module _ {P K S C : Type 0} (setting : Setting P K S C) where
 
   -- ---- a message
 
-  -- Its session has gone that far since it began, and the flag is up where it was cut.
-  pub record IsServingOf (message : List ℕ) (old : Cache) (before now : Touched P C) (held : Held) (flag : Bool) : Type 0 where
+  -- Its session has gone that far since it began.
+  pub record IsServingOf (message : List ℕ) (old : Cache) (before now : Touched P C) (held : Held) : Type 0 where
     pub standing : Standing
     pub began : P
     pub session : Session
@@ -192,21 +196,19 @@ module _ {P K S C : Type 0} (setting : Setting P K S C) where
     pub follows : Follows (by_passes setting.by) began acts now.pass
     pub leave : Leave setting.gives before.marks acts now.marks
     pub driven : IsDriven setting.place there held
-    pub cut : there.is_cut ≡ true → flag ≡ true
 
-  -- It was served so, with this reply or none.
-  pub record WasServed (message : List ℕ) (old new : Cache) (before after : Touched P C) (reply : Option (List ℕ))
-      (is_cut : Bool) : Type 0 where
+  -- It was served so, with this answer.
+  pub record WasServed (message : List ℕ) (old new : Cache) (before after : Touched P C) (answer : Answered) : Type 0 where
     pub acts : List Act
-    pub cut : Bool
-    pub serves : Serves (by_passes setting.by) (ring_in setting.place) (record { taker = before.pass; cache = old }) message acts
-        (record { reply = reply; is_cut = cut }) (record { taker = after.pass; cache = new })
+    pub serves : Serves (by_passes setting.by) (ring_in setting.place) (record { taker = before.pass; cache = old }) message acts answer
+        (record { taker = after.pass; cache = new })
     pub leave : Leave setting.gives before.marks acts after.marks
-    pub noticed : cut ≡ true → is_cut ≡ true
 
-  -- what came of a message
+  -- What came of a message: of a reply it is told whether the session was cut, both ways.
   abbrev pub CameOf : List ℕ → Cache → Cache → Touched P C → Touched P C → Outcome → Type 0
-  CameOf message old new before after (outcome.Reply reply is_cut) = WasServed message old new before after (Some reply) is_cut
-  CameOf message old new before after outcome.NotACall = WasServed message old new before after None true
+  CameOf message old new before after (outcome.Reply reply is_cut) =
+      WasServed message old new before after (record { reply = Some reply; is_cut = is_cut })
+  CameOf message old new before after outcome.NotACall =
+      (is_cut : Bool) × WasServed message old new before after (record { reply = None; is_cut = is_cut })
   CameOf message old new before after outcome.Memory = MayHaveLooked (by_passes setting.by) before.pass after.pass
       × (after.marks ≡ before.marks)

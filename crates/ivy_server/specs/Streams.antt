@@ -40,7 +40,7 @@ HasReadPiece old new read taken frames piece.End = (new.left ≡ old.left) × Is
 HasReadPiece old new read taken frames piece.CutOff = (new.left ≡ old.left) × IsAtEnd new.left
     × ((rest : List ℕ) × (rest ≢ []) × IsSplit read taken rest)
 HasReadPiece old new read taken frames piece.Fault = (new.left ≡ old.left) × Rose old.faults new.faults
-HasReadPiece old new read taken frames piece.Memory = (bytes : List ℕ) × (old.left ≡ onto bytes new.left)
+HasReadPiece old new read taken frames piece.Memory = (bytes : List ℕ) × (old.left ≡ onto bytes new.left) × (bytes ≢ [])
 
 -- how a link ends after a piece, where no message more can be served
 abbrev pub piece_end : Piece → Option Ended

@@ -68,13 +68,11 @@ pub(crate) fn serve_message<R: Wait, K: Keeper, S: Signs + Drop, T: Turns<K, S>,
     ) else {
         return Outcome::Memory;
     };
-    let mut is_cut = false;
     // Its measure is `session_left`.
     'steps: loop {
         let ended = step(rt, alloc, turns, pass, mesh, cache, &mut session, clock);
-        is_cut |= session.is_cut();
         if let Some(served) = ended {
-            return outcome_of(served, is_cut);
+            return outcome_of(served, session.is_cut());
         }
     }
 }

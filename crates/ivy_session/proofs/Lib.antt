@@ -15,6 +15,12 @@ mod InPlace
 mod Refreshed
 mod TurnsInPlace
 mod Falling
+mod Cutting
+pub mod Staying
+pub mod Ended
+pub mod Hearing
+pub mod Wanted
+pub mod Called
 pub mod Driven
 pub mod Ordered
 pub mod Putting

@@ -4,6 +4,7 @@ pub mod Left
 pub mod Taking
 pub mod Ending
 pub mod InPlace
+pub mod Cutting
 pub mod Kinds
 pub mod Putting
 pub mod Publishing

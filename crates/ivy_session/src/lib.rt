@@ -19,6 +19,7 @@
 //! - A number falls with each answer, turn and settling (`session_left`); `next` never raises it.
 //! - If memory runs out before the turn, the answer is SYSTEM_ERR, for which the memory was taken first.
 //!   After the turn running out of memory changes no reply, and [`Session::is_cut`] says that posts are left.
+//!   It is so exactly from the step on that ends the publishing, or leaves it out (`specs/Cutting.antt`).
 //!
 //! Messages are those of ONC RPC (RFC 5531, section 9) around NFS version 3 and MOUNT (RFC 1813).
 //! - [`read_message`] gives the reply of a message that reaches no turn (`IsByMessage` in
@@ -43,7 +44,8 @@
 //!   asks (`puts_left`).
 //! - `specs/Putting.antt` is the put of one post, `specs/Kinds.antt` their order.
 //!
-//! Definitions: `specs/States.antt`, `specs/Stepping.antt`, `specs/Left.antt` (the number that falls).
+//! Definitions: `specs/States.antt`, `specs/Stepping.antt`, `specs/Left.antt` (the number that falls),
+//! `specs/Cutting.antt` (where a session is cut).
 //! Within: `specs/Taking.antt` (what a refresh takes of the blocks available, hears, and comes to),
 //! `specs/Ending.antt`, and `specs/InPlace.antt` (stages that are changed in place).
 //!
@@ -57,7 +59,13 @@
 //!   `proofs/Puts.antt`, `proofs/Begins.antt`, `proofs/Turns.antt`;
 //! - `proofs/InPlace.antt`, `proofs/Refreshed.antt`, `proofs/TurnsInPlace.antt`: stages that are changed in
 //!   place;
-//! - `proofs/Falling.antt`: the number that falls.
+//! - `proofs/Falling.antt` and `proofs/Cutting.antt`: the number that falls, and where a session is cut.
+//!
+//! For whoever drives a session, over its contracts:
+//! - `proofs/Staying.antt` and `proofs/Ended.antt`: what stays of a session, and sessions that are over;
+//! - `proofs/Hearing.antt`: whatever is answered may be heard, and what is asked is for data;
+//! - `proofs/Wanted.antt`: what was at hand is taken, and then a node is asked, or a turn;
+//! - `proofs/Called.antt`: what a turn is asked is what the message asks for.
 //!
 //! Costs:
 //! - A block that a get brought is hashed once more, for its name in the cache. The entry nodes are copied

@@ -7,6 +7,7 @@ ghost use Rattle.session_model.specs.Courses.{publishing_session};
 ghost use Rattle.log_fetch.specs.Standings.{standing_of};
 ghost use Rattle.ivy_session.specs.States.{BeginsAs, IsSession, asked_at, awaited_at, begun, is_told, is_turning, session_awaited};
 ghost use Rattle.ivy_session.specs.Stepping.{IsAnewFor, IsHeard, IsNext, IsTurned};
+ghost use Rattle.ivy_session.specs.Cutting.{IsCutAsHeard, IsCutAsTurned, IsCutAsWanted};
 ghost use Rattle.ivy_session.specs.Left.{FallsLeft, LeavesNoMore, StaysLeft, most_puts, session_left};
 ghost use Rattle.ivy_session.specs.Ending.{BeginsAnew, ConcludesAs, PutHears, TellsMiss, lacking};
 ghost use Rattle.ivy_session.specs.InPlace.{EndsRefresh, FailureAt, PutHeard, PutWants, RefreshHeard, RefreshWants, TellsWhy, call_at, is_publishing, is_refreshing, told_at};
@@ -117,6 +118,7 @@ impl<J: Judge> Session<J> {
         ensures begun { IfOk result (BeginsAs J.judges message.now (standing_of standing)) }
         ensures free { IfOk result (λ st. session_awaited st ≡ None) }
         ensures turning { IfOk result (λ st. is_turning st.stage ≡ false) }
+        ensures whole { IfOk result (λ st. st.is_cut ≡ false) }
     {
         let stage = first_stage(alloc, judge, replicas, &entries, standing, message)?;
         Ok(Session {
@@ -143,6 +145,7 @@ impl<J: Judge> Session<J> {
         ensures begun { IfOk result (λ st. (by : List ℕ) (standing : ModelStanding) → IsSession J.judges (publishing_session by st.entries standing pending.now) st) }
         ensures free { IfOk result (λ st. session_awaited st ≡ None) }
         ensures turning { IfOk result (λ st. is_turning st.stage ≡ false) }
+        ensures whole { IfOk result (λ st. st.is_cut ≡ false) }
     {
         let publishing = publishing_of(alloc, replicas, &entries, pending)?;
         Ok(Session {
@@ -175,6 +178,7 @@ impl<J: Judge> Session<J> {
         requires turning { is_turning self.old.stage ≡ false }
         requires told { is_told self.old.stage ≡ false }
         ensures wanted { IsNext J.judges self.old self.new cache.old cache.new result }
+        ensures cut { IsCutAsWanted self.old self.new result }
         ensures left { LeavesNoMore self.old self.new result }
     {
         match &self.stage {
@@ -190,6 +194,7 @@ impl<J: Judge> Session<J> {
         requires { session_awaited self.old ≢ None }
         ensures heard { IsHeard J.judges self.old self.new cache.old cache.new answer }
         ensures turning { is_turning self.new.stage ≡ false }
+        ensures cut { IsCutAsHeard self.old self.new }
         ensures left { session_left self.new < session_left self.old }
     {
         match &self.stage {
@@ -207,6 +212,7 @@ impl<J: Judge> Session<J> {
         ensures turned { IsTurned J.judges self.old self.new turned }
         ensures free { session_awaited self.new ≡ None }
         ensures turning { is_turning self.new.stage ≡ false }
+        ensures cut { IsCutAsTurned self.old self.new turned }
         ensures left { session_left self.new < session_left self.old }
     {
         match turned {
@@ -231,7 +237,8 @@ impl<J: Judge> Session<J> {
         &self.notes
     }
 
-    /// Whether its publishing ended before all puts were made, for want of memory.
+    /// Whether its publishing ended before all puts were made, for want of memory: the clauses `cut` of [`Session::next`],
+    /// [`Session::heard`] and [`Session::turned`] say which step ends it, and no other does.
     pub fn is_cut(&self) -> bool
         ensures { result ≡ self.now.is_cut }
     {
@@ -242,6 +249,7 @@ impl<J: Judge> Session<J> {
     fn refresh(&mut self, cache: &mut BlockCache) -> Next
         requires { is_refreshing self.old.stage ≡ true }
         ensures wanted { IsNext J.judges self.old self.new cache.old cache.new result }
+        ensures cut { IsCutAsWanted self.old self.new result }
         ensures left { LeavesNoMore self.old self.new result }
     {
         match refresh_wants(&mut self.stage, cache) {
@@ -287,6 +295,7 @@ impl<J: Judge> Session<J> {
     fn put(&mut self) -> Next
         requires { is_publishing self.old.stage ≡ true }
         ensures wanted { (cache : Cache) → IsNext J.judges self.old self.new cache cache result }
+        ensures cut { IsCutAsWanted self.old self.new result }
         ensures left { LeavesNoMore self.old self.new result }
     {
         match put_wants(&mut self.stage) {
@@ -308,6 +317,7 @@ impl<J: Judge> Session<J> {
         requires awaited { session_awaited self.old ≢ None }
         ensures heard { IsHeard J.judges self.old self.new cache.old cache.new answer }
         ensures turning { is_turning self.new.stage ≡ false }
+        ensures cut { IsCutAsHeard self.old self.new }
         ensures left { session_left self.new < session_left self.old }
     {
         match refresh_heard(&mut self.stage, cache, answer) {
@@ -344,6 +354,7 @@ impl<J: Judge> Session<J> {
         requires awaited { session_awaited self.old ≢ None }
         ensures heard { (cache : Cache) → IsHeard J.judges self.old self.new cache cache answer }
         ensures turning { is_turning self.new.stage ≡ false }
+        ensures cut { IsCutAsHeard self.old self.new }
         ensures left { session_left self.new < session_left self.old }
     {
         match put_heard(&mut self.stage, answer) {
@@ -362,6 +373,7 @@ impl<J: Judge> Session<J> {
         ensures turned { IsTurned J.judges self.old self.new (Ok turned.now) }
         ensures free { session_awaited self.new ≡ None }
         ensures turning { is_turning self.new.stage ≡ false }
+        ensures cut { IsCutAsTurned self.old self.new (Ok turned.now) }
         ensures left { session_left self.new < session_left self.old }
     {
         let call = take_call(&mut self.stage);
@@ -382,6 +394,7 @@ impl<J: Judge> Session<J> {
         ensures turned { IsTurned J.judges self.old self.new (Err (TurnFault.Behind standing)) }
         ensures free { session_awaited self.new ≡ None }
         ensures turning { is_turning self.new.stage ≡ false }
+        ensures cut { self.new.is_cut ≡ self.old.is_cut }
         ensures left { session_left self.new < session_left self.old }
     {
         let call = take_call(&mut self.stage);

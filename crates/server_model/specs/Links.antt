@@ -1,5 +1,5 @@
 -- A whole link: the bytes that were read, what was done for them, the bytes that were written, and how it ended.
-use Rattle.std.specs.Prelude.{◌≡◌, ◌≢◌, ◌<◌, ℕ, Bool, true, List, [], ◌∷◌, ◌++◌, length, take, Some, None}
+use Rattle.std.specs.Prelude.{◌≡◌, ◌≢◌, ◌⊎◌, ◌<◌, ℕ, Bool, true, List, [], ◌∷◌, ◌++◌, length, take, Some, None}
 use Rattle.std.specs.List.{flat_map}
 use Rattle.rpc_wire.specs.Frames.{Begins, IsSplit, IsTooLong, fragment}
 use Rattle.server_model.specs.Acts.{Act}
@@ -76,7 +76,7 @@ module _ {P : Type 0} (taker : Taker P) (ring : Ring) (p : P) where
     was_cut : {read : List ℕ} {replies : List (List ℕ)} {acts : List Act} {q : P} (reply : List ℕ)
         → HasServedNext read acts replies (record { reply = Some reply; is_cut = true }) q
         → Link (record { read = read; acts = acts; written = sent (replies ++ reply ∷ []) }) ended.Memory q
-    -- no more was read, or no session could begin
-    stopped : {read : List ℕ} {messages replies : List (List ℕ)} {acts : List Act} {q : P} {before : Between P} → HasRead read messages
-        → HasServed messages acts replies before → MayHaveLooked taker before.taker q
+    -- Memory was wanting before anything was read, or for more than what was served: for a piece, or for a session that could not begin.
+    stopped : {read : List ℕ} {messages replies : List (List ℕ)} {acts : List Act} {q : P} {before : Between P} (rest : List ℕ)
+        → (read ≡ []) ⊎ (rest ≢ []) → Begins read messages rest → HasServed messages acts replies before → MayHaveLooked taker before.taker q
         → Link (record { read = read; acts = acts; written = sent replies }) ended.Memory q

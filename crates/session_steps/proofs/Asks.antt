@@ -1,22 +1,19 @@
 -- What is wanted next of a call that is shown, and an ask of it.
-use Rattle.std.proofs.Common.{◌≡◌, ◌≢◌, ◌⊎◌, inl, inr, ⊎_elim, ℕ, Bool, true, false, cond, List, map, Option, Some, None, refl, sym, ap, ◌∙◌, subst}
-use Rattle.dhash_model.specs.Signed.{hss_judged}
+use Rattle.std.proofs.Common.{◌≡◌, ◌≢◌, ◌⊎◌, inl, inr, ⊎_elim, ℕ, false, List, map, Option, Some, None, refl, sym, ap, ◌∙◌, subst}
 use Rattle.log_heads.specs.declared.judge.HssJudge.{HssJudge}
 use Rattle.ring_model.specs.Members.{IsAmong}
+use Rattle.dht_ids.specs.Asked.{IsForData}
 use Rattle.dht_ids.specs.declared.ask.Ask.{Ask}
 use Rattle.dht_ids.specs.declared.ask.Ask.TheVariants as ask
 use Rattle.dht_ids.specs.declared.peer.Peer.{Peer}
-use Rattle.dht_ids.specs.declared.post.Post.{Post}
-use Rattle.agent_model.specs.Agent.{is_head}
-use Rattle.session_model.specs.Sessions.{Cache, Session, put_question}
+use Rattle.session_model.specs.Sessions.{Cache, Session}
 use Rattle.ivy_session.specs.declared.session.Next.{Next}
 use Rattle.ivy_session.specs.declared.session.Next.TheVariants as next
-use Rattle.ivy_session.specs.declared.session.Stage.{Stage}
-use Rattle.ivy_session.specs.declared.session.Stage.TheVariants as stage
-use Rattle.ivy_session.specs.States.{IsAt, SessionState, is_told, is_turning, session_awaited}
-use Rattle.ivy_session.specs.Stepping.{AsksOf, IsNext, NextIs}
-use Rattle.ivy_session.specs.Stepping.AsksOf.{gets, puts}
+use Rattle.ivy_session.specs.States.{SessionState, is_told, is_turning, session_awaited}
+use Rattle.ivy_session.specs.Stepping.{IsNext, NextIs}
 use Rattle.ivy_session.specs.Stepping.NextIs.{asks, asks_again}
+use Rattle.ivy_session.proofs.Ended.{not_told}
+use Rattle.ivy_session.proofs.Hearing.{asks_for_data}
 use Rattle.ring_nodes.specs.NodesState.{BringsOnly, NodesState, made_peers}
 use Rattle.script_participants.specs.ParticipantState.{ParticipantState, state_of}
 use Rattle.world_model.specs.World.{peer_of}
@@ -28,41 +25,30 @@ use Rattle.session_steps.proofs.Scenes.{by_step, left_is, scene_of, untold}
 
 -- ---- before it is known what is wanted
 
-not_told : (s : Session) (st : SessionState HssJudge) (at : Stage HssJudge) → IsAt judges s st at → is_told at ≡ false
-not_told s st (stage.Refreshing call fetch) is = refl
-not_told s st (stage.Turning call) is = refl
-not_told s st (stage.Publishing told posts) is = refl
-not_told s st (stage.Over told) is = refl
-not_told s st stage.Told is = absurd is
-
 -- the session may be asked what it wants
 pub may_want : (old : Shown) → HasScene old → old.call.told ≡ None → (is_turning old.call.session.stage ≡ false) × (is_told old.call.session.stage ≡ false)
 may_want old scene none =
     let is = untold scene.0.session old.call none scene.3.session in
-    (is.no_turn, not_told scene.0.session old.call.session old.call.session.stage is.session.at)
+    (is.no_turn, not_told judges scene.0.session old.call.session is.session)
 
 -- ---- whom it asks
 
--- a question of a session is no notice
-module _ (made : List Peer) where
-  put_brings : (p : Post) → BringsOnly made (put_question p)
-  put_brings p = by (is_head p.kind)
-    where
-      by : (b : Bool) → BringsOnly made (cond b (ask.PutHead p.key p.bytes) (ask.PutBlock p.key p.bytes))
-      by true = tt
-      by false = tt
-
-  asks_bring : (r : ℕ) (s : Session) (node : Peer) (question : Ask) → AsksOf hss_judged r s node question → BringsOnly made question
-  asks_bring r s node question (gets want wants next) = ⊎_elim (λ route. subst (BringsOnly made) (sym route) tt) (λ get. subst (BringsOnly made) (sym get) tt) next.is_of
-  asks_bring r s node question (puts said p posts acks at next) = ⊎_elim (λ route. subst (BringsOnly made) (sym route) tt) (λ put. subst (BringsOnly made) (sym put) (put_brings p)) next.is_of
+-- a question for data is no notice
+data_brings : (made : List Peer) (question : Ask) → IsForData question → BringsOnly made question
+data_brings made (ask.Route key) is = tt
+data_brings made ask.Near is = absurd is
+data_brings made (ask.Notify peer) is = absurd is
+data_brings made (ask.Get key) is = tt
+data_brings made (ask.PutBlock key bytes) is = tt
+data_brings made (ask.PutHead key bytes) is = tt
 
 awaits : {node : Peer} {question : Ask} (o : Option (Peer × Ask)) → o ≡ Some (node, question) → o ≢ None
 awaits o is none = cc (sym none ∙ is)
 
 next_brings : (made : List Peer) {old new : SessionState HssJudge} {s : Session} {before after : Cache} {node : Peer} {question : Ask} → NextIs judges old new s before after (next.Ask node question)
     → BringsOnly made question × (session_awaited new ≢ None)
-next_brings made {old = old} {new = new} (asks t node question takes session awaited of) = (asks_bring made old.replicas t node question of, awaits (session_awaited new) awaited)
-next_brings made {old = old} {new = new} {s = s} (asks_again node question waits awaited session of same) = (asks_bring made old.replicas s node question of, awaits (session_awaited new) awaited)
+next_brings made {new = new} (asks t node question takes session awaited of) = (data_brings made question (asks_for_data of), awaits (session_awaited new) awaited)
+next_brings made {new = new} (asks_again node question waits awaited session of same) = (data_brings made question (asks_for_data of), awaits (session_awaited new) awaited)
 
 -- ---- what is wanted of a scene that is shown
 

@@ -1,17 +1,19 @@
 -- Settlings of a session in code, and its end.
-use Rattle.std.proofs.Common.{◌≡◌, ⊎_elim, ℕ, List, [], Option, refl, sym, ap, ◌∙◌, subst}
+use Rattle.std.proofs.Common.{◌≡◌, ⊎_elim, ℕ, List, [], refl, sym, ap, ◌∙◌, subst}
 use Rattle.dhash_model.specs.Signed.{hss_judged}
 use Rattle.dht_ids.specs.declared.post.Ack.{Ack}
-use Rattle.dht_ids.specs.declared.post.Post.{Post}
 use Rattle.dhash_client.specs.GetHead.{Judges}
 use Rattle.agent_model.specs.Others.{settled}
 use Rattle.session_model.specs.Courses.Settles.{settles as settles_all}
-use Rattle.session_model.specs.Sessions.{Cache, Over, Publishing, Refreshing, Said, Session, TakesSome}
+use Rattle.session_model.specs.Sessions.{Cache, Over, Publishing, Session, TakesSome}
 use Rattle.ivy_session.specs.declared.served.Served.{Served}
 use Rattle.ivy_session.specs.declared.session.Next.TheVariants as next
 use Rattle.ivy_session.specs.States.{SessionState}
 use Rattle.ivy_session.specs.Stepping.{NextIs}
 use Rattle.ivy_session.specs.Stepping.NextIs.{settles as next_settles, is_over, lacks_memory as next_lacks, is_cut as next_cut, is_unrouted}
+use Rattle.ivy_session.proofs.Ended.{over_has_asked, over_is_past}
+use Rattle.ivy_session.proofs.Hearing.{publishing_now}
+use Rattle.ivy_session.proofs.Staying.{taken_same, takes_later}
 use Rattle.world_model.specs.World.{Participant, with_participant}
 use Rattle.world_model.specs.Steps.{Scene, with_cache}
 use Rattle.world_model.specs.Steps.Acts.{settles as acts_settles}
@@ -20,11 +22,7 @@ use Rattle.session_steps.specs.Laws.{DoneIsOver, SettlingsAreSteps}
 use Rattle.session_steps.specs.Scenes.{IsDone, IsSceneOf, IsStep, given_at}
 use Rattle.session_steps.specs.Scenes.IsDone.{was_over, lacks_memory as done_lacking, is_cut as done_cut}
 use Rattle.session_steps.specs.Scenes.IsLeft.{goes_on as left_on}
-use Rattle.session_steps.proofs.SceneSteps.{as_ring, lacking_gives, some_gives, taken_same, takes_later, twice_placed}
-use Rattle.session_steps.proofs.Waiting.{over_waits_for_no_turn, over_waits_for_none}
-
-publishing_now : (s : Session) (said : Option Said) (posts : List Post) (acks : List Ack) → s.stage ≡ Publishing said posts acks → s.stage ≡ Refreshing → ⊥
-publishing_now s said posts acks at e = cc (sym at ∙ e)
+use Rattle.session_steps.proofs.SceneSteps.{as_ring, lacking_gives, some_gives, twice_placed}
 
 module _ {J : Type 0} (judges : Judges J) (c : Scene) (r : ℕ) (p : Participant) (old : SessionState J) (is : IsSceneOf judges c r p old) where
   module _ (new : SessionState J) (after : Cache) where
@@ -34,7 +32,7 @@ module _ {J : Type 0} (judges : Judges J) (c : Scene) (r : ℕ) (p : Participant
         record {
           next = record c { world = with_participant (with_participant c.world p) (record p { agent = settled p.agent acks }); session = record c.session { stage = Over said } };
           steps = acts p c.session p.cache _ is.is_by (takes_later c.session p.cache (publishing_now c.session said [] acks is_at)) (acts_settles (settled p.agent acks) _ (settles_all said acks is_at));
-          left = left_on session (λ waits. absurd (waits (over_waits_for_none judges (record c.session { stage = Over said }) new said session refl))) (over_waits_for_no_turn judges (record c.session { stage = Over said }) new said session refl);
+          left = left_on session (over_has_asked judges (record c.session { stage = Over said }) new said refl session) (over_is_past judges (record c.session { stage = Over said }) new said refl session);
           world = twice_placed c.world p (record p { agent = settled p.agent acks }) refl ∙ ap (λ (cache : Cache). with_participant c.world (record p { agent = settled p.agent acks; cache = cache })) (sym stays);
           gives = sym (ap given_at is_at);
         }

@@ -11,6 +11,7 @@ use Rattle.ivy_session.specs.declared.session.Next.TheVariants as next
 use Rattle.ivy_session.specs.States.{SessionState, is_turning}
 use Rattle.ivy_session.specs.Stepping.{IsNext, NextIs}
 use Rattle.ivy_session.specs.Stepping.NextIs.{settles}
+use Rattle.ivy_session.proofs.Ended.{over_is_past}
 use Rattle.script_participants.specs.ParticipantState.{ParticipantState, state_of}
 use Rattle.world_model.specs.Steps.{Scene}
 use Rattle.world_model.specs.World.{Participant, World, with_participant}
@@ -20,10 +21,9 @@ use Rattle.session_steps.specs.Showing.{CallState, IsTold, IsUnderWay, IsUntold,
 use Rattle.session_steps.specs.Within.{HasNext, Laws}
 use Rattle.session_steps.proofs.Scenes.{as_told, by_step, left_is, same_nodes, scene_of, stayed, stays, stepped, untold}
 use Rattle.session_steps.proofs.Asks.{wants_there, with_cache}
-use Rattle.session_steps.proofs.Over.{over_asks}
 
 settled_no_turn : {old new : SessionState HssJudge} {s : Session} {before after : Cache} {acks : List Ack} → NextIs judges old new s before after (next.Settle acks) → is_turning new.stage ≡ false
-settled_no_turn {new = new} {s = s} (settles said acks at free same session) = (over_asks (record s { stage = Over said }) new said refl new.stage session.at).1
+settled_no_turn {new = new} {s = s} (settles said acks at free same session) = over_is_past judges (record s { stage = Over said }) new said refl session
 
 module _ (c : Scene) (r : ℕ) (old : Shown) (way : IsUnderWay c r) (shows : Shows c r old) (none : old.call.told ≡ None) (mid : CallState) (between : ParticipantState) (laws : Laws) where
   is_untold : IsUntold c.session old.call

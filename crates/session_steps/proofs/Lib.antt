@@ -1,14 +1,12 @@
 mod Calls
 mod Asked
 pub mod SceneSteps
-pub mod Waiting
 mod AskSteps
 mod Read
 mod TurnSteps
 mod EndSteps
 mod Scenes
 mod Asks
-mod Over
 mod Turns
 mod Ends
 mod Many

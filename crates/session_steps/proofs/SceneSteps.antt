@@ -1,5 +1,5 @@
 -- A scene whose session is one in code: what is at hand was taken, and it is in hand still.
-use Rattle.std.proofs.Common.{◌≡◌, ◌≢◌, ℕ, Bool, true, false, cond, List, [], ◌∷◌, map, Option, Some, None, refl, sym, ap, ◌∙◌, subst}
+use Rattle.std.proofs.Common.{◌≡◌, ℕ, Bool, true, false, cond, List, [], ◌∷◌, map, Option, Some, None, refl, sym, ap, ◌∙◌, subst}
 use Rattle.std.specs.Str.{bytes_eq}
 use Rattle.std.proofs.lemmas.Slice.Eq.{bytes_eq-Decides}
 use Rattle.ivy_base.specs.declared.key.Key.{Key}
@@ -11,17 +11,15 @@ use Rattle.dht_ids.specs.declared.peer.Peer.{Peer}
 use Rattle.dht_ids.specs.declared.post.Ack.{Ack}
 use Rattle.dht_ids.specs.declared.post.Post.{Post}
 use Rattle.dhash_client.specs.GetHead.{Judges}
-use Rattle.session_model.specs.Sessions.{Cache, Hears, Refreshing, Said, Session, Takes, TakesAll, TakesSome, acknowledged, after_put}
+use Rattle.session_model.specs.Sessions.{Cache, Hears, Said, Session, TakesAll, TakesSome, acknowledged, after_put}
 use Rattle.session_model.specs.Courses.{Fails, LacksMemory}
 use Rattle.session_model.specs.Courses.Fails.{fails as refresh_fails, goes_on as refresh_goes}
 use Rattle.session_model.specs.Courses.LacksMemory.{lacks}
 use Rattle.session_model.specs.Sessions.Hears.{gets_on, got, puts_on, puts}
-use Rattle.session_model.specs.Sessions.Takes.{posted, cached}
-use Rattle.session_model.specs.Sessions.TakesAll.{none as takes_none, more as takes_more}
-use Rattle.session_model.specs.Sessions.TakesSome.{none as some_none, more as some_more}
 use Rattle.ivy_session.specs.States.{SessionState}
 use Rattle.ivy_session.specs.Stepping.{IsSameSession}
-use Rattle.ivy_session.specs.Taking.{IsSameCall}
+use Rattle.ivy_session.proofs.Staying.{all_some, some_same, taken_same}
+use Rattle.ivy_session.proofs.Wanted.{as_ring as by_ring, as_ring_then as by_ring_then}
 use Rattle.world_model.specs.World.{World, Participant, participant, with_participant}
 use Rattle.world_model.specs.Steps.{Scene, with_cache}
 use Rattle.world_laws.specs.Keeps.{IsInHand, Keeps}
@@ -44,34 +42,6 @@ twice_placed w p q named = ap (λ (ps : List Participant). record w { participan
     each : (ps : List Participant) → map (λ o. cond (bytes_eq o.name q.name) q o) (map (λ o. cond (bytes_eq o.name p.name) p o) ps) ≡ map (λ o. cond (bytes_eq o.name q.name) q o) ps
     each [] = refl
     each (o ∷ ps) = λ i. one o (bytes_eq o.name p.name) refl i ∷ each ps i
-
--- ---- what is at hand
-
--- where an ask was heard, nothing is taken
-pub asking_takes : {judged : Key → List ℕ → Option Judged} {r : ℕ} {s t : Session} {cache after : Cache} → s.current ≢ [] → Takes judged r s cache t after → ⊥
-asking_takes busy (posted key bytes wants free is) = busy free
-asking_takes busy (cached key bytes wants free not is) = busy free
-
-pub takes_while_asking : {judged : Key → List ℕ → Option Judged} {r : ℕ} (s : Session) (cache : Cache) → s.current ≢ [] → TakesAll judged r s cache s cache
-takes_while_asking s cache busy = takes_none (λ t after takes. asking_takes busy takes)
-
--- at another stage than that of a refresh nothing is taken
-pub later_takes : {judged : Key → List ℕ → Option Judged} {r : ℕ} {s t : Session} {cache after : Cache} → (s.stage ≡ Refreshing → ⊥) → Takes judged r s cache t after → ⊥
-later_takes later (posted key bytes wants free is) = later wants.0
-later_takes later (cached key bytes wants free not is) = later wants.0
-
-pub takes_later : {judged : Key → List ℕ → Option Judged} {r : ℕ} (s : Session) (cache : Cache) → (s.stage ≡ Refreshing → ⊥) → TakesAll judged r s cache s cache
-takes_later s cache later = takes_none (λ t after takes. later_takes later takes)
-
--- it is the same call
-pub taken_same : {judged : Key → List ℕ → Option Judged} {r : ℕ} {s t : Session} {cache after : Cache} → TakesAll judged r s cache t after → IsSameCall s t
-taken_same (takes_none none) = refl
-taken_same (takes_more (posted key bytes wants free is) rest) = taken_same rest
-taken_same (takes_more (cached key bytes wants free not is) rest) = taken_same rest
-
-pub all_some : {judged : Key → List ℕ → Option Judged} {r : ℕ} {s t : Session} {cache after : Cache} → TakesAll judged r s cache t after → TakesSome judged r s cache t after
-all_some (takes_none none) = some_none
-all_some (takes_more first rest) = some_more first (all_some rest)
 
 -- ---- what is said
 
@@ -97,19 +67,17 @@ pub taken_gives : {judged : Key → List ℕ → Option Judged} {r : ℕ} {s t :
 taken_gives takes = ap (λ (u : Session). given_at u.stage) (taken_same takes)
 
 pub some_gives : {judged : Key → List ℕ → Option Judged} {r : ℕ} {s t : Session} {cache after : Cache} → TakesSome judged r s cache t after → given_at t.stage ≡ given_at s.stage
-some_gives some_none = refl
-some_gives (some_more (posted key bytes wants free is) rest) = some_gives rest
-some_gives (some_more (cached key bytes wants free not is) rest) = some_gives rest
+some_gives takes = ap (λ (u : Session). given_at u.stage) (some_same takes)
 
 -- ---- of a scene
 
 module _ {J : Type 0} (judges : Judges J) (c : Scene) (r : ℕ) (p : Participant) (old : SessionState J) (is : IsSceneOf judges c r p old) where
   -- by the ring's judge and so many owners
   pub as_ring : (P : (Key → List ℕ → Option Judged) → ℕ → Type 0) → P (judges old.judge) old.replicas → P hss_judged r
-  as_ring P h = subst (λ (judged : Key → List ℕ → Option Judged). P judged r) is.judge (subst (λ (n : ℕ). P (judges old.judge) n) is.replicas h)
+  as_ring P h = by_ring judges hss_judged r c.session p.cache old is.judge is.replicas P h
 
   pub as_ring_then : (mid : SessionState J) → IsSameSession old mid → (P : (Key → List ℕ → Option Judged) → ℕ → Type 0) → P (judges mid.judge) mid.replicas → P hss_judged r
-  as_ring_then mid same P h = as_ring P (subst (λ (j : J). P (judges j) old.replicas) same.0 (subst (λ (n : ℕ). P (judges mid.judge) n) same.1 h))
+  as_ring_then mid same P h = by_ring_then judges hss_judged r c.session p.cache old is.judge is.replicas mid same P h
 
   module _ (keeps : Keeps (c.world, c.story)) (t : Session) (cache : Cache) (takes : TakesAll hss_judged r c.session p.cache t cache) where
     pub found_then : participant (with_participant c.world (record p { cache = cache })) t.by ≡ Some (record p { cache = cache })

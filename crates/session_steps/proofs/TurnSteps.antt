@@ -7,14 +7,9 @@ use Rattle.ivy_base.specs.Naming.{HasClash, NamesTellApart}
 use Rattle.hash_signature_model.specs.Saved.{IsSigner}
 use Rattle.hash_signature_model.specs.Signer.{Signer}
 use Rattle.dhash_model.specs.Signed.{hss_judged}
-use Rattle.log_model.proofs.Lists.{each, each_from}
+use Rattle.log_model.proofs.Lists.{each}
 use Rattle.log_model.specs.Record.{Record}
-use Rattle.log_model.specs.Spelling.{IsMoment}
-use Rattle.log_model.specs.Vector.{Stamp}
 use Rattle.log_model.specs.View.{View, IsView, is_named}
-use Rattle.log_model.specs.Fetched.{owner_of}
-use Rattle.log_records.specs.Batches.{owners_in}
-use Rattle.wire_model.proofs.OneReading.{one_call}
 use Rattle.nfs_laws.specs.Replies.{AnswersAreReplies, FinishesAreReplies, PlansAreReplies, SetsMakeTrees}
 use Rattle.nfs_model.specs.Replies.{IsFittingReply}
 use Rattle.nfs_model.specs.Results.{result as bytes_of}
@@ -27,13 +22,11 @@ use Rattle.agent_model.specs.Agent.{kept_of}
 use Rattle.agent_model.specs.Standing.{Refresh as ModelRefresh, Standing as ModelStanding, anew_in}
 use Rattle.agent_model.specs.Turning.{Answered, Behind, BelowTide, IsByDefinition, TurnEnd, Turns}
 use Rattle.agent_model.specs.Turning.Turns.{behind, below, answers as answers_it}
-use Rattle.session_model.specs.Brought.{brought_in}
 use Rattle.session_model.specs.Courses.{grounds_of, HasRefreshed, IsRefusal, LacksMemory, anew, answered, ended}
 use Rattle.session_model.specs.Courses.TakesTurn.{answers, begins_anew, gives_up}
-use Rattle.session_model.specs.Refreshing.{Done, Note}
+use Rattle.session_model.specs.Refreshing.{Note}
 use Rattle.session_model.specs.Replies.{Asks, said_no_memory, said_of}
-use Rattle.session_model.specs.Sessions.{Cache, Session, TakesAll}
-use Rattle.session_laws.proofs.OneRefresh.{refresh_is_one}
+use Rattle.session_model.specs.Sessions.{Cache, Session}
 use Rattle.log_fetch.specs.declared.asked.Asked.{Asked}
 use Rattle.log_fetch.specs.declared.refresh.Refresh.{Refresh}
 use Rattle.log_fetch.specs.declared.standing.Standing.{Standing}
@@ -48,14 +41,14 @@ use Rattle.ivy_agent.specs.Holders.{Holder}
 use Rattle.ivy_agent.specs.Saves.{Saves}
 use Rattle.ivy_agent.specs.Turns.{IsFetchedIn, TurnsAs}
 use Rattle.ivy_session.specs.declared.session.Next.TheVariants as next
-use Rattle.ivy_session.specs.declared.session.Stage.{Stage as CodeStage}
-use Rattle.ivy_session.specs.declared.session.Stage.TheVariants as stage
-use Rattle.ivy_session.specs.States.{IsAt, IsSession, SessionState, asked_at, is_turning, session_awaited}
-use Rattle.ivy_session.specs.Stepping.{IsAnewFor, IsBatchOf, NextIs, TurnedIs}
+use Rattle.ivy_session.specs.States.{IsSession, SessionState, asked_at, is_turning, session_awaited}
+use Rattle.ivy_session.specs.Stepping.{IsAnewFor, TurnedIs}
 use Rattle.ivy_session.specs.Stepping as code
 use Rattle.ivy_session.specs.Stepping.IsRefused.{begins_anew as code_begins, lacks_memory as code_lacks, gives_up as code_gives_up}
-use Rattle.ivy_session.specs.Stepping.NextIs.{turns as next_turns}
 use Rattle.log_model.specs.ViewKeys.{HasKeys}
+use Rattle.ivy_session.proofs.Called.{IsAskedOf, asks_as, batch_of_members, refreshed_as, turn_is_asked}
+use Rattle.ivy_session.proofs.Staying.{all_some, taken_same}
+use Rattle.ivy_session.proofs.Wanted.{TurnsThen, turns_then}
 use Rattle.script_model.specs.Messages.{Given}
 use Rattle.world_model.specs.Agents.{Agent, Kept, IsKept, IsTurnIn, TakesTurn, hss, kept_bytes, own}
 use Rattle.world_model.specs.Keepers.{Keeper, asked_to_save, fails_next}
@@ -67,18 +60,12 @@ use Rattle.world_model.specs.Steps.Steps.{acts, lacks_memory}
 use Rattle.world_laws.specs.Keeps.{IsInHand, IsKeptSo, IsSavedWell, Keeps}
 use Rattle.world_laws.proofs.Apart.{clash_is_decided}
 use Rattle.world_laws.proofs.Bringing.{found_named, its_view, refresh_may_turn}
-use Rattle.world_laws.proofs.Frames.{into_map}
 use Rattle.session_steps.specs.Laws.{AgentsGiveTurns, BatchesAreFetched, GivesNothing, RefusalsAreFresh, RepliesAreRead, TurnsAreSteps, TurnsMayBe}
 use Rattle.session_steps.specs.Scenes.{GivesTurn, HadTurn, IsLeft, IsSceneOf, IsStep, MayLack, given_at, given_by, given_of, holder_of, memory_saves, turned_participant, turned_world}
 use Rattle.session_steps.specs.Scenes.IsLeft.{goes_on as left_on, lacks_memory as left_lacking, is_cut as left_cut}
 use Rattle.ivy_agent.proofs.Bounds.{bounds_in}
 use Rattle.session_steps.proofs.Read.{reply_of}
-use Rattle.session_steps.proofs.SceneSteps.{all_some, as_ring, found_then, keeps_then, lacking_gives, taken_same, twice_placed}
-
--- ---- what was asked for is one
-
-asks_one_number : (view : View) (message : List ℕ) (xid number : ℕ) (asked other : ModelAsked) → Asks view message xid asked → Asks view message number other → xid ≡ number
-asks_one_number view message xid number asked other a b = sym a.xid_is ∙ ap (λ c. c.xid) (one_call message a.call b.call a.is_call b.is_call) ∙ b.xid_is
+use Rattle.session_steps.proofs.SceneSteps.{found_then, keeps_then, lacking_gives, twice_placed}
 
 -- ---- what the agent's turn is
 
@@ -133,72 +120,27 @@ same_view v w e = cc e
 
 -- ---- where a turn is wanted
 
-turning_or_not : true ≡ false → ⊥
-turning_or_not e = cc e
-
-same_asked : (a b : Asked) → Some a ≡ Some b → a ≡ b
-same_asked a b e = cc e
-
-none_asked : (a : Asked) → None ≡ Some a → ⊥
-none_asked a e = cc e
-
-module _ {J : Type 0} (judges : Judges J) (s : Session) (st : SessionState J) where
-  -- what it is asked is the message's
-  call_of : (at : CodeStage J) (asked : Asked) → is_turning at ≡ true → asked_at at ≡ Some asked → IsAt judges s st at → (xid : ℕ) × Asks s.standing.view s.message xid (asked_of asked) × ((now : Moment) → IsMoment now → IsCall (asked_of asked) now)
-  call_of (stage.Refreshing c f) asked turning is h = absurd (turning_or_not (sym turning))
-  call_of (stage.Turning c) asked turning is h =
-      subst (λ (a : Asked). (xid : ℕ) × Asks s.standing.view s.message xid (asked_of a) × ((now : Moment) → IsMoment now → IsCall (asked_of a) now)) (same_asked c.asked asked is)
-      (c.xid, h.call.asks, λ now moment. record { caller = h.call.caller; args = h.call.args; moment = moment })
-  call_of (stage.Publishing told q) asked turning is h = absurd (none_asked asked is)
-  call_of (stage.Over told) asked turning is h = absurd (none_asked asked is)
-  call_of stage.Told asked turning is h = absurd (none_asked asked is)
-
 pub batches_are_fetched : BatchesAreFetched
-batches_are_fetched s b h = record {
-  under = (edge_in s.edges, h.under);
-  members = each_from (λ (c : Stamp × List Record). Contains s.view.members (owner_of c.1)) b.chains (λ c among. h.members (owner_of c.1) (owner_among b.chains c among));
-}
-  where
-    owner_among : (chains : List (Stamp × List Record)) (c : Stamp × List Record) → Contains chains c → Contains (owners_in chains) (owner_of c.1)
-    owner_among chains c among = into_map (λ (x : Stamp × List Record). owner_of x.1) chains c among
+batches_are_fetched s b h = record { under = (edge_in s.edges, h.under); members = batch_of_members s b h }
 
 module _ {J : Type 0} (judges : Judges J) (c : Scene) (r : ℕ) (p : Participant) (old : SessionState J) (is : IsSceneOf judges c r p old) (keeps : Keeps (c.world, c.story)) (hand : IsInHand c r) where
   -- what was at hand is taken, and the refresh is done
-  pub record TurnsThen (mid : SessionState J) (cache : Cache) (refresh : Refresh) : Type 0 where
-    pub taken : Session
-    pub notes : List Note
-    pub takes : TakesAll hss_judged r c.session p.cache taken cache
-    pub session : IsSession judges taken mid
-    pub turning : is_turning mid.stage ≡ true
-    pub done : HasRefreshed taken notes (refresh_of refresh)
-    pub batch : IsBatchOf taken.standing refresh.batch
-    pub bounds : IfSome refresh.basis (λ basis. HasBounds basis.tree)
+  abbrev pub Turning : SessionState J → Cache → Refresh → Type 0
+  Turning = TurnsThen judges hss_judged r c.session p.cache
 
-  turns_then : (mid : SessionState J) (cache : Cache) (refresh : Refresh) → NextIs judges old mid c.session p.cache cache (next.Turn refresh) → TurnsThen mid cache refresh
-  turns_then mid cache refresh (next_turns t notes _ takes session turning done batch) = record {
-    taken = t;
-    notes = notes;
-    takes = as_ring judges c r p old is (λ judged n. TakesAll judged n c.session p.cache t cache) takes;
-    session = session;
-    turning = turning;
-    done = done;
-    batch = batch;
-    bounds = bounds_in t notes refresh done;
-  }
-
-  may_be : (mid : SessionState J) (cache : Cache) (refresh : Refresh) → TurnsThen mid cache refresh
+  may_be : (mid : SessionState J) (cache : Cache) (refresh : Refresh) → Turning mid cache refresh
       → (is_turning mid.stage ≡ true) × IsSomeAnd p.agent.view (λ view. IsFetchedIn view refresh.batch) × IfSome refresh.basis (λ basis. HasBounds basis.tree) × ((asked : Asked) → asked_at mid.stage ≡ Some asked → IsCall (asked_of asked) c.world.now)
   may_be mid cache refresh h = (
     h.turning,
     subst (λ (o : Option View). IsSomeAnd o (λ view. IsFetchedIn view refresh.batch)) (sym (its_view c r hand p is.is_by))
         (subst (λ (s : Session). IsFetchedIn s.standing.view refresh.batch) (taken_same h.takes) (batches_are_fetched h.taken.standing refresh.batch h.batch)),
-    h.bounds,
-    λ asked is_asked. (call_of judges h.taken mid mid.stage asked h.turning is_asked h.session.at).2 c.world.now keeps.moment,
+    bounds_in h.taken h.notes refresh h.done,
+    λ asked is_asked. let a = turn_is_asked judges h.taken mid asked h.session h.turning is_asked in record { caller = a.caller; args = a.args; moment = keeps.moment },
   )
 
   -- ---- the step
 
-  module _ (mid new : SessionState J) (cache : Cache) (refresh : Refresh) (asked : Asked) (h : TurnsThen mid cache refresh) (is_asked : asked_at mid.stage ≡ Some asked) (after : Holder Keeper Signer)
+  module _ (mid new : SessionState J) (cache : Cache) (refresh : Refresh) (asked : Asked) (h : Turning mid cache refresh) (is_asked : asked_at mid.stage ≡ Some asked) (after : Holder Keeper Signer)
       (free : session_awaited new ≡ None) (past : is_turning new.stage ≡ false) where
     abbrev here : Scene
     here = with_cache hss_judged r c p h.taken cache
@@ -220,14 +162,14 @@ module _ {J : Type 0} (judges : Judges J) (c : Scene) (r : ℕ) (p : Participant
     in_view : mine.agent.view ≡ Some view
     in_view = its_view here r kept_now.1 mine found_now
 
-    call : (xid : ℕ) × Asks view h.taken.message xid (asked_of asked) × ((moment : Moment) → IsMoment moment → IsCall (asked_of asked) moment)
-    call = call_of judges h.taken mid mid.stage asked h.turning is_asked h.session.at
+    call : IsAskedOf h.taken asked
+    call = turn_is_asked judges h.taken mid asked h.session h.turning is_asked
 
     asks_so : (xid : ℕ) (other : ModelAsked) → Asks view h.taken.message xid other → Asks view h.taken.message xid (asked_of asked)
-    asks_so xid other a = subst (λ (n : ℕ). Asks view h.taken.message n (asked_of asked)) (asks_one_number view h.taken.message call.0 xid (asked_of asked) other call.1 a) call.1
+    asks_so xid other a = asks_as view h.taken.message call.xid xid (asked_of asked) other call.asks a
 
     done_so : (notes : List Note) (given : ModelRefresh) → HasRefreshed h.taken notes given → HasRefreshed h.taken notes (refresh_of refresh)
-    done_so notes given d = subst (λ (ns : List Note). HasRefreshed h.taken ns (refresh_of refresh)) (refresh_is_one h.taken.standing (brought_in h.taken.parts) h.notes notes (refresh_of refresh) given Done Done h.done.1 d.1).0 h.done
+    done_so notes given d = refreshed_as h.taken h.notes notes (refresh_of refresh) given h.done d
 
     starts_are : h.taken.starts ≡ c.session.starts
     starts_are = ap (λ (s : Session). s.starts) (taken_same h.takes)
@@ -314,8 +256,8 @@ module _ {J : Type 0} (judges : Judges J) (c : Scene) (r : ℕ) (p : Participant
 
         read_turn : (reply : Reply) (saving : Option Kept) → turned.reply ≡ bytes_of reply → IsTurn (Answered reply turned.applied) saving → IsTurn (Answered read turned.applied) saving
         read_turn reply saving bytes turn = (
-          reply_of answers_are plans_are finishes_are sets_make hss IsSigner (refresh_of refresh) p.agent view (fails_next p.keeper) (asked_of asked) c.world.now saved_agent well (call.2 c.world.now keeps.moment).caller (call.2 c.world.now keeps.moment).args
-              keeps.moment call.1.not_alone reply read fits (sym same ∙ bytes) turned.applied refl turn.0,
+          reply_of answers_are plans_are finishes_are sets_make hss IsSigner (refresh_of refresh) p.agent view (fails_next p.keeper) (asked_of asked) c.world.now saved_agent well call.caller call.args
+              keeps.moment call.asks.not_alone reply read fits (sym same ∙ bytes) turned.applied refl turn.0,
           turn.1,
         )
 
@@ -336,7 +278,7 @@ module _ {J : Type 0} (judges : Judges J) (c : Scene) (r : ℕ) (p : Participant
 
       anew_step : h.taken.starts < 2 → IsLeft judges (c.session.starts < 2) (anew h.taken (anew_in hss after.agent view)) new → IsStep judges c r new (c.session.starts < 2) (world_after c.world (turned_participant mine after)) (given_of None)
       anew_step few left = refused_step (anew h.taken (anew_in hss after.agent view))
-          (begins_anew h.notes (refresh_of refresh) call.0 (asked_of asked) end after.agent saving h.done call.1 turn.0 refusal few) left (ap given_at h.done.0)
+          (begins_anew h.notes (refresh_of refresh) call.xid (asked_of asked) end after.agent saving h.done call.asks turn.0 refusal few) left (ap given_at h.done.0)
 
       by_refusal : (standing : ModelStanding) → standing ≡ anew_in hss after.agent view → code.IsRefused judges mid new h.taken standing → IsStep judges c r new (c.session.starts < 2) (world_after c.world (turned_participant mine after)) (given_of None)
       by_refusal standing same (code_begins few session) = anew_step few (left_on (subst (λ (s : ModelStanding). IsSession judges (anew h.taken s) new) same session) (λ waits. absurd (waits free)) past)
@@ -365,11 +307,11 @@ module _ {J : Type 0} (judges : Judges J) (c : Scene) (r : ℕ) (p : Participant
     by_turn (Err (fault.BelowTide standing)) t told = (given_of None, by_refusal BelowTide tt t.0.saving (t.0.turns, t.0.keeper) (standing_of standing) t.1 told, refl)
 
 pub turns_may_be : {J : Type 0} → TurnsMayBe J
-turns_may_be judges c r p old mid cache refresh keeps hand is wanted = may_be judges c r p old is keeps hand mid cache refresh (turns_then judges c r p old is keeps hand mid cache refresh (wanted.1 c.session is.session))
+turns_may_be judges c r p old mid cache refresh keeps hand is wanted = may_be judges c r p old is keeps hand mid cache refresh (turns_then judges hss_judged r c.session p.cache old is.judge is.replicas mid cache refresh (wanted.1 c.session is.session))
 
 pub turns_are_steps : {J : Type 0} → TurnsAreSteps J
 turns_are_steps judges c r p old mid new cache refresh asked turned after keeps hand is wanted is_asked had told free past =
-    let h = turns_then judges c r p old is keeps hand mid cache refresh (wanted.1 c.session is.session) in
+    let h = turns_then judges hss_judged r c.session p.cache old is.judge is.replicas mid cache refresh (wanted.1 c.session is.session) in
     by_turn judges c r p old is keeps hand mid new cache refresh asked h is_asked after free past turned
     (subst (λ (o : Option View). IfSome o (λ view. GivesTurn p view refresh asked c.world.now turned after))
     (in_view judges c r p old is keeps hand mid new cache refresh asked h is_asked after free past) had)
@@ -377,7 +319,7 @@ turns_are_steps judges c r p old mid new cache refresh asked turned after keeps 
 
 pub replies_are_read : AnswersAreReplies → PlansAreReplies → FinishesAreReplies → SetsMakeTrees → {J : Type 0} → RepliesAreRead J
 replies_are_read answers_are plans_are finishes_are sets_make judges c r p old mid new cache refresh asked turned after read keeps hand is wanted is_asked had told free past fits same =
-    let h = turns_then judges c r p old is keeps hand mid cache refresh (wanted.1 c.session is.session) in
+    let h = turns_then judges hss_judged r c.session p.cache old is.judge is.replicas mid cache refresh (wanted.1 c.session is.session) in
     by_read judges c r p old is keeps hand mid new cache refresh asked h is_asked after free past turned answers_are plans_are finishes_are sets_make read fits same
     (subst (λ (o : Option View). IfSome o (λ view. GivesTurn p view refresh asked c.world.now (Ok turned) after))
     (in_view judges c r p old is keeps hand mid new cache refresh asked h is_asked after free past) had)

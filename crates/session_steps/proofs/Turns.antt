@@ -1,17 +1,13 @@
 -- A turn of a call that is shown.
 use Rattle.std.proofs.Common.{◌≡◌, ⊎_elim, ℕ, ◌<◌, true, false, List, Option, Some, None, Result, Ok, Err, refl, sym, ap, ◌∙◌, subst}
 use Rattle.std.specs.Prelude.{IfSome, IsSomeAnd}
-use Rattle.ivy_base.specs.declared.key.Key.{Key}
 use Rattle.ivy_base.specs.declared.operation.Moment.{Moment}
 use Rattle.hash_signature_model.specs.Signer.{Signer}
 use Rattle.log_heads.specs.declared.judge.HssJudge.{HssJudge}
 use Rattle.log_model.specs.View.{View}
-use Rattle.dht_ids.specs.declared.judge.Judged.{Judged}
 use Rattle.agent_model.specs.Turning.{BelowTide, Behind, TurnEnd}
 use Rattle.session_model.specs.Courses.{LacksMemory}
-use Rattle.session_model.specs.Sessions.{Cache, Refreshing, Session, TakesAll}
-use Rattle.session_model.specs.Sessions.Takes.{posted, cached}
-use Rattle.session_model.specs.Sessions.TakesAll.{none as takes_none, more as takes_more}
+use Rattle.session_model.specs.Sessions.{Cache, Refreshing, Session}
 use Rattle.log_fetch.specs.declared.asked.Asked.{Asked}
 use Rattle.log_fetch.specs.declared.refresh.Refresh.{Refresh}
 use Rattle.log_fetch.specs.declared.turned.Turned.{Turned}
@@ -27,6 +23,8 @@ use Rattle.ivy_session.specs.declared.session.Stage.TheVariants as stage
 use Rattle.ivy_session.specs.States.{IsSession, SessionState, asked_at, is_turning}
 use Rattle.ivy_session.specs.Stepping.{IsNext, IsTurned, NextIs}
 use Rattle.ivy_session.specs.Stepping.NextIs.{turns}
+use Rattle.ivy_session.proofs.Ended.{lacking_is_over, over_asks_nothing}
+use Rattle.ivy_session.proofs.Staying.{taken_same}
 use Rattle.session_steps.specs.MetState.{AreMet, MetState}
 use Rattle.script_model.specs.Messages.{Given}
 use Rattle.script_participants.specs.ParticipantState.{ParticipantState, counting, state_of}
@@ -40,18 +38,15 @@ use Rattle.session_steps.specs.Showing.{CallState, HasScene, IsUnderWay, IsUntol
 use Rattle.session_steps.specs.Within.{BeginsAnew, CountsAsMade, HasNext, HasTurned, Laws, LeftBy, MayTurn}
 use Rattle.session_steps.proofs.Scenes.{IsLeftSo, by_step, left_is, same_nodes, scene_of, untold}
 use Rattle.session_steps.proofs.Asks.{wants_there, with_cache}
-use Rattle.session_steps.proofs.Over.{lacking_over, over_asks}
 
 -- ---- where a turn is wanted, the session refreshes
 
-taken_at : {judged : Key → List ℕ → Option Judged} {r : ℕ} {s t : Session} {cache after : Cache} → TakesAll judged r s cache t after → (t.stage ≡ s.stage) × (t.starts ≡ s.starts)
-taken_at (takes_none none) = (refl, refl)
-taken_at (takes_more (posted key bytes wants free is) rest) = taken_at rest
-taken_at (takes_more (cached key bytes wants free not is) rest) = taken_at rest
-
 -- and in code too it began anew so often
 turn_at : {old new : SessionState HssJudge} {s : Session} {before after : Cache} {refresh : Refresh} → NextIs judges old new s before after (next.Turn refresh) → (s.stage ≡ Refreshing) × (new.starts ≡ s.starts)
-turn_at (turns t notes refresh takes session turning refreshed batch) = (sym (taken_at takes).0 ∙ refreshed.0, session.starts ∙ (taken_at takes).1)
+turn_at (turns t notes refresh takes session turning refreshed batch) = (
+  sym (ap (λ (u : Session). u.stage) (taken_same takes)) ∙ refreshed.0,
+  session.starts ∙ ap (λ (u : Session). u.starts) (taken_same takes),
+)
 
 some_asked : (at : Stage HssJudge) → is_turning at ≡ true → (asked : Asked) × (asked_at at ≡ Some asked)
 some_asked (stage.Refreshing call fetch) is = (call.asked, refl)
@@ -201,8 +196,8 @@ module _ (c : Scene) (r : ℕ) (old : Shown) (way : IsUnderWay c r) (shows : Sho
     -- after a refusal it may have begun anew, and has done so
     begun_anew : BeginsAnew mid new → (s u : Session) → c.session.starts < 2 → LacksMemory s u → IsSession judges u new.session → ⊥
     begun_anew anew s u few lacking session =
-        let over = lacking_over lacking in
-        anew.begins (subst (λ (n : ℕ). n < 2) (sym at.1) few) (over_asks u new.session over.0 over.1 new.session.stage session.at).0
+        let over = lacking_is_over lacking in
+        anew.begins (subst (λ (n : ℕ). n < 2) (sym at.1) few) (over_asks_nothing judges u new.session over.0 over.1 session)
 
     refused_so : (end : TurnEnd) (given : Given) → state_of (turned_with (work_after end mine.work)) ≡ counting t.mid → work_after end mine.work ≡ mine.work → IsStep judges c r new.session (c.session.starts < 2) (world_after c.world (turned_participant mine (holder t.mid))) given
         → given ≡ given_of None → CountsAsMade t.mid after old.met later → BeginsAnew mid new → StepsTo c r then_shown

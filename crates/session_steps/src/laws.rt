@@ -10,9 +10,9 @@
 //! after it is one of the session again (`scenes_go_on`), which waits for a node only where asks were made, as `asks_are_steps`
 //! needs, and for no turn.
 //! Definitions: `specs/Scenes.antt`; statements: `specs/Laws.antt`. Lemmas: `proofs/Calls.antt` (what stays of a call),
-//! `proofs/Asked.antt` (whom a session asks), `proofs/SceneSteps.antt` (what is at hand was taken), `proofs/Waiting.antt` (which
-//! sessions wait for nobody), `proofs/AskSteps.antt`, `proofs/Read.antt` (the reply of a turn is the one that its bytes are),
-//! `proofs/TurnSteps.antt`, `proofs/EndSteps.antt`.
+//! `proofs/Asked.antt` (whom a session asks), `proofs/SceneSteps.antt` (what is at hand was taken), `proofs/AskSteps.antt`,
+//! `proofs/Read.antt` (the reply of a turn is the one that its bytes are), `proofs/TurnSteps.antt`, `proofs/EndSteps.antt`; and of
+//! `ivy_session` those of sessions that somebody drives.
 
 ghost use Rattle.session_steps.specs.Laws.{AgentsGiveTurns, AskedAreMade, AsksAreSteps, BatchesAreFetched, DoneIsOver, NextAskedAreMade, RefusalsAreFresh, RepliesAreRead, ScenesGoOn, SettlingsAreSteps, StepsAreOfOneCall, TurnsAreSteps, TurnsMayBe};
 

@@ -29,7 +29,9 @@
 //!   step;
 //! - `proofs/Arms.antt` and `proofs/Many.antt`: less is left after a step, and many steps;
 //! - `proofs/Begun.antt` and `proofs/Lines.antt`: what is shown at the end;
-//! - `proofs/Over.antt` and `proofs/Parts.antt`.
+//! - `proofs/Parts.antt`.
+//!
+//! What is said of a session alone, whoever drives it, is in the lemmas of `ivy_session`.
 //!
 //! Costs: meeting a block takes as many comparisons as the logarithm of the number of blocks. A new block is
 //! copied once; nothing is hashed.

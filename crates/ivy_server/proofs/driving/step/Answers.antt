@@ -17,18 +17,18 @@ turn-requires-clause-may g c κs outlives = turn_may_be (place_of (g.M.Mesh.owne
 
 pub returns-in-Ask-clause-steps : goal.returns-in-Ask-clause-steps
 returns-in-Ask-clause-steps g c = ask_steps _ (record { session = c.args.session.now; cache = c.args.cache.now }) (record { session = c.next.new.self; cache = c.next.new.cache })
-    (record { session = c.ask.new.session; cache = c.ask.new.cache }) _ _ c.in-Ask.node c.in-Ask.question c.in-Ask.ensures.wanted c.ask.ensures.heard c.ask.ensures.turning
+    (record { session = c.ask.new.session; cache = c.ask.new.cache }) _ _ c.in-Ask.node c.in-Ask.question c.in-Ask.ensures.wanted c.in-Ask.ensures.cut c.ask.ensures.heard c.ask.ensures.turning
 
 pub returns-in-Turn-clause-steps : goal.returns-in-Turn-clause-steps
 returns-in-Turn-clause-steps g c = turn_steps _ (record { session = c.args.session.now; cache = c.args.cache.now }) (record { session = c.next.new.self; cache = c.next.new.cache })
-    (record { session = c.turn.new.session; cache = c.next.new.cache }) _ _ c.in-Turn.refresh c.in-Turn.ensures.wanted refl
+    (record { session = c.turn.new.session; cache = c.next.new.cache }) _ _ c.in-Turn.refresh c.in-Turn.ensures.wanted c.in-Turn.ensures.cut refl
     (c.turn.ensures.turned (g.M.Mesh.owners_of_a_key c.args.mesh.now) (g.M.Mesh.made c.args.mesh.now) (g.M.Mesh.trail c.args.mesh.now)) c.turn.ensures.turning
 
 pub returns-in-Settle-clause-steps : goal.returns-in-Settle-clause-steps
 returns-in-Settle-clause-steps g c = settle_steps _ (record { session = c.args.session.now; cache = c.args.cache.now }) (record { session = c.next.new.self; cache = c.next.new.cache })
-    (record { session = c.next.new.self; cache = c.next.new.cache }) _ _ c.in-Settle.acks c.in-Settle.ensures.wanted c.settle.ensures.settles
+    (record { session = c.next.new.self; cache = c.next.new.cache }) _ _ c.in-Settle.acks c.in-Settle.ensures.wanted c.in-Settle.ensures.cut c.settle.ensures.settles
     (ap (λ made. record { made = made; trail = g.M.Mesh.trail c.args.mesh.now; clock = c.args.clock.now }) c.settle.ensures.made)
 
 pub returns-in-Done-clause-steps : goal.returns-in-Done-clause-steps
 returns-in-Done-clause-steps g c = done_steps _ (record { session = c.args.session.now; cache = c.args.cache.now }) (record { session = c.next.new.self; cache = c.next.new.cache })
-    (record { session = c.next.new.self; cache = c.next.new.cache }) _ c.in-Done.served c.in-Done.ensures.wanted
+    (record { session = c.next.new.self; cache = c.next.new.cache }) _ c.in-Done.served c.in-Done.ensures.wanted c.in-Done.ensures.cut

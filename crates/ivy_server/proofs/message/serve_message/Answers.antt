@@ -1,5 +1,4 @@
-use Rattle.std.proofs.Common.{refl, ap, ◌∙◌}
-use Rattle.std.specs.Prelude.{◌||◌}
+use Rattle.std.proofs.Common.{refl, ◌∙◌}
 use Rattle.ivy_server.specs.Passes.{passes}
 use Rattle.ivy_server.specs.Sessions.{place_of}
 use Rattle.ivy_server.proofs.Messages.{first_serving, same_place, still_ends, still_goes}
@@ -23,16 +22,16 @@ pub returns-in-Some-ended-clause-came : goal.returns-in-Some-ended-clause-came
 returns-in-Some-ended-clause-came g c = still_ends (passes g.S.Signs.signing g.S.Signs.is_whole g.K.Keeper.saves (g.T.Turns.comes c.args.turns.now) (g.T.Turns.leaves c.args.turns.now)) g.C.Clock.gives
     (place_of (g.M.Mesh.owners_of_a_key c.args.mesh.now) (g.M.Mesh.made c.args.mesh.now) (g.T.Turns.view c.args.turns.now c.args.pass.now))
     (place_of (g.M.Mesh.owners_of_a_key c.steps.mesh) (g.M.Mesh.made c.steps.mesh) (g.T.Turns.view c.args.turns.now c.steps.pass))
-    (same_place c.steps.invariant.owners c.steps.invariant.made c.steps.invariant.view) c.args.message.now c.args.cache.now _ _ _ c.steps.is_cut c.steps.invariant.serving _
-    (record { session = c.step-ended.new.session; cache = c.step-ended.new.cache }) c.in-Some-ended.served c.in-Some-ended.ensures.steps _ (ap (λ b. c.steps.is_cut || b) c.is_cut-is_cut.ensures) _ c.outcome_of.ensures
+    (same_place c.steps.invariant.owners c.steps.invariant.made c.steps.invariant.view) c.args.message.now c.args.cache.now _ _ _ c.steps.invariant.serving _
+    (record { session = c.step-ended.new.session; cache = c.step-ended.new.cache }) c.in-Some-ended.served c.in-Some-ended.ensures.steps c.is_cut.result c.is_cut.ensures _ c.outcome_of.ensures
 
 pub steps-preserved : goal.steps-preserved
 steps-preserved g c = record {
   serving = still_goes (passes g.S.Signs.signing g.S.Signs.is_whole g.K.Keeper.saves (g.T.Turns.comes c.args.turns.now) (g.T.Turns.leaves c.args.turns.now)) g.C.Clock.gives
       (place_of (g.M.Mesh.owners_of_a_key c.args.mesh.now) (g.M.Mesh.made c.args.mesh.now) (g.T.Turns.view c.args.turns.now c.args.pass.now))
       (place_of (g.M.Mesh.owners_of_a_key c.steps.mesh) (g.M.Mesh.made c.steps.mesh) (g.T.Turns.view c.args.turns.now c.steps.pass))
-      (same_place c.steps.invariant.owners c.steps.invariant.made c.steps.invariant.view) c.args.message.now c.args.cache.now _ _ _ c.steps.is_cut c.steps.invariant.serving _
-      (record { session = c.step-ended.new.session; cache = c.step-ended.new.cache }) c.in_default-ended.ensures.steps _ (ap (λ b. c.steps.is_cut || b) c.is_cut-is_cut.ensures);
+      (same_place c.steps.invariant.owners c.steps.invariant.made c.steps.invariant.view) c.args.message.now c.args.cache.now _ _ _ c.steps.invariant.serving _
+      (record { session = c.step-ended.new.session; cache = c.step-ended.new.cache }) c.in_default-ended.ensures.steps;
   fits = c.step-ended.ensures.fits;
   view = c.step-ended.ensures.view ∙ c.steps.invariant.view;
   owners = c.step-ended.ensures.owners ∙ c.steps.invariant.owners;

@@ -14,7 +14,7 @@ invariant-steps g l = record {
       l.message l.fn.cache
       (record { pass = l.fn.pass; marks = record { made = g.T.Turns.made l.turns l.fn.pass; trail = g.M.Mesh.trail l.fn.mesh; clock = l.fn.clock } })
       (record { pass = l.pass; marks = record { made = g.T.Turns.made l.turns l.pass; trail = g.M.Mesh.trail l.mesh; clock = l.clock } })
-      (record { session = l.session; cache = l.cache }) l.is_cut;
+      (record { session = l.session; cache = l.cache });
   fits : g.T.Turns.fits l.turns l.pass;
   view : g.T.Turns.view l.turns l.pass ≡ g.T.Turns.view l.turns l.fn.pass;
   owners : g.M.Mesh.owners_of_a_key l.mesh ≡ g.M.Mesh.owners_of_a_key l.fn.mesh;

@@ -1,5 +1,5 @@
 use Rattle.std.proofs.Common.{rules}
-use Rattle.ivy_server.proofs.Waiting.{cut_off, ended_source}
+use Rattle.ivy_server.proofs.Waiting.{cut_off, ended_source, gave_some}
 use Rattle.ivy_server.proofs.serve.read_piece.Goals as goal
 
 pub returns-in-Err-finish-clause-read : goal.returns-in-Err-finish-clause-read
@@ -16,3 +16,7 @@ pub returns-in-Err-TooLong-clause-read : goal.returns-in-Err-TooLong-clause-read
 returns-in-Err-TooLong-clause-read g c = λ read taken between.
     let fed = (rw c.in-Err-TooLong.field-0-is at c.in-Err-TooLong.ensures.fed) read taken between.after in
     (_, c.in-Ok.ensures.bytes.0, fed.0, fed.1)
+
+pub returns-in-Err-Memory-clause-read : goal.returns-in-Err-Memory-clause-read
+returns-in-Err-Memory-clause-read g c = λ read taken between.
+    (_, c.in-Ok.ensures.bytes.0, gave_some c.read.new.into c.in-Ok.count (search rules) (search rules))

@@ -1,8 +1,9 @@
-use Rattle.std.proofs.Common.{◌≡◌, Ok, true, sym, subst}
+use Rattle.std.proofs.Common.{◌≡◌, Ok, true, ap, refl, sym, subst}
 use Rattle.ivy_session.specs.States.{SessionState, is_turning}
 use Rattle.ivy_session.specs.Stepping.{IsTurned}
 use Rattle.ivy_session.proofs.TurnsInPlace.{is_answered, is_answered_alone, turning_call}
 use Rattle.ivy_session.proofs.Falling.{Falls, answer_falls, turn_ends}
+use Rattle.ivy_session.proofs.Cutting.{answered_cut, answered_whole}
 use Rattle.ivy_session.proofs.session.Session.answer.Goals as goal
 
 pub take_call-call-requires : goal.take_call-call-requires
@@ -49,3 +50,15 @@ returns-in-Err-clause-left g c =
     let st : SessionState g.row.J.Denot = record { judge = i.judge; replicas = i.replicas; entries = i.entries; starts = i.starts; notes = i.notes; is_cut = i.is_cut; stage = i.stage } in
     (subst (λ (x : SessionState g.row.J.Denot). Falls x (record st { is_cut = true; stage = c.go_to-in-Err.new.stage })) c.self.view_is
     (turn_ends st i.stage (subst (λ (x : SessionState g.row.J.Denot). is_turning x.stage ≡ true) (sym c.self.view_is) c.requires.turning) (record st { is_cut = true; stage = c.go_to-in-Err.new.stage }) c.reply_of-told.result c.go_to-in-Err.ensures)).1
+
+pub returns-in-Ok-clause-cut : goal.returns-in-Ok-clause-cut
+returns-in-Ok-clause-cut g c =
+    let i = c.self.inside in
+    let st : SessionState g.row.J.Denot = record { judge = i.judge; replicas = i.replicas; entries = i.entries; starts = i.starts; notes = i.notes; is_cut = i.is_cut; stage = i.stage } in
+    answered_whole c.args.self.now (record st { stage = c.go_to.new.stage }) c.args.turned.now c.reply_of-told.result c.in-Ok.publishing c.go_to.ensures (ap (λ (x : SessionState g.row.J.Denot). x.is_cut) c.self.view_is)
+
+pub returns-in-Err-clause-cut : goal.returns-in-Err-clause-cut
+returns-in-Err-clause-cut g c =
+    let i = c.self.inside in
+    let st : SessionState g.row.J.Denot = record { judge = i.judge; replicas = i.replicas; entries = i.entries; starts = i.starts; notes = i.notes; is_cut = i.is_cut; stage = i.stage } in
+    answered_cut c.args.self.now (record st { is_cut = true; stage = c.go_to-in-Err.new.stage }) c.args.turned.now c.reply_of-told.result c.go_to-in-Err.ensures refl

@@ -11,3 +11,9 @@ hear_put-requires-clause-publishing g c =
 
 pub returns-in_default-clause-heard : goal.returns-in_default-clause-heard
 returns-in_default-clause-heard g c = c.hear_put.ensures.heard c.args.cache.now
+
+pub returns-in-Refreshing-clause-cut : goal.returns-in-Refreshing-clause-cut
+returns-in-Refreshing-clause-cut g c = c.hear_get.ensures.cut
+
+pub returns-in_default-clause-cut : goal.returns-in_default-clause-cut
+returns-in_default-clause-cut g c = c.hear_put.ensures.cut

@@ -1,9 +1,11 @@
-use Rattle.std.proofs.Common.{◌≡◌, false, sym, subst}
+use Rattle.std.proofs.Common.{◌≡◌, false, refl, sym, subst}
 use Rattle.ivy_session.specs.States.{SessionState, is_told, is_turning}
 use Rattle.ivy_session.specs.declared.session.Next.TheVariants as next
 use Rattle.ivy_session.specs.Stepping.{IsNext}
+use Rattle.ivy_session.specs.Cutting.{IsCutAsWanted}
 use Rattle.ivy_session.proofs.TurnsInPlace.{is_to_tell, is_told_next}
 use Rattle.ivy_session.proofs.Falling.{told_next}
+use Rattle.ivy_session.proofs.Cutting.{told_whole}
 use Rattle.ivy_session.proofs.session.Session.next.Goals as goal
 
 pub take_told-requires : goal.take_told-requires
@@ -28,3 +30,16 @@ returns-in_default-clause-left g c =
     let i = c.self.inside in
     let st : SessionState g.row.J.Denot = record { judge = i.judge; replicas = i.replicas; entries = i.entries; starts = i.starts; notes = i.notes; is_cut = i.is_cut; stage = i.stage } in
     told_next c.args.self.now (record st { stage = c.take_told.new.stage }) c.take_told.result c.take_told.ensures.told
+
+pub returns-in-Refreshing-clause-cut : goal.returns-in-Refreshing-clause-cut
+returns-in-Refreshing-clause-cut g c = c.refresh.ensures.cut
+
+pub returns-in-Publishing-clause-cut : goal.returns-in-Publishing-clause-cut
+returns-in-Publishing-clause-cut g c = c.put.ensures.cut
+
+pub returns-in_default-clause-cut : goal.returns-in_default-clause-cut
+returns-in_default-clause-cut g c =
+    let i = c.self.inside in
+    let st : SessionState g.row.J.Denot = record { judge = i.judge; replicas = i.replicas; entries = i.entries; starts = i.starts; notes = i.notes; is_cut = i.is_cut; stage = i.stage } in
+    subst (λ (x : SessionState g.row.J.Denot). IsCutAsWanted x (record st { stage = c.take_told.new.stage }) (next.Done c.take_told.result)) c.self.view_is
+    (told_whole st (record st { stage = c.take_told.new.stage }) (next.Done c.take_told.result) c.in_default.not-Publishing refl)

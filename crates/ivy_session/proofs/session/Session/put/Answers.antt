@@ -1,4 +1,4 @@
-use Rattle.std.proofs.Common.{Ok, true, subst}
+use Rattle.std.proofs.Common.{Ok, true, ap, refl, subst}
 use Rattle.dht_ids.specs.declared.ask.Want.{Want}
 use Rattle.dht_ids.specs.declared.post.Ack.{Ack}
 use Rattle.std.proofs.Common.{List}
@@ -9,6 +9,7 @@ use Rattle.ivy_session.specs.InPlace.{PutWants}
 use Rattle.ivy_session.proofs.InPlace.{put_asks, put_is_cut, put_settles}
 use Rattle.ivy_session.specs.Left.{LeavesNoMore}
 use Rattle.ivy_session.proofs.Falling.{settles_next, told_next}
+use Rattle.ivy_session.proofs.Cutting.{done_cut, more_whole}
 use Rattle.ivy_session.proofs.session.Session.put.Goals as goal
 
 pub returns-in-Ok-Ask-clause-wanted : goal.returns-in-Ok-Ask-clause-wanted
@@ -52,3 +53,21 @@ returns-in-Err-clause-left g c =
     let i = c.self.inside in
     let st : SessionState g.row.J.Denot = record { judge = i.judge; replicas = i.replicas; entries = i.entries; starts = i.starts; notes = i.notes; is_cut = i.is_cut; stage = i.stage } in
     told_next c.args.self.now (record st { is_cut = true; stage = c.take_told.new.stage }) c.take_told.result c.take_told.ensures.told
+
+pub returns-in-Ok-Ask-clause-cut : goal.returns-in-Ok-Ask-clause-cut
+returns-in-Ok-Ask-clause-cut g c =
+    let i = c.self.inside in
+    let st : SessionState g.row.J.Denot = record { judge = i.judge; replicas = i.replicas; entries = i.entries; starts = i.starts; notes = i.notes; is_cut = i.is_cut; stage = i.stage } in
+    more_whole c.args.self.now (record st { stage = c.put_wants.new.stage }) (next.Ask c.in-Ok-Ask.node c.in-Ok-Ask.question) refl (ap (λ (x : SessionState g.row.J.Denot). x.is_cut) c.self.view_is)
+
+pub returns-in-Ok-Done-clause-cut : goal.returns-in-Ok-Done-clause-cut
+returns-in-Ok-Done-clause-cut g c =
+    let i = c.self.inside in
+    let st : SessionState g.row.J.Denot = record { judge = i.judge; replicas = i.replicas; entries = i.entries; starts = i.starts; notes = i.notes; is_cut = i.is_cut; stage = i.stage } in
+    more_whole c.args.self.now (record st { stage = c.end.new.stage }) (next.Settle c.in-Ok-Done.acks) refl (ap (λ (x : SessionState g.row.J.Denot). x.is_cut) c.self.view_is)
+
+pub returns-in-Err-clause-cut : goal.returns-in-Err-clause-cut
+returns-in-Err-clause-cut g c =
+    let i = c.self.inside in
+    let st : SessionState g.row.J.Denot = record { judge = i.judge; replicas = i.replicas; entries = i.entries; starts = i.starts; notes = i.notes; is_cut = i.is_cut; stage = i.stage } in
+    done_cut c.args.self.now (record st { is_cut = true; stage = c.take_told.new.stage }) (next.Done c.take_told.result) c.requires refl refl

@@ -1,4 +1,4 @@
-use Rattle.std.proofs.Common.{◌≡◌, Ok, true, subst, sym}
+use Rattle.std.proofs.Common.{◌≡◌, Ok, true, ap, subst, sym, ◌∙◌}
 use Rattle.ivy_session.specs.declared.served.Served.{Served}
 use Rattle.dht_ids.specs.declared.ask.Want.{Want}
 use Rattle.view_refresh.specs.declared.refresh.Refreshed.{Refreshed}
@@ -10,6 +10,7 @@ use Rattle.ivy_session.proofs.Refreshed.{refresh_asks, refresh_concludes, refres
 use Rattle.ivy_session.specs.Left.{LeavesNoMore}
 use Rattle.ivy_session.specs.InPlace.{is_refreshing}
 use Rattle.ivy_session.proofs.Falling.{concludes_next, told_next}
+use Rattle.ivy_session.proofs.Cutting.{concludes_whole, refresh_wants_whole}
 use Rattle.ivy_session.proofs.session.Session.refresh.Goals as goal
 
 pub take_call-requires : goal.take_call-requires
@@ -65,3 +66,22 @@ returns-in-Err-clause-left g c =
     let i = c.self.inside in
     let st : SessionState g.row.J.Denot = record { judge = i.judge; replicas = i.replicas; entries = i.entries; starts = i.starts; notes = i.notes; is_cut = i.is_cut; stage = i.stage } in
     told_next c.args.self.now (record st { stage = c.take_call.new.stage }) c.no_memory.result c.take_call.ensures.told
+
+pub returns-in-Ok-Ask-clause-cut : goal.returns-in-Ok-Ask-clause-cut
+returns-in-Ok-Ask-clause-cut g c =
+    let i = c.self.inside in
+    let st : SessionState g.row.J.Denot = record { judge = i.judge; replicas = i.replicas; entries = i.entries; starts = i.starts; notes = i.notes; is_cut = i.is_cut; stage = i.stage } in
+    refresh_wants_whole c.args.self.now (record st { stage = c.refresh_wants.new.stage }) (next.Ask c.in-Ok-Ask.node c.in-Ok-Ask.question) c.requires (ap (λ (x : SessionState g.row.J.Denot). x.is_cut) c.self.view_is)
+
+pub returns-in-Ok-Done-clause-cut : goal.returns-in-Ok-Done-clause-cut
+returns-in-Ok-Done-clause-cut g c =
+    let i = c.self.inside in
+    let st : SessionState g.row.J.Denot = record { judge = i.judge; replicas = i.replicas; entries = i.entries; starts = i.starts; notes = i.notes; is_cut = i.is_cut; stage = i.stage } in
+    refresh_wants_whole c.args.self.now c.conclude.new.self c.conclude.result c.requires
+    (concludes_whole (record st { stage = c.take_call-call.new.stage }) c.conclude.new.self c.take_call-call.result c.in-Ok-Done.refreshed c.conclude.result c.conclude.ensures ∙ ap (λ (x : SessionState g.row.J.Denot). x.is_cut) c.self.view_is)
+
+pub returns-in-Err-clause-cut : goal.returns-in-Err-clause-cut
+returns-in-Err-clause-cut g c =
+    let i = c.self.inside in
+    let st : SessionState g.row.J.Denot = record { judge = i.judge; replicas = i.replicas; entries = i.entries; starts = i.starts; notes = i.notes; is_cut = i.is_cut; stage = i.stage } in
+    refresh_wants_whole c.args.self.now (record st { stage = c.take_call.new.stage }) (next.Done c.no_memory.result) c.requires (ap (λ (x : SessionState g.row.J.Denot). x.is_cut) c.self.view_is)
