@@ -1,7 +1,10 @@
 pub mod Asked
-pub mod Zips
-pub mod Views
+pub mod Calls
+pub mod Coming
+pub mod Crossing
+pub mod Sure
 pub mod Others
 pub mod Served
-pub mod Crossing
-pub mod Coming
+pub mod Views
+pub mod Wanting
+pub mod Zips

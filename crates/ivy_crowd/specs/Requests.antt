@@ -27,7 +27,8 @@ file_name thread call = codes "t" ++ decimal thread ++ codes "-" ++ decimal call
 
 -- the pieces of that call, as a script's line has them: `nfs:8:0:0 root s:tK-I u:0 sa:420`
 abbrev pub pieces : ℕ → ℕ → List Piece
-pieces thread call = piece.Call false 8 0 0 0 ∷ piece.Root ∷ piece.Text (file_name thread call) ∷ piece.Word 0 ∷ piece.Mode 420 ∷ []
+pieces thread call =
+    piece.Call false 8 0 0 0 ∷ piece.Root ∷ piece.Text (file_name thread call) ∷ piece.Word 0 ∷ piece.Mode 420 ∷ []
 
 -- the first calls of a thread, so many, as the bytes of a stream: each message is one fragment
 abbrev pub stream : View → ℕ → ℕ → Option (List ℕ)

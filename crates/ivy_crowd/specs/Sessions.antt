@@ -33,9 +33,13 @@ pub record Serving (K S C : Type 0) : Type 1 where
   pub ring : LiveState
   pub gives : C → ℕ × ℕ → C → Type 0
 
+abbrev pub serving_by : {K S C : Type 0} → AgentKind K S → MemberGate K S → LiveState → (C → ℕ × ℕ → C → Type 0) → Serving K S C
+serving_by kind gate ring gives = record { kind = kind; gate = gate; ring = ring; gives = gives }
+
 abbrev pub server_of : {K S C : Type 0} → Serving K S C → Server (MemberPass K S) C
 server_of serving = record {
-  taker = by_passes (passes serving.kind.signs serving.kind.IsWhole serving.kind.saves (Comes serving.kind serving.gate) (Leaves serving.kind serving.gate));
+  taker = by_passes (passes serving.kind.signs serving.kind.IsWhole serving.kind.saves (Comes serving.kind serving.gate)
+      (Leaves serving.kind serving.gate));
   ring = record { judged = hss_judged; replicas = serving.ring.replicas; entries = serving.ring.made };
   gives = serving.gives;
 }
@@ -60,8 +64,12 @@ pub record Asking (C : Type 0) : Type 0 where
   pub moment : C → Option (ℕ × ℕ)
   pub clock : C
 
+abbrev pub asking_in : {C : Type 0} → View → ℕ → (C → Option (ℕ × ℕ)) → C → Asking C
+asking_in view calls moment clock = record { view = view; calls = calls; moment = moment; clock = clock }
+
 -- The session of the thread with that number served just its calls, and its turns are those of its pass in the history.
-pub record Session {K S C : Type 0} (serving : Serving K S C) (asking : Asking C) (history : List AgentEntry) (thread pass : ℕ) : Type 0 where
+pub record Session {K S C : Type 0} (serving : Serving K S C) (asking : Asking C) (history : List AgentEntry) (thread pass : ℕ)
+    : Type 0 where
   pub bytes : List ℕ
   pub asked : stream asking.view thread asking.calls ≡ Some bytes
   pub clock : C
@@ -72,8 +80,8 @@ pub record Session {K S C : Type 0} (serving : Serving K S C) (asking : Asking C
 
 -- The agent behind the gate became this one by so many turns, which are one legal history. Each of these jobs had a pass for its session,
 -- by number, and the history has no turns but those of these passes.
-pub record HaveRun {K S C J : Type 0} (serving : Serving K S C) (session : List AgentEntry → J → ℕ → Type 0) (jobs : List J) (closed : Holder K S)
-    (turns : ℕ) : Type 0 where
+pub record HaveRun {K S C J : Type 0} (serving : Serving K S C) (session : List AgentEntry → J → ℕ → Type 0) (jobs : List J)
+    (closed : Holder K S) (turns : ℕ) : Type 0 where
   pub history : List AgentEntry
   pub has_taken : HasTaken serving.kind serving.gate.opening history closed
   pub legal : IsLegal (HasTaken serving.kind) serving.gate.opening history

@@ -1,12 +1,10 @@
 //! What is counted of the agent behind all turns.
 
-ghost use Rattle.std.specs.Prelude.{◌≡◌, length, Some, IfOk, IsSomeAnd, option_map};
-ghost use Rattle.hash_signature_model.specs.Saved.{hss};
-ghost use Rattle.ivy_base.specs.Naming.{head_key_of, root_number};
+ghost use Rattle.std.specs.Prelude.{◌≡◌, length, Some, IfOk, IsSomeAnd};
+ghost use Rattle.ivy_base.specs.Naming.{root_number};
 ghost use Rattle.tree_model.specs.Tree.{listing};
-ghost use Rattle.log_model.specs.Vector.{stamp_at};
 ghost use Rattle.turn_model.specs.Basis.{kept_tree};
-ghost use Rattle.agent_model.specs.Agent.{own};
+ghost use Rattle.ivy_crowd.specs.Crowds.{newest_own};
 
 use fs_tree::ROOT;
 use hss_keys::Hss;
@@ -25,7 +23,7 @@ pub(crate) fn files(agent: &Agent<MemKeeper, Hss>) -> u64
 /// The name of the newest record of the agent's log: the log's entry in its floor. The error is want of memory.
 pub(crate) fn newest(alloc: Global, agent: &Agent<MemKeeper, Hss>) -> Result<Key, Memory>
     requires { IsSomeAnd agent.now.agent.view (λ view. Unit {0}) }
-    ensures { IfOk result (λ name. option_map (λ stamp. stamp.name) (stamp_at agent.now.agent.floor (head_key_of (own hss agent.now.agent))) ≡ Some name) }
+    ensures { IfOk result (λ name. newest_own agent.now ≡ Some name) }
 {
     let standing = agent.standing(alloc)?;
     let entry = standing.floor.get(&head_key(&standing.own));

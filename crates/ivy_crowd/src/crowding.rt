@@ -3,7 +3,8 @@
 ghost use Rattle.std.specs.Prelude.{◌≡◌, ℕ, ◌*◌, ◌≤◌, IfOk, IsSomeAnd};
 ghost use Rattle.ivy_server.specs.Served.{moment_of};
 ghost use Rattle.ivy_crowd.specs.Crowds.{HasCome};
-ghost use Rattle.ivy_crowd.specs.Jobs.{HasRun};
+ghost use Rattle.ivy_crowd.specs.Jobs.{HasRun, over_ring};
+ghost use Rattle.ivy_crowd.specs.Sessions.{asking_in};
 ghost use Rattle.agent_gate.specs.Taking.{kind_of};
 
 use crate::counting::{files, newest};
@@ -28,8 +29,7 @@ const NODES: u32 = 5;
 
 const REPLICAS: u32 = 3;
 
-/// So many threads take their turns with the agent, each by a session of its own. The error is that a session didn't end with
-/// Done, or want of memory.
+/// So many threads take their turns with the agent, each by a session of its own. The error is want of memory.
 fn run<R: Threads + Wait + Sync, K: Keeper + Drop + Send, S: Signs + Drop + Send, C: Clock>(
     rt: &R,
     alloc: Global,
@@ -42,8 +42,8 @@ fn run<R: Threads + Wait + Sync, K: Keeper + Drop + Send, S: Signs + Drop + Send
 ) -> Result<Closed<K, S>, Memory>
     requires entered { IsSomeAnd agent.agent.view (λ view. Unit {0}) }
     requires few { threads ≤ 16 }
-    ensures { IfOk result (HasRun (record { kind = kind_of S.signing S.is_whole K.saves; ring = ring.now; gives = C.gives })
-        (record { view = view.now; calls = calls; moment = C.moment; clock = clock.now }) threads agent) }
+    ensures { IfOk result (HasRun (over_ring (kind_of S.signing S.is_whole K.saves) ring.now C.gives)
+        (asking_in view.now calls C.moment clock.now) threads agent) }
 {
     let made = Gate::make(alloc, agent)?;
     let (gate, mut first) = made;
@@ -66,8 +66,7 @@ fn moment<C: Clock>(clock: &mut C) -> Moment
 /// with a clock that [`Clock::another`] gives. Behind them the gate is closed, and the ring is asked for the log's head.
 /// Together the threads make 1,000 calls at most, since the key signs 1,023 records behind the first.
 ///
-/// The error is want of memory, or that a session didn't end with Done. No clause says that nothing else brings it about. A
-/// program tells it by status 6.
+/// The error is want of memory, here or in a session. A program tells it by status 6.
 pub fn crowd<R: Threads + Wait + Sync, C: Clock>(
     rt: &R,
     alloc: Global,
@@ -77,7 +76,14 @@ pub fn crowd<R: Threads + Wait + Sync, C: Clock>(
 ) -> Result<Tally, Memory>
     requires some { (1 ≤ threads) × (threads ≤ 16) }
     requires few { threads * calls ≤ 1000 }
-    ensures { IfOk result (HasCome (record { threads = threads; calls = calls; gives = C.gives; moment = C.moment; before = clock.old; after = clock.new })) }
+    ensures { IfOk result (HasCome (record {
+      threads = threads;
+      calls = calls;
+      gives = C.gives;
+      moment = C.moment;
+      before = clock.old;
+      after = clock.new;
+    })) }
 {
     let at = moment(clock);
     let opened = open(alloc, at)?;

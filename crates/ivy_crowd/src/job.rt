@@ -1,14 +1,18 @@
 //! What a thread is given, and how it serves its link.
 
+ghost use Rattle.std.specs.Prelude.{◌≡◌, ◌⊎◌, OnOk};
 ghost use Rattle.agent_gate.specs.Taking.{kind_of};
 ghost use Rattle.ivy_crowd.specs.Jobs.{EndsAs, IsNew};
+ghost use Rattle.ivy_crowd.specs.Sessions.{serving_by};
 
+use crate::ends::{SureSink, SureSource};
 use agent_gate::{Gate, Pass};
 use hss_keys::Signs;
 use ivy_base::Memory;
-use ivy_io::{Clock, Keeper, MemSink, MemSource};
-use ivy_server::{Ended, serve_session};
-use ring_run::{LiveMesh, LiveRing};
+use ivy_io::{Clock, Keeper};
+use ivy_server::{Ended, whole_calls_are_done};
+use ivy_serving::serve_link;
+use ring_run::LiveRing;
 use std::alloc::Global;
 use std::sync::Wait;
 
@@ -16,13 +20,25 @@ use std::sync::Wait;
 #[derive(Drop)]
 pub(crate) struct Job<K: Keeper + Drop, S: Signs + Drop, C: Clock> {
     pub(crate) pass: Pass<K, S>,
-    pub(crate) source: MemSource,
-    pub(crate) sink: MemSink,
+    pub(crate) source: SureSource,
+    pub(crate) sink: SureSink,
     pub(crate) clock: C,
 }
 
-/// Serves the link of a job to its end, and gives the pass back. The error is that it ended otherwise, which only want of memory
-/// brings about: neither the source nor the sink fails, and each message is a whole call.
+/// Whether the link was served to its end. The error is want of memory: there is no other end of whole calls between two ends
+/// that don't fail.
+fn is_done(how: Ended) -> Result<(), Memory>
+    requires { (how ≡ Ended.Done) ⊎ (how ≡ Ended.Memory) }
+    ensures { OnOk result (how ≡ Ended.Done) }
+{
+    match how {
+        Ended::Done => Ok(()),
+        Ended::Memory => Err(Memory),
+        _ => unreachable!(),
+    }
+}
+
+/// Serves the link of a job to its end, and gives the pass back. The error is want of memory.
 pub(crate) fn serve<R: Wait, K: Keeper + Drop, S: Signs + Drop, C: Clock>(
     rt: &R,
     alloc: Global,
@@ -31,7 +47,7 @@ pub(crate) fn serve<R: Wait, K: Keeper + Drop, S: Signs + Drop, C: Clock>(
     job: Job<K, S, C>,
 ) -> Result<Pass<K, S>, Memory>
     requires { IsNew gate.now job }
-    ensures { EndsAs (record { kind = kind_of S.signing S.is_whole K.saves; gate = gate.now; ring = ring.now; gives = C.gives }) job result }
+    ensures { EndsAs (serving_by (kind_of S.signing S.is_whole K.saves) gate.now ring.now C.gives) job result }
 {
     let Job {
         pass,
@@ -39,19 +55,17 @@ pub(crate) fn serve<R: Wait, K: Keeper + Drop, S: Signs + Drop, C: Clock>(
         mut sink,
         mut clock,
     } = job;
-    let mut mesh = LiveMesh::over(rt, ring);
-    let (how, pass) = serve_session(
+    whole_calls_are_done::<K, S, Gate<K, S>, C>(gate);
+    let (how, pass) = serve_link(
         rt,
         alloc,
         gate,
+        ring,
         pass,
-        &mut mesh,
         &mut source,
         &mut sink,
         &mut clock,
     );
-    match how {
-        Ended::Done => Ok(pass),
-        _ => Err(Memory),
-    }
+    is_done(how)?;
+    Ok(pass)
 }

@@ -1,17 +1,18 @@
 //! The jobs of all threads.
 
-ghost use Rattle.std.specs.Prelude.{◌≡◌, ◌+◌, ◌<◌, ◌≤◌, [], IfOk, IsSomeAnd};
+ghost use Rattle.std.specs.Prelude.{◌≡◌, ◌+◌, ◌<◌, ◌≤◌, length, IfOk, IsSomeAnd, OnOk};
 ghost use Rattle.std.specs.List.{AllZip};
 ghost use Rattle.value_gate.specs.Passes.{IsPassOf};
 ghost use Rattle.ivy_crowd.specs.Jobs.{IsJob};
-ghost use Rattle.ivy_crowd.specs.Sessions.{threads_of};
+ghost use Rattle.ivy_crowd.specs.Sessions.{asking_in, threads_of};
 
+use crate::ends::{SureSink, SureSource};
 use crate::job::Job;
 use crate::request::requests;
 use agent_gate::{Gate, Pass};
 use hss_keys::Signs;
 use ivy_base::Memory;
-use ivy_io::{Clock, Failing, Keeper, MemSink, MemSource};
+use ivy_io::{Clock, Keeper};
 use std::alloc::Global;
 use view_blocks::View;
 
@@ -29,16 +30,16 @@ fn job_of<K: Keeper + Drop, S: Signs + Drop, C: Clock>(
     requires entered { IsSomeAnd gate.now.opening.agent.view (λ view. Unit {0}) }
     requires parts { 2 ≤ pass.old.parts }
     ensures pass { IsPassOf gate.now pass.new }
-    ensures parts { pass.old.parts ≤ pass.new.parts + 1 }
+    ensures parts { OnOk result (pass.new.parts + 1 ≡ pass.old.parts) }
     ensures calls { pass.new.calls ≡ pass.old.calls }
-    ensures job { IfOk result (IsJob (record { view = view.now; calls = calls; moment = C.moment; clock = clock.now }) gate.now thread) }
+    ensures job { IfOk result (IsJob (asking_in view.now calls C.moment clock.now) gate.now thread) }
 {
     let bytes = requests(alloc, view, thread, calls)?;
     let clock = clock.another(alloc)?;
     Ok(Job {
         pass: gate.split(pass),
-        source: MemSource::new(bytes, Failing::of(Vec::new(alloc))),
-        sink: MemSink::new(alloc, Failing::of(Vec::new(alloc))),
+        source: SureSource::new(alloc, bytes),
+        sink: SureSink::new(alloc),
         clock,
     })
 }
@@ -58,7 +59,8 @@ pub(crate) fn jobs_of<K: Keeper + Drop, S: Signs + Drop, C: Clock>(
     requires parts { threads < pass.old.parts }
     ensures pass { IsPassOf gate.now pass.new }
     ensures calls { pass.new.calls ≡ pass.old.calls }
-    ensures jobs { IfOk result (λ jobs. AllZip (IsJob (record { view = view.now; calls = calls; moment = C.moment; clock = clock.now }) gate.now) (threads_of threads) jobs.items) }
+    ensures parts { IfOk result (λ jobs. pass.new.parts + length jobs.items ≡ pass.old.parts) }
+    ensures jobs { IfOk result (λ jobs. AllZip (IsJob (asking_in view.now calls C.moment clock.now) gate.now) (threads_of threads) jobs.items) }
 {
     let mut jobs = Vec::with_capacity(alloc, threads as usize)?;
     'threads: for before in 0..threads {

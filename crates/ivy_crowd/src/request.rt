@@ -1,7 +1,7 @@
 //! What a thread asks for, as the bytes of its link.
 
-ghost use Rattle.std.specs.Prelude.{◌≡◌, ◌+◌, ◌++◌, [], Some, true, length, IfOk, IfSome, OnOk};
-ghost use Rattle.rpc_wire.specs.Frames.{fragment, header};
+ghost use Rattle.std.specs.Prelude.{◌≡◌, ◌≤◌, ◌++◌, [], Some, true, length, IfOk, OnOk};
+ghost use Rattle.rpc_wire.specs.Frames.{fragment, header, longest_message};
 ghost use Rattle.script_model.specs.Messages.{message_of};
 ghost use Rattle.ivy_crowd.specs.Requests.{file_name, pieces, stream};
 
@@ -31,9 +31,9 @@ fn file_name(alloc: Global, thread: u32, call: u32) -> Result<Bytes, Memory>
     Ok(Bytes::of(name.into_bytes()))
 }
 
-/// The message of a thread's call of that number. The error is want of memory.
-fn request(alloc: Global, view: &View, thread: u32, call: u32) -> Result<Bytes, Memory>
-    ensures { IfOk result (λ bytes. Some bytes ≡ message_of [] view.now (pieces thread call)) }
+/// The message of a thread's call of that number, where it is within the limit. The error is want of memory.
+fn message_of(alloc: Global, view: &View, thread: u32, call: u32) -> Result<Option<Bytes>, Memory>
+    ensures { IfOk result (λ message. message ≡ message_of [] view.now (pieces thread call)) }
 {
     let pieces = [
         Piece::Call {
@@ -50,23 +50,33 @@ fn request(alloc: Global, view: &View, thread: u32, call: u32) -> Result<Bytes, 
         Piece::Word { number: UNCHECKED },
         Piece::Mode { mode: MODE },
     ];
-    message(alloc, &[], view, &pieces)?.ok_or(Memory)
+    message(alloc, &[], view, &pieces)
 }
 
-/// The header of a message's only fragment. None is that the message is longer than a fragment, which none is.
-fn header_of(length: usize) -> Option<[u8; 4]>
-    ensures { IfSome result (λ bytes. bytes ≡ header true length) }
+/// The message of a thread's call of that number, which is within the limit. The error is want of memory.
+fn request(alloc: Global, view: &View, thread: u32, call: u32) -> Result<Bytes, Memory>
+    ensures { IfOk result (λ bytes. Some bytes ≡ message_of [] view.now (pieces thread call)) }
 {
-    let length = u32::try_from(length).ok()?;
-    let header = LAST.checked_add(length)?;
-    Some(header.to_be_bytes())
+    match message_of(alloc, view, thread, call)? {
+        Some(message) => Ok(message),
+        None => unreachable!(),
+    }
+}
+
+/// The header of a message's only fragment.
+fn header_of(length: usize) -> [u8; 4]
+    requires { length ≤ longest_message }
+    ensures { result ≡ header true length }
+{
+    (LAST + length as u32).to_be_bytes()
 }
 
 /// Appends a message as one fragment. The error is want of memory.
 fn put_fragment(stream: &mut Vec<u8>, message: &[u8]) -> Result<(), Memory>
+    requires { length message.now ≤ longest_message }
     ensures { OnOk result (stream.new.items ≡ stream.old.items ++ fragment true message.now) }
 {
-    let header = header_of(message.len()).ok_or(Memory)?;
+    let header = header_of(message.len());
     stream.extend_from_slice(&header[..])?;
     stream.extend_from_slice(message)?;
     Ok(())

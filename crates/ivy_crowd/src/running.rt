@@ -1,11 +1,11 @@
 //! All threads serve, and the gate is closed behind them.
 
-ghost use Rattle.std.specs.Prelude.{◌≡◌, [], All, IfOk};
+ghost use Rattle.std.specs.Prelude.{◌≡◌, ◌+◌, ◌^◌, [], length, All, IfOk};
 ghost use Rattle.std.specs.List.{AllZip};
 ghost use Rattle.value_gate.specs.Passes.{IsPassOf};
 ghost use Rattle.agent_gate.specs.Taking.{kind_of};
 ghost use Rattle.ivy_crowd.specs.Jobs.{AreWith, EndsAs, HasTurns, IsNew};
-ghost use Rattle.ivy_crowd.specs.Sessions.{HaveRun};
+ghost use Rattle.ivy_crowd.specs.Sessions.{HaveRun, serving_by};
 
 use crate::job::{Job, serve};
 use agent_gate::{Closed, Gate, Pass};
@@ -26,20 +26,21 @@ fn serve_each<R: Threads + Wait + Sync, K: Keeper + Drop + Send, S: Signs + Drop
     jobs: Vec<Job<K, S, C>>,
 ) -> Result<Vec<Result<Pass<K, S>, Memory>>, Memory>
     requires { All (IsNew gate.now) jobs.items }
-    ensures { IfOk result (λ ended. AllZip (EndsAs (record { kind = kind_of S.signing S.is_whole K.saves; gate = gate.now; ring = ring.now; gives = C.gives })) jobs.items ended.items) }
+    ensures { IfOk result (λ ended. AllZip (EndsAs (serving_by (kind_of S.signing S.is_whole K.saves) gate.now ring.now C.gives))
+        jobs.items ended.items) }
 {
     let ended = map_vec(
         rt,
         jobs,
         &|job: Job<K, S, C>| -> Result<Pass<K, S>, Memory>
             requires { IsNew gate.now job }
-            ensures { EndsAs (record { kind = kind_of S.signing S.is_whole K.saves; gate = gate.entry.now; ring = ring.entry.now; gives = C.gives }) job result }
+            ensures { EndsAs (serving_by (kind_of S.signing S.is_whole K.saves) gate.entry.now ring.entry.now C.gives) job result }
         { serve(rt, alloc, gate, ring, job) },
     )?;
     Ok(ended)
 }
 
-/// The first pass, and those that came back. The error is that one didn't, or want of memory.
+/// The first pass, and those that came back. The error is want of memory, here or for one that didn't come back.
 fn passes_of<K: Keeper + Drop, S: Signs + Drop>(
     alloc: Global,
     first: Pass<K, S>,
@@ -55,8 +56,7 @@ fn passes_of<K: Keeper + Drop, S: Signs + Drop>(
     Ok(passes)
 }
 
-/// All jobs are served, and the gate is closed with the first pass and theirs. The error is that a session didn't end with
-/// Done, or want of memory.
+/// All jobs are served, and the gate is closed with the first pass and theirs, which have all parts. The error is want of memory.
 pub(crate) fn run_all<
     R: Threads + Wait + Sync,
     K: Keeper + Drop + Send,
@@ -72,13 +72,14 @@ pub(crate) fn run_all<
 ) -> Result<Closed<K, S>, Memory>
     requires first { IsPassOf gate first × (first.calls ≡ []) }
     requires jobs { All (IsNew gate) jobs.items }
-    ensures { IfOk result (λ closed. HaveRun (record { kind = kind_of S.signing S.is_whole K.saves; gate = gate; ring = ring.now; gives = C.gives })
-        (HasTurns (record { kind = kind_of S.signing S.is_whole K.saves; gate = gate; ring = ring.now; gives = C.gives })) jobs.items closed.agent closed.turns) }
+    requires parts { first.parts + length jobs.items ≡ 2 ^ 32 }
+    ensures { IfOk result (λ closed. HaveRun (serving_by (kind_of S.signing S.is_whole K.saves) gate ring.now C.gives)
+        (HasTurns (serving_by (kind_of S.signing S.is_whole K.saves) gate ring.now C.gives)) jobs.items closed.agent closed.turns) }
 {
     let ended = serve_each(rt, alloc, &gate, ring, jobs)?;
     let passes = passes_of(alloc, first, ended)?;
     match gate.close(passes) {
         Ok(closed) => Ok(closed),
-        Err(_) => Err(Memory),
+        Err(_) => unreachable!(),
     }
 }

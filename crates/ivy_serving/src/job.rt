@@ -17,8 +17,9 @@ use std::marker::Model;
 use std::snapshot::Snapshot;
 use std::sync::Wait;
 
-/// Serves a link with a pass of the gate, over the ring.
-fn serve_link<R: Wait, K: Keeper + Drop, S: Signs + Drop, Q: Source, W: Sink, C: Clock>(
+/// Serves a link with a pass of the gate, over the ring, from its first byte to its end, and tells how it ended. The pass that
+/// comes back came of the one that was given by calls alone, so it has its number and its parts.
+pub fn serve_link<R: Wait, K: Keeper + Drop, S: Signs + Drop, Q: Source, W: Sink, C: Clock>(
     rt: &R,
     alloc: Global,
     gate: &Gate<K, S>,

@@ -11,10 +11,12 @@
 //! - Each link had a pass of one part that had made no call. The turns that it was answered are the calls of this pass, which
 //!   the gate's history has, each once, once it is closed.
 //! - The passes that come back are of the gate, and have the parts of those that were given.
-//!
 //! - Whether a session wanted memory is told, and the counts of the ports tell why it ended.
 //!
-//! The type of the ports is `Send`, since each thread hangs up by it; the ports stay with the caller's thread.
+//! [`serve_link`] serves one link, on the caller's thread, and says the same of it (`IsServedLink`).
+//!
+//! The ports stay with the caller's thread. Their type is `Send` all the same: a link that goes to a thread is typed by it, and
+//! the prover takes no thread whose types rest on a bound that is assumed of the caller's thread alone.
 //!
 //! Not said: that two links are served at once, and what a thread that waits does. While 16 links are served no further one is
 //! accepted. A link that ended is hung up by its thread, and given back before the next one is accepted.
@@ -32,4 +34,5 @@ mod one_pass;
 mod serving;
 
 pub use fault::ServeFault;
+pub use job::serve_link;
 pub use serving::{LinksServed, serve_links};

@@ -37,6 +37,8 @@ pub struct LinksServed<K: Keeper + Drop, S: Signs + Drop> {
 /// it would have closed with those that were given.
 ///
 /// Why it ended: `Ok` where there was no further link, and the count of ends rose; else [`ServeFault`].
+///
+/// The ports stay with the caller's thread; their type is `Send`, since it types the links that go to other threads.
 pub fn serve_links<
     R: Threads + Wait + Sync,
     K: Keeper + Drop + Send,
