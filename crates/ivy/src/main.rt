@@ -1,20 +1,33 @@
-//! The program `ivy`. It hands its words, standard input and standard output to [`ivy_cli::run`].
+//! The program `ivy`. It hands its words, standard input and output, and what is outside on the host to [`ivy_cli::run`].
 //!
 //! Layer: the top; a thin `main`. The exit status is the status that `run` gives, and 6 where memory is wanting for the words or
 //! for what else `run` takes; words that aren't text are of no form. What standard input and output hold is nowhere told: the
-//! clauses of `run` speak of the bytes of a source and a sink, and the stored run shows them. No words ask for a clock, for ports
-//! or for keepers yet, so these are in memory: the clock stands at 0, and no link comes.
+//! clauses of `run` speak of the bytes of a source and a sink, and the stored run shows them.
+//!
+//! What is outside is that of `ivy_host`: the host's clock, links of a TCP port of the loopback, and files of the folder that
+//! the program runs in. Nothing of it is asked for by the words `play` and `load`; `crowd` asks for the clock alone.
+//!
+//! Where the first word is `serve`, a thread reads standard input to its end, or until a read fails, and then has the ports end
+//! ([`Stop::set`]). So `serve` ends at the end of standard input. For other words no thread is started here. The thread isn't
+//! joined: where `serve` ends by itself, as on a port in use, the program ends though its input goes on.
 #![tactic(auto)]
 
 use ivy_base::Memory;
 use ivy_cli::run;
-use ivy_io::{Failing, FixedClock, MemKeepers, MemPorts, Sink, Source, StdSink, StdSource};
-use std::env;
-use std::io::ErrorKind;
+use ivy_host::{DirKeepers, HostClock, Stop, TcpPorts};
+use ivy_io::{Source, StdSink, StdSource};
+use std::alloc::Global;
+use std::io::{ErrorKind, Input};
+use std::net::Net;
 use std::process::ExitCode;
+use std::sync::Arc;
+use std::{env, thread};
 
 /// The status of a program for which memory was wanting.
 const STATUS_MEMORY: u8 = 6;
+
+/// How many bytes of standard input are read at once where nobody asks for them.
+const CHUNK: usize = 4_096;
 
 /// The words behind the program's name; none where they aren't text. The error is want of memory.
 fn words(rt: &HostRuntime) -> Result<Vec<String>, Memory> {
@@ -25,43 +38,62 @@ fn words(rt: &HostRuntime) -> Result<Vec<String>, Memory> {
     }
 }
 
-/// Does what the words ask for, and gives the status. Nothing is said of it here, so that the rest isn't proved beside all that `run`
-/// promises.
-fn obey<Q: Source, W: Sink>(
-    rt: &HostRuntime,
-    words: &[String],
-    source: &mut Q,
-    sink: &mut W,
-    ports: &mut MemPorts,
-) -> u8 {
-    let alloc = rt.alloc();
-    let mut clock = FixedClock::new(0, 0);
-    let mut keepers = MemKeepers::new(alloc, Failing::of(Vec::new(alloc)));
-    run(
-        rt,
-        alloc,
-        words,
-        source,
-        sink,
-        &mut clock,
-        ports,
-        &mut keepers,
-    )
-}
-
-/// Does what the words ask for, and gives the status. The error is want of memory before anything was done.
-fn status(rt: &HostRuntime) -> Result<u8, Memory> {
-    let words = words(rt)?;
-    let mut source = StdSource::new(rt.reader());
-    let mut sink = StdSink::new(std::io::writer(rt));
-    let failing = Failing::of(Vec::new(rt.alloc()));
-    let mut ports = MemPorts::new(rt.alloc(), Vec::new(rt.alloc()), failing)?;
-    Ok(obey(rt, &words, &mut source, &mut sink, &mut ports))
-}
-
-fn main(rt: HostRuntime) -> ExitCode {
-    match status(&rt) {
-        Ok(status) => ExitCode::from(status),
-        Err(Memory) => ExitCode::from(STATUS_MEMORY),
+/// Whether the words may ask for a service.
+fn may_ask_service(words: &[String]) -> bool {
+    match words {
+        [word, ..] => word.as_str() == "serve",
+        [] => false,
     }
+}
+
+/// Reads standard input to its end, or until a read fails, and has the server end then.
+fn stop_at_end<R: Input + Net>(rt: &R, stop: &Stop) {
+    let mut source = StdSource::new(rt.reader());
+    let mut chunk = [0u8; CHUNK];
+    for _ in 0..u64::MAX {
+        match source.read(&mut chunk) {
+            Ok(0) | Err(_) => break,
+            Ok(_) => {}
+        }
+    }
+    stop.set(rt);
+}
+
+/// The end of a server, for its ports and for a thread. The error is want of memory.
+fn stops(alloc: Global) -> Result<(Arc<Stop>, Arc<Stop>), Memory> {
+    let stop = Arc::new(alloc, Stop::new())?;
+    let theirs = Arc::try_clone(&stop)?;
+    Ok((stop, theirs))
+}
+
+// What is sent to a thread is known to be fit for it of the host's runtime, which is named nowhere but here.
+fn main(rt: HostRuntime) -> ExitCode {
+    let Ok(words) = words(&rt) else {
+        return ExitCode::from(STATUS_MEMORY);
+    };
+    let Ok((stop, theirs)) = stops(rt.alloc()) else {
+        return ExitCode::from(STATUS_MEMORY);
+    };
+    if may_ask_service(&words) {
+        let other = rt;
+        let watch = thread::spawn(&rt, move || stop_at_end(&other, &theirs));
+        if watch.is_err() {
+            return ExitCode::from(STATUS_MEMORY);
+        }
+    }
+    let mut source = StdSource::new(rt.reader());
+    let mut sink = StdSink::new(std::io::writer(&rt));
+    let mut clock = HostClock::new(rt);
+    let mut ports = TcpPorts::new(rt, rt.alloc(), stop);
+    let mut keepers = DirKeepers::new(rt);
+    ExitCode::from(run(
+        &rt,
+        rt.alloc(),
+        &words,
+        &mut source,
+        &mut sink,
+        &mut clock,
+        &mut ports,
+        &mut keepers,
+    ))
 }

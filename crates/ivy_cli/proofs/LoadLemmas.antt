@@ -1,21 +1,21 @@
 -- What a load tells, from what its play gave and from what the sink took.
-use Rattle.std.proofs.Common.{◌≡◌, ◌≢◌, ◌⊎◌, ℕ, ◌-◌, ◌<◌, ◌≤◌, List, [], ◌++◌, length, take, drop, Option, Some, None, length-drop, refl, sym, subst, ap, ◌∙◌, inl, inr, arith}
+use Rattle.std.proofs.Common.{◌≡◌, ◌≢◌, ◌⊎◌, ℕ, ◌<◌, ◌≤◌, List, [], ◌++◌, length, take, drop, Option, Some, None, length-drop, refl, sym, subst, ap, ◌∙◌, inl, inr, arith}
 use Rattle.std.proofs.lemmas.List.{append-nil, take-append-drop}
 use Rattle.std.proofs.lemmas.Bool.{cases_eq}
 use Rattle.std.proofs.Math.Seq.{take-length}
 use Rattle.ivy_io.specs.Causes.{Rose}
 use Rattle.ivy_io.specs.Known.{then}
-use Rattle.script_driver.specs.Run.{Ran, Ending, Ended, RefusedAt, LimitAt}
+use Rattle.script_driver.specs.Run.{Ending, Ended, RefusedAt, LimitAt}
 use Rattle.script_driver.specs.Told.{ran_of, TellsAll, TellsFront, TellsLess}
 use Rattle.ivy_play.specs.Playing.{ivy_runs, IsFullOrTells, IsPlayed}
 use Rattle.ivy_play.specs.Status.{status_of}
 use Rattle.ivy_cli.specs.Generator.{script_of}
 use Rattle.ivy_cli.specs.Summary.{summary_text}
-use Rattle.ivy_cli.specs.Loads.{told_of, told_run, load_runs, IsLoaded, GivesSummary, GivesNone, IsLoad}
+use Rattle.ivy_cli.specs.Loads.{told_of, load_runs, IsLoaded, GivesSummary, GivesNone, IsLoad}
 
 -- ---- bytes and statuses
 
-nothing_more : (held : Option (List ℕ)) → held ≡ then held []
+pub nothing_more : (held : Option (List ℕ)) → held ≡ then held []
 nothing_more None = refl
 nothing_more (Some bytes) = ap Some (sym (append-nil bytes))
 

@@ -1,5 +1,6 @@
 pub mod Words
 pub mod Loads
+pub mod Crowds
 pub mod Runs
 pub mod Generator
 pub mod Summary

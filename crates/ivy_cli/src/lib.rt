@@ -1,19 +1,30 @@
 //! The words of the command line, and what they ask for.
 //!
-//! Layer: the top of the library, over `ivy_play` and `ivy_io`. The program above hands over its words, its
-//! source and its sink, and a clock, ports and keepers.
+//! Layer: the top of the library, over `ivy_play`, `ivy_crowd`, `ivy_service` and `ivy_io`. The program above
+//! hands over its words, its source and its sink, and a clock, ports and keepers.
 //!
 //! For the program: [`run`] does what the words ask for (`Does` in `specs/Runs.antt`; which words ask for
-//! what is in `specs/Words.antt`).
+//! what is in `specs/Words.antt`). It is one call for each form.
 //! - `play`: the script of the source is played, with all that `play` promises (`IsPlay`).
 //! - `load SEED CALLS`: the generated script is played in memory, and a summary of what it shows is written
 //!   ([`load`]; `specs/Loads.antt`). If the script isn't played to its line `end`, nothing is written, and
 //!   the status is that of its play.
-//! - Any other words: the status is 2, exactly where no form that is served fits. Then the usage line was
-//!   written, or the sink's count of faults rose. If memory ran out for that line, the status is 6.
+//! - `crowd T CALLS`: threads of one participant create files over a live ring, and four lines of what they
+//!   came to are written (`IsCrowd` in `specs/Crowds.antt`). Status 0 comes only where all four were written,
+//!   of a tally with `HasCome` of `ivy_crowd`. Status 5 comes only where the sink's count of faults rose.
+//! - `serve PORT NAME ID SEED SETS`: the participant of the script's line `log NAME ID SEED SETS` is served on
+//!   the port. Its key grows, and signed nothing before. All that `serve` of `ivy_service` promises is handed
+//!   on (`Goes`, with the key that the words name).
+//! - Any other words: the status is 2, exactly where no form fits. Then the usage line was written, or the
+//!   sink's count of faults rose. If memory ran out for that line, the status is 6.
 //!
-//! The words `crowd` and `serve` are of no form yet: what they ask for needs threads and sockets. The clock,
-//! the ports and the keepers are for them; [`run`] leaves these as they were (`IsUntouched`).
+//! What a form doesn't use stays as it was, which `Does` says form by form: the source is read by `play`
+//! alone, the clock is asked by `crowd` and `serve`, and the ports and the keepers are used by `serve` alone.
+//!
+//! `crowd` and `serve` start threads and wait for them. So no clause says that [`run`] returns: its contract is
+//! of a call that does. What it calls for `play` and for `load` has no bound that would let it wait.
+//! Reading the words takes memory for the form `serve` alone, and so does growing its key. If it is wanting
+//! there, the status is 6 and nothing outside was touched.
 //!
 //! Within:
 //! - [`generate`] gives exactly the script of a seed and a number of calls. The definition says it line by
@@ -26,15 +37,18 @@
 //!   ones.
 //!
 //! Costs: a script has at most 53 bytes for each call. A summary reads the first 62 bytes of each line. It
-//! goes over the statuses once more for each different one, of which NFS has 29.
+//! goes over the statuses once more for each different one, of which NFS has 29. The key of a service grows
+//! before its keeper is asked for: a tree for each set.
 #![tactic(auto)]
 
+mod crowding;
 mod draws;
 mod laws;
 mod loading;
 mod memory;
 mod running;
 mod script;
+mod serving;
 mod statuses;
 mod summing;
 mod words;
@@ -44,4 +58,4 @@ pub use loading::load;
 pub use running::run;
 pub use script::generate;
 pub use summing::summary;
-pub use words::Asked;
+pub use words::{Asked, Participant};

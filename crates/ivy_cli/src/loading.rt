@@ -56,7 +56,7 @@ fn summed_up(alloc: Global, seed: u64, calls: u32) -> Result<Bytes, Status>
 }
 
 /// Tells the sink all of these bytes, or says why not.
-fn tell<W: Sink>(sink: &mut W, bytes: &[u8]) -> Status
+pub(crate) fn tell<W: Sink>(sink: &mut W, bytes: &[u8]) -> Status
     ensures statuses { (result ≡ 0) ⊎ (result ≡ 5) ⊎ (result ≡ 6) }
     ensures whole { result ≡ 0 → W.contents sink.new ≡ then (W.contents sink.old) bytes.now }
     ensures part { result ≢ 0 → (k : ℕ) × (k < length bytes.now) × (W.contents sink.new ≡ then (W.contents sink.old) (take k bytes.now)) }
