@@ -1,0 +1,10 @@
+pub mod Reach
+pub mod Listed
+pub mod Shared
+pub mod Marks
+pub mod Places
+pub mod Growing
+pub mod LogLemmas
+pub mod MarkedLemmas
+pub mod Finding
+pub mod Rows

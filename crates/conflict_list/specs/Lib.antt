@@ -1,0 +1,10 @@
+pub mod Touching
+pub mod Spans
+pub mod Conflicts
+pub mod Laws
+pub mod Marks
+pub mod Numbers
+pub mod Order
+pub mod Tables
+pub mod Whole
+pub mod Pairs

@@ -1,0 +1,98 @@
+//! Records under the numbers of their marks.
+
+ghost use Rattle.std.specs.Prelude.{◌≡◌, ℕ, ◌+◌, ◌<◌, ◌≤◌, ◌^◌, ◌++◌, length, map, Contains, IfOk, OnOk, slice_index};
+ghost use Rattle.std.specs.List.{All, AllByRecursion};
+ghost use Rattle.std.specs.List.Sorted.{IsNonDecreasingBy};
+ghost use Rattle.log_model.specs.Spelling.{HasSpelling};
+ghost use Rattle.log_records.specs.Records.{records_of};
+ghost use Rattle.conflict_list.specs.Order.{marked, order, order_of};
+ghost use Rattle.conflict_list.specs.Tables.{AreMarked};
+ghost use Rattle.conflict_list.specs.declared.marked.Marked.{Marked};
+
+use crate::numbers::set_numbers;
+use ivy_base::Memory;
+use log_records::Record;
+use std::alloc::Global;
+
+/// A record under the number of one of its marks.
+#[derive(Clone, Copy)]
+pub struct Marked {
+    pub number: u64,
+    /// The place of its log among the logs.
+    pub log: u32,
+    /// Its place among the records.
+    pub place: u32,
+}
+
+/// Each record under each of its numbers, ascending by number, then by log, then by place. The error is want of memory.
+pub fn marked_of(alloc: Global, records: &[Record], of: &[u32]) -> Result<Vec<Marked>, Memory>
+    requires few { length records.now < 2 ^ 32 }
+    requires long { length of.now ≡ length records.now }
+    requires spelled { AllByRecursion HasSpelling (records_of records.now) }
+    ensures marked { IfOk result (λ list. AreMarked records.now of.now (length records.now) list.items) }
+    ensures ascending { IfOk result (λ list. IsNonDecreasingBy order list.items) }
+{
+    let mut list = marked_in_turn(alloc, records, of)?;
+    list.sort_unstable_by_key(|mark| mark.order());
+    Ok(list)
+}
+
+/// Each record under each of its numbers. The error is want of memory.
+fn marked_in_turn(alloc: Global, records: &[Record], of: &[u32]) -> Result<Vec<Marked>, Memory>
+    requires few { length records.now < 2 ^ 32 }
+    requires long { length of.now ≡ length records.now }
+    requires spelled { AllByRecursion HasSpelling (records_of records.now) }
+    ensures { IfOk result (λ list. AreMarked records.now of.now (length records.now) list.items) }
+{
+    let mut list = Vec::new(alloc);
+    let mut numbers = Vec::new(alloc);
+    'records: for place in 0..records.len() {
+        set_numbers(&mut numbers, &records[place].op)?;
+        mark(&mut list, numbers.as_slice(), of[place], place as u32)?;
+    }
+    Ok(list)
+}
+
+/// Adds the record at that place, of the log at that place, under each of the numbers. The error is want of memory.
+fn mark(list: &mut Vec<Marked>, numbers: &[u64], log: u32, place: u32) -> Result<(), Memory>
+    ensures added { OnOk result (list.new.items ≡ list.old.items ++ map (marked log place) numbers.now) }
+    ensures log { log < 2 ^ 32 }
+{
+    'numbers: for &number in numbers {
+        list.push(Marked { number, log, place })?;
+    }
+    Ok(())
+}
+
+impl Marked {
+    /// What they are sorted by.
+    fn order(&self) -> u128
+        ensures { result ≡ order self.now }
+    {
+        let mark = *self;
+        order_of(mark.number, mark.log, mark.place)
+    }
+}
+
+/// By the number, then by the log, then by the place.
+pub fn order_of(number: u64, log: u32, place: u32) -> u128
+    ensures order { result ≡ order_of number log place }
+    ensures within { result < 340282366920938463463374607431768211456 }
+{
+    u128::from(number) * 18_446_744_073_709_551_616
+        + u128::from(log) * 4_294_967_296
+        + u128::from(place)
+}
+
+/// Those whose orders are from `low` to `high`, of some that ascend.
+pub fn between(list: &[Marked], low: u128, high: u128) -> &[Marked]
+    requires { IsNonDecreasingBy order list.now }
+    ensures found { (m : Marked) → Contains list.now m → low ≤ order m → order m ≤ high → Contains result.now m }
+    ensures only { All (λ m. Contains list.now m × (low ≤ order m) × (order m ≤ high)) result.now }
+    ensures ascending { IsNonDecreasingBy order result.now }
+{
+    let from = list.partition_point(|mark| mark.order() < low);
+    let rest = &list[from..];
+    let count = rest.partition_point(|mark| mark.order() <= high);
+    &rest[..count]
+}

@@ -1,0 +1,35 @@
+-- What a fork proof says of a log, and of which bytes it is one.
+use Rattle.std.specs.Prelude.{◌≡◌, ◌⊎◌, List, ℕ, ◌++◌}
+use Rattle.ivy_base.specs.Naming.{HasClash}
+use Rattle.log_model.specs.Record.{Record}
+use Rattle.log_model.specs.Chain.{LinkedFrom}
+use Rattle.log_model.specs.Fetched.{EndsAt}
+use Rattle.log_model.specs.Spelling.{no_name}
+use Rattle.log_model.specs.Standing.{blocks_of}
+use Rattle.fork_proof.specs.declared.fault.ProofFault.{ProofFault}
+use Rattle.fork_proof.specs.declared.fault.ProofFault.TheVariants.{Memory}
+use Rattle.fork_proof.specs.Forms.{ForkProof, IsProof, IsProofOf, proof_bytes}
+use Rattle.fork_proof.specs.Checks.{IsShown, ShowsNone}
+
+abbrev pub IsPrefixOf : List Record → List Record → Type 0
+IsPrefixOf xs ys = (rest : List Record) × (xs ++ rest ≡ ys)
+
+-- the log from its first record on, whatever the view: one history ends at the record that the lower head names, one at the higher head's
+pub record AreHistories (p : ForkProof) (low high : List Record) : Type 0 where
+  pub low_linked : LinkedFrom p.owner 1 no_name low
+  pub high_linked : LinkedFrom p.owner 1 no_name high
+  pub low_ends : EndsAt p.low.newest low
+  pub high_ends : EndsAt p.high.newest high
+
+-- Of what is shown: of any two histories of the log up to these heads neither begins the other, or two different blocks share a name.
+abbrev pub ForksAreForks : Type 0
+ForksAreForks = (p : ForkProof) (low high : List Record) → IsProof p → IsShown p → AreHistories p low high
+    → HasClash (blocks_of low ++ (blocks_of high ++ p.blocks)) ⊎ ((IsPrefixOf low high → ⊥) × (IsPrefixOf high low → ⊥))
+
+-- the bytes are one proof
+abbrev pub ProofsAreOne : Type 0
+ProofsAreOne = (bytes : List ℕ) (p q : ForkProof) → IsProofOf bytes p → IsProofOf bytes q → p ≡ q
+
+-- A proof that shows a fork isn't refused but for want of memory.
+abbrev pub ShownIsNotRefused : Type 0
+ShownIsNotRefused = (p : ForkProof) (fault : ProofFault) → IsProof p → IsShown p → ShowsNone (proof_bytes p) fault → fault ≡ Memory
