@@ -1,10 +1,10 @@
 -- Bytes that are put together piece by piece.
-use Rattle.std.proofs.Common.{◌≡◌, ℕ, ◌+◌, ◌-◌, ◌*◌, List, [], ◌∷◌, ◌++◌, length, take, refl, sym, subst, ap, ◌∙◌, arith, append_assoc}
+use Rattle.std.proofs.Common.{◌≡◌, ℕ, ◌+◌, ◌*◌, List, [], ◌∷◌, ◌++◌, length, take, refl, sym, subst, ap, ◌∙◌, arith, append_assoc}
 use Rattle.std.specs.Prelude.{slice_set}
 use Rattle.std.proofs.lemmas.List.{length-append, append-nil, set-append_right, take_all}
 use Rattle.hash_signature_model.specs.declared.set.Set.{Set}
 use Rattle.hash_signature_model.specs.Parameters.{ots_type, lms_type, chains, levels}
-use Rattle.hash_signature_model.specs.OneTime.{word, joined, chain}
+use Rattle.hash_signature_model.specs.OneTime.{word, joined}
 use Rattle.hash_signature_model.specs.Signatures.{Signature, IsSignature, signature}
 use Rattle.hash_signature_model.proofs.Chains.{joined_none, joined_more}
 
@@ -20,16 +20,6 @@ before_values P front f h = subst P (sym (ap (λ (xs : List ℕ). front ++ xs) (
 pub one_value_more : (P : List ℕ → Type 0) (front : List ℕ) (f : ℕ → List ℕ) (n : ℕ) (value : List ℕ) → value ≡ f n → P (front ++ joined f n ++ value) → P (front ++ joined f (n + 1))
 one_value_more P front f n value same h =
     subst P (append_assoc front (joined f n) value ∙ ap (λ (xs : List ℕ). front ++ xs) (ap (λ (v : List ℕ). joined f n ++ v) same ∙ sym (joined_more f n))) h
-
--- a whole chain
-pub whole_chain : (id : List ℕ) (leaf i most top : ℕ) (start begun value : List ℕ) → value ≡ chain id leaf i 0 (most - 0) start → most ≡ top → start ≡ begun → value ≡ chain id leaf i 0 top begun
-whole_chain id leaf i most top start begun value is same from =
-    let e : most - 0 ≡ top = omega arith in
-    is ∙ rw (e, from) refl
-
--- the rest of a chain
-pub rest_of_chain : (id : List ℕ) (leaf i from begin most top : ℕ) (start begun value : List ℕ) → value ≡ chain id leaf i from (most - from) start → from ≡ begin → most ≡ top → start ≡ begun → value ≡ chain id leaf i begin (top - begin) begun
-rest_of_chain id leaf i from begin most top start begun value is where_from same begins = is ∙ rw (where_from, same, begins) refl
 
 -- bytes behind which one value more is put
 pub pushed : (front out new value : List ℕ) (f : ℕ → List ℕ) (n : ℕ) → new ≡ out ++ value → value ≡ f n → out ≡ front ++ joined f n → new ≡ front ++ joined f (n + 1)

@@ -7,17 +7,18 @@ ghost use Rattle.lms_core.specs.Fours.{AreHeads};
 ghost use Rattle.lms_core.specs.Kept.{at};
 
 use crate::hashing::{step, step_four};
+use crate::leaf::Leaf;
 use hash_signature_model::Width;
 use sha256_lanes::{Heads, Values};
 
 /// The value after the steps of chain i from number `from` up to and without number `to`.
-pub fn walk(id: &[u8; 16], leaf: u32, i: u16, from: u8, to: u8, start: &[u8; 32]) -> [u8; 32]
+pub fn walk(leaf: &Leaf, i: u16, from: u8, to: u8, start: &[u8; 32]) -> [u8; 32]
     requires { from ≤ to }
-    ensures { result ≡ chain id.now leaf i from (to - from) start.now }
+    ensures { result ≡ chain leaf.now.id leaf.now.number i from (to - from) start.now }
 {
     let mut value = *start;
     'steps: for j in from..to {
-        value = step(id, leaf, i, j, &value);
+        value = step(&leaf.id, leaf.number, i, j, &value);
     }
     value
 }

@@ -2,7 +2,7 @@
 
 ghost use Rattle.std.specs.Prelude.{◌≡◌, ℕ, List, [], ◌∷◌, ◌++◌, ◌*◌, ◌+◌, ◌^◌, ◌<◌, ◌≤◌, length};
 ghost use Rattle.sha2.specs.Hashers.{Holds256};
-ghost use Rattle.hash_signature_model.specs.OneTime.{word, step_of, derived, randomizer_of, lower_seed_of, lower_id_of, digest_of, value_at};
+ghost use Rattle.hash_signature_model.specs.OneTime.{word, half, step_of, derived, randomizer_of, lower_seed_of, lower_id_of, digest_of, value_at};
 ghost use Rattle.hash_signature_model.specs.Nodes.{leaf_node, inner_node, joined_above};
 ghost use Rattle.lms_core.specs.Fours.{AreHeads};
 ghost use Rattle.lms_core.specs.Kept.{at};
@@ -42,7 +42,7 @@ pub fn begin_key(id: &[u8; 16], leaf: u32) -> Sha256
 }
 
 /// The identifier and a number, with which each hash begins.
-fn head_of(id: &[u8; 16], number: u32) -> [u8; 20]
+pub fn head_of(id: &[u8; 16], number: u32) -> [u8; 20]
     ensures { result ≡ id.now ++ word number }
 {
     let mut head = [0u8; 20];
@@ -81,6 +81,14 @@ pub fn step_four(heads: &Heads, i: u16, j: u8, values: &Values) -> Values
 {
     let [high, low] = i.to_be_bytes();
     hash_four(heads, [high, low, j], values)
+}
+
+/// The numbers of a chain and a step, with which a step's hash goes on.
+pub fn middle(i: u16, j: u8) -> [u8; 3]
+    ensures { result ≡ half i ++ j ∷ [] }
+{
+    let [high, low] = i.to_be_bytes();
+    [high, low, j]
 }
 
 /// The secret value i of each of four leaves (RFC 8554, appendix A).

@@ -10,19 +10,23 @@
 //! For signatures of several levels: [`read_key`] and [`read_signature`] read from the front and give the bytes that
 //! are left, [`recompute_root`] is the check of one level, [`lower_id`] and [`lower_seed`] derive the tree below a leaf.
 //!
-//! Nothing allocates in [`verify`]. Growing hashes the chains of four leaves at a time; the leaves' keys and the nodes
-//! are single hashes. Definitions: `hash_signature_model`'s `specs/`; `specs/Kept.antt` says what a tree keeps,
-//! `specs/Fours.antt` what four leaves' hashes begin with, and `specs/Readers.antt` what the readers give.
+//! Nothing allocates in [`verify`]. Growing hashes the chains of four leaves at a time; signing and checking walk four
+//! chains of one leaf at a time (`Walks`). The leaves' keys and the nodes are single hashes. Definitions:
+//! `hash_signature_model`'s `specs/`; `specs/Kept.antt` says what a tree keeps, `specs/Fours.antt` what hashes of four
+//! leaves or four chains begin with, `specs/Walks.antt` how far chains have gone, and `specs/Readers.antt` what the
+//! readers give.
 #![tactic(auto)]
 
 mod chains;
 mod hashing;
+mod leaf;
 mod nodes;
 mod one_time;
 mod reading;
 mod signing;
 mod tree;
 mod verifying;
+mod walks;
 
 pub use hash_signature_model::{Height, LmsFault, PrivateKey, PublicKey, Set, Width};
 pub use hashing::{lower_id, lower_seed};

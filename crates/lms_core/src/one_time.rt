@@ -6,8 +6,10 @@ ghost use Rattle.hash_signature_model.specs.OneTime.{end_of, one_time_key, candi
 ghost use Rattle.lms_core.specs.Fours.{AreHeads};
 ghost use Rattle.lms_core.specs.Kept.{at};
 
-use crate::chains::{digit, walk, walk_four};
-use crate::hashing::{begin_key, derive_four, heads_of, value};
+use crate::chains::walk_four;
+use crate::hashing::{begin_key, derive_four, heads_of};
+use crate::leaf::Leaf;
+use crate::walks::{PLACES, Walks, digits, split_values};
 use hash_signature_model::{PrivateKey, Width};
 use sha2::Digest;
 use sha256_lanes::{Heads, Values};
@@ -59,11 +61,15 @@ pub fn make_candidate(
     ensures { result ≡ candidate_key w id.now leaf code.now values.now }
 {
     let steps = w.step_count();
+    let walks = Walks {
+        values: split_values(w, values),
+        from: digits(w, code, steps),
+        to: [steps; PLACES],
+    };
+    let ends = walks.walk_all(&Leaf::of(id, leaf));
     let mut hasher = begin_key(id, leaf);
     'chains: for i in 0..w.chain_count() {
-        let from = digit(w, &code[..], i);
-        let end = walk(id, leaf, i, from, steps, &value(values, i as usize));
-        hasher.update(&end[..]);
+        hasher.update(&ends[i as usize][..]);
     }
     hasher.finalize()
 }

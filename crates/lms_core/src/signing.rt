@@ -7,8 +7,8 @@ ghost use Rattle.hash_signature_model.specs.Nodes.{beside};
 ghost use Rattle.hash_signature_model.specs.Signatures.{Signature, IsSignature, signature};
 ghost use Rattle.lms_core.specs.Kept.{path_in};
 
-use crate::chains::{digit, walk};
-use crate::hashing::derive;
+use crate::leaf::Leaf;
+use crate::walks::{PLACES, Walks, derive_all, digits};
 use hash_signature_model::{Height, PrivateKey, Set};
 use ivy_base::Memory;
 use std::alloc::Global;
@@ -31,10 +31,15 @@ fn push_values(
     ensures { OnOk result (out.new.items ≡ out.old.items ++ joined (signed_value key.now.set.w key.now.id key.now.seed leaf code.now) (chains key.now.set.w)) }
 {
     let w = key.set.w;
+    let leaf = Leaf::of(&key.id, leaf);
+    let walks = Walks {
+        values: derive_all(&leaf, &key.seed, w),
+        from: [0; PLACES],
+        to: digits(w, code, 0),
+    };
+    let values = walks.walk_all(&leaf);
     'chains: for i in 0..w.chain_count() {
-        let start = derive(&key.id, &key.seed, leaf, i);
-        let value = walk(&key.id, leaf, i, 0, digit(w, &code[..], i), &start);
-        append(out, &value[..])?;
+        append(out, &values[i as usize][..])?;
     }
     Ok(())
 }

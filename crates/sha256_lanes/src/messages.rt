@@ -3,7 +3,7 @@
 ghost use Rattle.std.specs.Prelude.{◌≡◌, ℕ, List, ◌++◌, ◌+◌, ◌*◌, ◌/◌, ◌%◌, ◌^◌, ◌<◌, ◌≤◌, length, take, drop, slice_index};
 ghost use Rattle.sha2.specs.Sha256.{digest_bytes, sha256};
 ghost use Rattle.std.specs.Int.{w32, to_be_bytes};
-ghost use Rattle.sha256_lanes.specs.Lanes.{bytes_at};
+ghost use Rattle.sha256_lanes.specs.Lanes.{AreThree, bytes_at};
 
 use crate::block::compress;
 use crate::words::add;
@@ -179,19 +179,25 @@ fn across(left: u32x4, right: u32x4) -> u32x4
     add(left << u32x4::splat(8), right >> u32x4::splat(24))
 }
 
-/// The digests of four messages: each is its head, the three bytes, and its value (FIPS 180-4, section 6.2).
-pub fn hash_four(heads: &Heads, middle: [u8; 3], values: &Values) -> Values
-    ensures { (j : ℕ) → j < 4 → bytes_at result j ≡ sha256 (bytes_at heads.now j ++ middle ++ bytes_at values.now j) }
+/// A word of three bytes, whose first byte is 0.
+fn three(bytes: &[u8; 3]) -> u32
+    ensures { AreThree bytes.now result }
 {
-    let [first, second, third] = middle;
-    let shared = u32x4::splat(u32::from_be_bytes([0, first, second, third]));
+    let [first, second, third] = *bytes;
+    u32::from_be_bytes([0, first, second, third])
+}
+
+/// The digests of four messages: each is its head, the three bytes of its lane, and its value (FIPS 180-4, section 6.2).
+fn hash_lanes(heads: &Heads, middle: u32x4, values: &Values) -> Values
+    ensures { (j : ℕ) (bytes : List ℕ) → j < 4 → AreThree bytes (slice_index middle j) → bytes_at result j ≡ sha256 (bytes_at heads.now j ++ bytes ++ bytes_at values.now j) }
+{
     let words = [
         heads.a,
         heads.b,
         heads.c,
         heads.d,
         heads.e,
-        across(shared, values.a),
+        across(middle, values.a),
         across(values.a, values.b),
         across(values.b, values.c),
         across(values.c, values.d),
@@ -214,4 +220,24 @@ pub fn hash_four(heads: &Heads, middle: [u8; 3], values: &Values) -> Values
         g,
         h,
     }
+}
+
+/// The digests of four messages: each is its head, the three bytes, and its value (FIPS 180-4, section 6.2).
+pub fn hash_four(heads: &Heads, middle: [u8; 3], values: &Values) -> Values
+    ensures { (j : ℕ) → j < 4 → bytes_at result j ≡ sha256 (bytes_at heads.now j ++ middle ++ bytes_at values.now j) }
+{
+    hash_lanes(heads, u32x4::splat(three(&middle)), values)
+}
+
+/// The digests of four messages: each is its head, three bytes of its own, and its value (FIPS 180-4, section 6.2).
+pub fn hash_four_each(heads: &Heads, middles: &[[u8; 3]; 4], values: &Values) -> Values
+    ensures { (j : ℕ) → j < 4 → bytes_at result j ≡ sha256 (bytes_at heads.now j ++ bytes_at middles.now j ++ bytes_at values.now j) }
+{
+    let words = u32x4::from_array([
+        three(&middles[0]),
+        three(&middles[1]),
+        three(&middles[2]),
+        three(&middles[3]),
+    ]);
+    hash_lanes(heads, words, values)
 }

@@ -3,4 +3,4 @@ use Rattle.hash_signature_model.specs.OneTime.{joined, signed_value}
 use Rattle.lms_core.proofs.signing.push_values.Given as goal
 
 abbrev pub invariant-chains : goal.invariant-chains
-invariant-chains l = l.out.items ≡ l.initial.out.items ++ joined (signed_value l.key.set.w l.key.id l.key.seed l.leaf l.code) l.i
+invariant-chains l = l.out.items ≡ l.initial.out.items ++ joined (signed_value l.key.set.w l.key.id l.key.seed l.fn.leaf l.code) l.i
