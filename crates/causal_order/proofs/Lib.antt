@@ -12,6 +12,7 @@ pub mod Meeting
 pub mod Passes
 pub mod Steps
 pub mod Ends
+pub mod Nothing
 pub mod Fronts
 pub mod Starts
 pub mod StartChains

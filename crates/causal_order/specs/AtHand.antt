@@ -31,7 +31,8 @@ Extends view front held owner chain = IsChainOver view front owner (log_of owner
 -- the record is held, or it is news of a chain of its log that extends what is held
 abbrev pub IsAtHand : View → Vector → List Record → List (List Record) → Record → Type 0
 IsAtHand view front held chains r =
-    Contains held r ⊎ ((chain : List Record) × Contains chains chain × Extends view front held r.owner chain × Contains (news front held r.owner chain) r)
+    Contains held r ⊎ ((chain : List Record) × Contains chains chain × Extends view front held r.owner chain
+    × Contains (news front held r.owner chain) r)
 
 -- some records of one log: each goes on from the one before it, and a first one opens the log
 abbrev pub IsLinked : View → List Record → Type 0

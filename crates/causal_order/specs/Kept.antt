@@ -1,5 +1,6 @@
 -- What is kept of each member's log while records are taken.
-use Rattle.std.specs.Prelude.{◌≡◌, ◌⊎◌, ◌↔◌, IsTrue, Bool, ℕ, ◌+◌, ◌<◌, List, [], ◌∷◌, ◌++◌, map, length, slice_index_or, slice_set, if◌then◌else◌, Option, Some, None, option_map, IfSome}
+use Rattle.std.specs.Prelude.{◌≡◌, ◌⊎◌, ◌↔◌, IsTrue, Bool, ℕ, ◌+◌, ◌<◌, List, [], ◌∷◌, ◌++◌, map, length, slice_index_or, slice_set}
+use Rattle.std.specs.Prelude.{if◌then◌else◌, Option, Some, None, option_map, IfSome}
 use Rattle.std.specs.List.{All}
 use Rattle.std.specs.Prelude.{false}
 use Rattle.std.specs.Ordering.{is_lt}
@@ -132,10 +133,12 @@ lesser (Some old) i (Some rank) = if is_lt (rank_cmp (rank_of rank) (rank_of old
 
 -- whether the log's next record has its causes among what is known
 abbrev pub IsDecided : Base → List kept.Record → Log → Bool → Type 0
-IsDecided base taken log holds = (r : kept.Record) → IsInFront r log.queue.items → IsTrue holds ↔ HasCauses base.view.now base.front.now (known_of base taken) (record_of r)
+IsDecided base taken log holds = (r : kept.Record) → IsInFront r log.queue.items
+    → IsTrue holds ↔ HasCauses base.view.now base.front.now (known_of base taken) (record_of r)
 
 -- the next record of the log of that index was taken, as it has its causes
-pub record IsTakenAt (base : Base) (logs : List Log) (taken : List kept.Record) (after : List Log) (more : List kept.Record) (i : ℕ) : Type 0 where
+pub record IsTakenAt (base : Base) (logs : List Log) (taken : List kept.Record) (after : List Log) (more : List kept.Record)
+    (i : ℕ) : Type 0 where
   pub old : Log
   pub stands : slice_index_or logs i old ≡ old
   pub new : Log
@@ -146,7 +149,8 @@ pub record IsTakenAt (base : Base) (logs : List Log) (taken : List kept.Record) 
   pub causes : HasCauses base.view.now base.front.now (known_of base taken) (record_of next)
 
 -- or it was left out with the rest of its log, as it hasn't
-pub record IsLeftAt (base : Base) (logs : List Log) (taken : List kept.Record) (after : List Log) (more : List kept.Record) (i : ℕ) : Type 0 where
+pub record IsLeftAt (base : Base) (logs : List Log) (taken : List kept.Record) (after : List Log) (more : List kept.Record)
+    (i : ℕ) : Type 0 where
   pub old : Log
   pub stands : slice_index_or logs i old ≡ old
   pub new : Log

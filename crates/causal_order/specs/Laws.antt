@@ -25,7 +25,8 @@ FreshPartIsPlain = (view : View) (all s : List Record) → IsClosedPart view [] 
 
 -- Two records of one closed set have different ranks.
 abbrev pub RanksDiffer : Type 0
-RanksDiffer = (view : View) (s : List Record) (r q : Record) → log.IsClosed view s → Contains s r → Contains s q → record_cmp r q ≡ Equal → r ≡ q
+RanksDiffer = (view : View) (s : List Record) (r q : Record) → log.IsClosed view s → Contains s r → Contains s q → record_cmp r q ≡ Equal
+    → r ≡ q
 
 -- Each cause has a smaller rank than its effect.
 abbrev pub CausesAreBefore : Type 0
@@ -39,7 +40,8 @@ FrontsJoin = (s t : List Record) → ((r q : Record) → Contains (s ++ t) r →
 -- The chains of a batch that were added under the view, are of its members, and don't begin above what is held are such as a
 -- closed part may be taken of.
 abbrev pub BatchesAreFetched : Type 0
-BatchesAreFetched = (view : View) (edges : Key → Option Edge) (batch : Batch) (front : Vector) (held : List Record) → IsBatch batch → AreUnder view edges batch
+BatchesAreFetched = (view : View) (edges : Key → Option Edge) (batch : Batch) (front : Vector) (held : List Record) → IsBatch batch
+    → AreUnder view edges batch
     → AllByRecursion (λ c. Contains view.members (owner_of c.1)) batch.chains
     → AllByRecursion (λ c. BeginsBy (held_to front held (owner_of c.1)) c.1) batch.chains
     → AllByRecursion (λ c. IsFetched view front held c.1) batch.chains

@@ -49,4 +49,5 @@ pub record IsClosed (view : View) (front : Vector) (s : List Record) : Type 0 wh
 pub record IsClosedPart (view : View) (front : Vector) (AtHand : Record → Type 0) (s : List Record) : Type 0 where
   pub part : (r : Record) → Contains s r → AtHand r
   pub closed : IsClosed view front s
-  pub largest : (t : List Record) → ((r : Record) → Contains t r → AtHand r) → IsClosed view front t → (r : Record) → Contains t r → Contains s r
+  pub largest : (t : List Record) → ((r : Record) → Contains t r → AtHand r) → IsClosed view front t → (r : Record) → Contains t r
+      → Contains s r

@@ -50,8 +50,10 @@ pub record IsHeldLog (front : Vector) (held : List Record) (owner : PubKey) (l :
 pub record HasQueued (view : View) (front : Vector) (held : List Record) (chains : List (List Record)) (l : Log) : Type 0 where
   pub kept : IsKept front held l
   pub going : IsChainOver view front l.owner (log_of l.owner held ++ records_of l.queue.items)
-  pub hand : (q : Record) → Contains (records_of l.queue.items) q → (chain : List Record) × Contains chains chain × Extends view front held l.owner chain × Contains (news front held l.owner chain) q
-  pub all : (chain : List Record) → Contains chains chain → Extends view front held l.owner chain → (q : Record) → Contains (news front held l.owner chain) q → Contains (records_of l.queue.items) q
+  pub hand : (q : Record) → Contains (records_of l.queue.items) q
+      → (chain : List Record) × Contains chains chain × Extends view front held l.owner chain × Contains (news front held l.owner chain) q
+  pub all : (chain : List Record) → Contains chains chain → Extends view front held l.owner chain → (q : Record)
+      → Contains (news front held l.owner chain) q → Contains (records_of l.queue.items) q
 
 -- one log, of the chain's owner, has what it has of that chain still to be seen; the others are as they were
 pub record TakesIn (view : View) (front : Vector) (held chain : List Record) (old new : List Log) : Type 0 where

@@ -39,7 +39,8 @@ pub fn closed_part(
 }
 
 /// As [`closed_part`], of chains that were taken out of a batch: no two are of one log, and the head of each names the
-/// newest of its records. The records need not be all of the chain that the batch had.
+/// newest of its records. The records need not be all of the chain that the batch had. Without chains the held records
+/// are not looked at.
 pub fn closed_part_of(
     alloc: Global,
     view: &View,
@@ -53,6 +54,9 @@ pub fn closed_part_of(
     requires apart { HaveOwnOwners (map (λ c. records_of c.records) chains.items) }
     ensures { IfOk result (λ new. IsNewPart view.now front.now (records_of held.now) (map (λ c. records_of c.records) chains.items) (records_of new.items)) }
 {
+    if chains.is_empty() {
+        return Ok(Vec::new(alloc));
+    }
     // That it is a view, so that each log is one member's.
     let _ = view.members();
     let base = Base { view, front, held };

@@ -5,8 +5,11 @@ pub mod Counted
 pub mod Opened
 pub mod First
 pub mod Settled
+pub mod Known
 pub mod Placed
 pub mod Newest
+pub mod Few
+pub mod Reached
 pub mod Older
 pub mod Entered
 pub mod Applied

@@ -40,7 +40,7 @@ found_over q (r ∷ rs) es =
     ∙ or_or (value_at key_cmp q (newest_edges rs)) (eq_by_cmp key_cmp q k) (as_edge r) (value_at key_cmp q es)
     ∙ ap (λ (o : Option Edge). option_or o (value_at key_cmp q es)) (sym (found_over q rs (taken [] r)))
 
-sorted_over : (rs : List Record) (es : Edges) → T (is_sorted key_cmp es) → T (is_sorted key_cmp (fold taken es rs))
+pub sorted_over : (rs : List Record) (es : Edges) → T (is_sorted key_cmp es) → T (is_sorted key_cmp (fold taken es rs))
 sorted_over [] es h = h
 sorted_over (r ∷ rs) es h = sorted_over rs (taken es r) (is_sorted-put key_cmp keys_total (head_key_of r.owner) (as_edge r) es h)
 
@@ -65,7 +65,7 @@ sorted_in true es fs h g = h
 sorted_in false es fs h g = g
 
 module _ (k : Key) (x : Edge) (es : Edges) where
-  found_under : (q : Key) → value_at key_cmp q (put_under k x es) ≡ cond (is_some (value_at key_cmp k es)) (value_at key_cmp q es) (cond (eq_by_cmp key_cmp q k) (Some x) (value_at key_cmp q es))
+  pub found_under : (q : Key) → value_at key_cmp q (put_under k x es) ≡ cond (is_some (value_at key_cmp k es)) (value_at key_cmp q es) (cond (eq_by_cmp key_cmp q k) (Some x) (value_at key_cmp q es))
   found_under q = found_in (is_some (value_at key_cmp k es)) q es (put key_cmp k x es) ∙ ap (λ (o : Option Edge). cond (is_some (value_at key_cmp k es)) (value_at key_cmp q es) o) (find-put key_cmp keys_total q k x es)
 
   kept_some : (t b : Bool) (n : Option Edge) → is_some n ≡ true → is_some (cond t n (cond b (Some x) n)) ≡ true

@@ -38,8 +38,6 @@ module _ (records : List Record) (left : ℕ) (item : Record) (owners : List Pub
       let its = one_known item.owner (edges_of edges) owners known there in
       (bound, so_far ∙ with_known (record_of item) (records_of (drop left records)) (subst (λ es. AreKnown es (item.owner ∷ [])) so_far (its, tt)).0 ∙ ap newest_edges (sym older))
 
--- where all records were seen
-pub are_all_edges : (records : List Record) (left : ℕ) (edges : List kept.Edge) → left ≤ 0 → edges_of edges ≡ newest_edges (records_of (drop left records)) → AllByRecursion KnowsOthers (records_of records) → AreEdges (edges_of edges)
-are_all_edges records left edges none so_far others =
-    let zero_left : left ≡ 0 = omega (arith, none) in
-    subst AreEdges (sym (so_far ∙ ap (λ n. newest_edges (records_of (drop n records))) zero_left)) (are_edges (records_of records) others)
+-- edges of all the records are edges
+pub are_all_edges : (records : List Record) (edges : List kept.Edge) → edges_of edges ≡ newest_edges (records_of records) → AllByRecursion KnowsOthers (records_of records) → AreEdges (edges_of edges)
+are_all_edges records edges all others = subst AreEdges (sym all) (are_edges (records_of records) others)

@@ -1,5 +1,5 @@
 -- What a session is told that an agent stands for.
-use Rattle.std.proofs.Common.{◌≡◌, Bool, List, Option, Some, sym, ap, ◌∙◌, subst}
+use Rattle.std.proofs.Common.{◌≡◌, Bool, List, Option, Some, sym, ap, ◌∙◌, subst, Contains}
 use Rattle.std.specs.Prelude.{IfSome}
 use Rattle.std.specs.List.{AllByRecursion}
 use Rattle.ivy_base.specs.declared.key.Key.{Key}
@@ -17,8 +17,10 @@ use Rattle.replay_engine.specs.Engines.{Engine, holding}
 use Rattle.log_model.specs.Signing.{Signing}
 use Rattle.agent_model.specs.SavedBytes.{AreOpaque, ArePostsSpelled, HasItsName}
 use Rattle.agent_model.specs.Standing.{standing_in}
-use Rattle.ivy_agent.specs.Edges.{KnowsOthers, newest_edges}
-use Rattle.ivy_agent.specs.Holders.{Holder, IsSound, agent_of}
+use Rattle.ivy_agent.specs.Edges.{IsBeyond, KnowsOthers, newest_edges}
+use Rattle.ivy_agent.proofs.Reached.{all_beyond}
+use Rattle.agent_model.specs.Agent.{joined}
+use Rattle.ivy_agent.specs.Holders.{Holder, IsSound, Stands, StandsIn, agent_of}
 use Rattle.ivy_agent.specs.declared.saving.Kept.{Kept}
 use Rattle.ivy_agent.proofs.Drafting.{owner_is}
 
@@ -50,3 +52,20 @@ module _ {K S : Type 0} (signs : Signing S) (k : Kept S) (e : Engine) (to_load :
         to_load = basis_is i;
         pending = k.pending;
       })))
+
+  -- what is held is of the view's members
+  pub of_members : (view : View) → k.view ≡ Some view → (told : View) → told ≡ view → (records : List Record) → records ≡ (holding e).held → AllByRecursion (λ r. Contains told.members r.owner) records
+  of_members view in_view told told_is records held =
+      let stands : StandsIn signs (agent_of k e to_load has_failed) view = subst (Stands signs (agent_of k e to_load has_failed)) in_view sound.stands in
+      subst (λ (v : View). AllByRecursion (λ r. Contains v.members r.owner) records) (sym told_is)
+      (subst (λ (rs : List Record). AllByRecursion (λ r. Contains view.members r.owner) rs) (sym held) stands.closed.members)
+
+  -- and beyond the basis
+  pub are_beyond : (view : View) → k.view ≡ Some view → (base : Vector) → base ≡ (holding e).basis.front → (records : List Record) → records ≡ (holding e).held → IsRow records → AllByRecursion (IsBeyond base front) records
+  are_beyond view in_view base base_is records held row =
+      let stands : StandsIn signs (agent_of k e to_load has_failed) view = subst (Stands signs (agent_of k e to_load has_failed)) in_view sound.stands in
+      let all : AllByRecursion (IsBeyond (holding e).basis.front (joined (holding e))) (holding e).held =
+      all_beyond view (holding e).basis.front (holding e).held stands.closed (subst (AllByRecursion KnowsOthers) held (know_others records row)) in
+      subst (λ (b : Vector). AllByRecursion (IsBeyond b front) records) (sym base_is)
+      (subst (λ (f : Vector). AllByRecursion (IsBeyond (holding e).basis.front f) records) (sym sound.its_front)
+      (subst (λ (rs : List Record). AllByRecursion (IsBeyond (holding e).basis.front (joined (holding e))) rs) (sym held) all))

@@ -1,27 +1,39 @@
 //! Which posts are acknowledged.
 
 ghost use Rattle.std.specs.Prelude.{◌≡◌, ◌&&◌, not, filter};
-ghost use Rattle.std.specs.List.{list_any};
-ghost use Rattle.ivy_base.specs.Naming.{name};
+ghost use Rattle.std.specs.List.{AllByRecursion, list_any};
 ghost use Rattle.tree_model.specs.Tree.{same_key};
 ghost use Rattle.agent_model.specs.Others.{is_of};
+ghost use Rattle.agent_model.specs.SavedBytes.{HasItsName};
+ghost use Rattle.ivy_agent.specs.Settling.{is_known_settled, known_name};
 
 use crate::keys::is_same;
-use dht_ids::{Ack, Post};
+use dht_ids::{Ack, Post, PostKind};
 use ivy_base::{Key, name_of};
 
-/// Leaves the posts that aren't acknowledged. It takes no memory.
+/// Leaves the posts that aren't acknowledged. Each has its name, so that of these heads alone are hashed. It takes no memory.
 pub fn keep_unsettled(posts: &mut Vec<Post>, acks: &[Ack])
+    requires { AllByRecursion HasItsName posts.old.items }
     ensures { posts.new.items ≡ filter (λ p. not (list_any (λ ack. is_of ack p) acks.now)) posts.old.items }
 {
     posts.retain(|post| !is_acknowledged(post, acks));
 }
 
-/// Whether an acknowledgement is of that post. Its block is hashed only where one has its key.
+/// Whether an acknowledgement is of that post, if it has its name. A head is hashed only where one has its key.
 fn is_acknowledged(post: &Post, acks: &[Ack]) -> bool
-    ensures { result ≡ list_any (λ ack. is_of ack post.now) acks.now }
+    ensures { result ≡ is_known_settled acks.now post.now }
 {
-    has_key(acks, &post.key) && has_name(acks, &post.key, &name_of(post.bytes.as_slice()))
+    has_key(acks, &post.key) && has_name(acks, &post.key, &known_name(post))
+}
+
+/// The name of the post's block, if the post has its name: that is the key, but of a head.
+fn known_name(post: &Post) -> Key
+    ensures { result ≡ known_name post.now }
+{
+    match post.kind {
+        PostKind::Head => name_of(post.bytes.as_slice()),
+        PostKind::Block | PostKind::Log => post.key,
+    }
 }
 
 /// Whether an acknowledgement has that key.

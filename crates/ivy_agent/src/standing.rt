@@ -1,6 +1,6 @@
 //! What is known of the newest held records.
 
-ghost use Rattle.std.specs.Prelude.{◌≡◌, ◌≤◌, [], length, IfOk, OnOk};
+ghost use Rattle.std.specs.Prelude.{◌≡◌, ◌≤◌, [], length, count_by, Contains, IfOk, OnOk};
 ghost use Rattle.std.specs.List.{AllByRecursion, list_any, position_or_len};
 ghost use Rattle.std.specs.Ordering.{is_lt};
 ghost use Rattle.ivy_base.specs.Naming.{key_cmp, head_key_of};
@@ -9,7 +9,7 @@ ghost use Rattle.log_model.specs.Fetched.{as_edge};
 ghost use Rattle.log_records.specs.Records.{record_of, records_of};
 ghost use Rattle.log_fetch.specs.Edges.{edges_of};
 ghost use Rattle.log_fetch.specs.Standings.{standing_of};
-ghost use Rattle.ivy_agent.specs.Edges.{newest_edges, put_under, KnowsOthers};
+ghost use Rattle.ivy_agent.specs.Edges.{is_beyond, newest_edges, put_under, AreOfAtMost, IsBeyond, KnowsOthers};
 
 use crate::keys::{is_among, is_same};
 use dht_ids::Posts;
@@ -42,23 +42,38 @@ pub fn standing_without(
     })
 }
 
-/// Puts into the standing what is held, how far all is known, and what is pending. It owns nothing where it exits. The error is
-/// want of memory.
+/// Puts into the standing what is held of its members' logs over the basis, up to the front; how far all is known; and what is
+/// pending. It owns nothing where it exits. The error is want of memory.
 pub fn fill(
     alloc: Global,
     standing: &mut Standing,
+    base: &Vector,
     front: &Vector,
     floor: &Vector,
     records: &[Record],
     pending: &Posts,
 ) -> Result<(), Memory>
-    requires { AllByRecursion KnowsOthers (records_of records.now) }
+    requires others { AllByRecursion KnowsOthers (records_of records.now) }
+    requires members { AllByRecursion (λ r. Contains standing.old.view.members r.owner) (records_of records.now) }
+    requires beyond { AllByRecursion (IsBeyond base.now front.now) (records_of records.now) }
     ensures { OnOk result (standing.new ≡ record standing.old { held = front.now; floor = floor.now; edges = newest_edges (records_of records.now); pending = pending.now }) }
 {
     fill_fronts(alloc, standing, front, floor)?;
-    standing.edges = newest_edges(alloc, records)?;
+    let most = standing.view.members().len().min(count_beyond(base, front));
+    standing.edges = newest_edges(alloc, records, most)?;
     standing.pending = pending.copy(alloc)?;
     Ok(())
+}
+
+/// In how many logs the front goes further than the basis does.
+fn count_beyond(base: &Vector, front: &Vector) -> usize
+    ensures { result ≡ count_by (is_beyond base.now) front.now }
+{
+    front
+        .entries()
+        .iter()
+        .filter(|entry| base.seq_of(&entry.log) < entry.seq)
+        .count()
 }
 
 /// Puts into the standing what is held, and how far all is known. The error is want of memory.
@@ -80,16 +95,18 @@ pub fn let_go(_: Standing) -> Memory {
     Memory
 }
 
-/// What is known of the newest record of each log, ascending by log, where the records ascend. A log is hashed once. The error
-/// is want of memory.
-fn newest_edges(alloc: Global, records: &[Record]) -> Result<Edges, Memory>
-    requires { AllByRecursion KnowsOthers (records_of records.now) }
+/// What is known of the newest record of each log, ascending by log, where the records ascend and are of at most `most` logs. A
+/// log is hashed once, and no record is looked at that is older than the newest ones of so many logs. The error is want of
+/// memory.
+fn newest_edges(alloc: Global, records: &[Record], most: usize) -> Result<Edges, Memory>
+    requires others { AllByRecursion KnowsOthers (records_of records.now) }
+    requires few { AreOfAtMost most (records_of records.now) }
     ensures { IfOk result (λ edges. edges ≡ newest_edges (records_of records.now)) }
 {
     let mut owners: Vec<PubKey> = Vec::new(alloc);
     let mut edges: Vec<Edge> = Vec::new(alloc);
     let mut left = records.len();
-    'records: while left > 0 {
+    'records: while left > 0 && edges.len() < most {
         left -= 1;
         let record = &records[left];
         if is_among(owners.as_slice(), &record.owner) {

@@ -1,8 +1,9 @@
-use Rattle.std.proofs.Common.{map, refl}
+use Rattle.std.proofs.Common.{map, refl, sym, ◌∙◌, subst}
 use Rattle.log_records.specs.declared.batch.Chain.{Chain}
 use Rattle.log_records.specs.Records.{records_of}
-use Rattle.causal_order.specs.AtHand.{IsAtHand}
+use Rattle.causal_order.specs.AtHand.{IsAtHand, IsNewPart}
 use Rattle.causal_order.proofs.Going.{begins, are_kept, goes_on, sees_more, is_whole}
+use Rattle.causal_order.proofs.Nothing.{nothing_new}
 use Rattle.causal_order.proofs.part.closed_part_of.Goals as goal
 
 pub records-init : goal.records-init
@@ -21,3 +22,6 @@ records-preserved c = goes_on (record { view = c.args.view; front = c.args.front
 
 pub returns : goal.returns
 returns c = is_whole (record { view = c.args.view; front = c.args.front; held = c.args.held }) (map (λ (x : Chain). records_of x.records) c.args.chains.items) c.records.logs c.records.taken.items c.records.invariant c.in_default.ensures.none
+
+pub returns-then-is_empty : goal.returns-then-is_empty
+returns-then-is_empty c = nothing_new c.args.view.now c.args.front.now (records_of c.args.held.now) c.requires.held c.args.chains.items c.new.result.items c.args.chains.len c.args.chains.ok.0 (sym c.is_empty.ensures ∙ c.if-is_empty.true) c.new.ensures.items

@@ -1,5 +1,8 @@
+use Rattle.std.proofs.Common.{◌∙◌}
+use Rattle.ivy_agent.proofs.Few.{are_enough, are_seen}
 use Rattle.ivy_agent.proofs.Older.{older_added, older_known, are_all_edges}
 use Rattle.ivy_agent.proofs.standing.newest_edges.Goals as goal
+use Rattle.ivy_agent.proofs.standing.newest_edges.Goals.{then-records-test+else-len-most, else-records-test}
 
 pub records-preserved : goal.records-preserved
 records-preserved c = let added = older_added
@@ -12,4 +15,16 @@ records-preserved-then-is_among c = let known = older_known
     c.as_slice.result.now c.is_among.result c.as_slice.ensures.value c.is_among.ensures c.if-is_among.true in record { within = known.0; edges = known.1; owners = c.records.invariant.owners }
 
 pub of-requires : goal.of-requires
-of-requires c = are_all_edges c.args.records.now c.records.left c.records.edges.items c.records-test.false c.records.invariant.edges c.requires
+of-requires c = are_all_edges c.args.records.now c.records.edges.items
+    (elim c.records-test.branch [
+      | then-records-test+else-len-most w ↦ are_enough c.args.records.now c.records.left c.args.most c.records.edges.items c.requires.few c.records.invariant.edges c.records.edges.len w.len.result c.records.edges.ok.0 w.len.ensures w.if-len-most.false
+      | else-records-test w ↦ are_seen c.args.records.now c.records.left c.args.most c.records.edges.items c.requires.few c.records.invariant.edges w.records-test.false
+    ])
+    c.requires.others
+
+pub returns : goal.returns
+returns c = c.of.ensures
+    ∙ (elim c.records-test.branch [
+      | then-records-test+else-len-most w ↦ are_enough c.args.records.now c.records.left c.args.most c.records.edges.items c.requires.few c.records.invariant.edges c.records.edges.len w.len.result c.records.edges.ok.0 w.len.ensures w.if-len-most.false
+      | else-records-test w ↦ are_seen c.args.records.now c.records.left c.args.most c.records.edges.items c.requires.few c.records.invariant.edges w.records-test.false
+    ])
