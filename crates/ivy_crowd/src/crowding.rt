@@ -18,7 +18,7 @@ use hss_keys::Signs;
 use ivy_agent::Agent;
 use ivy_base::{Memory, Moment, head_key};
 use ivy_io::{Clock, Keeper};
-use ring_run::LiveRing;
+use ring_run::{LiveRing, Verdicts};
 use std::alloc::Global;
 use std::sync::Wait;
 use std::thread::Threads;
@@ -86,9 +86,10 @@ pub fn crowd<R: Threads + Wait + Sync, C: Clock>(
     })) }
 {
     let at = moment(clock);
-    let opened = open(alloc, at)?;
+    let verdicts = Verdicts::new(alloc)?;
+    let opened = open(alloc, at, verdicts.share()?)?;
     let log = head_key(&opened.agent.owner());
-    let ring = LiveRing::make(rt, alloc, NODES, REPLICAS)?;
+    let ring = LiveRing::make_with(rt, alloc, NODES, REPLICAS, verdicts)?;
     let Opened { agent, view } = opened;
     let closed = run(rt, alloc, agent, &ring, &view, threads, calls, clock)?;
     let last = newest(alloc, &closed.agent)?;

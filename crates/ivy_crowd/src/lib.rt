@@ -18,7 +18,8 @@
 //! Within: `key` and `opening` make the agent, `request` the calls, `ends` the two ends of a link, `jobs` a job for each thread,
 //! `job` serves one, `running` all at once, `counting` and `stored` look at what is left.
 //!
-//! Costs: the key's 1,024 leaves are grown once; a link's calls stand in memory, 160 bytes each.
+//! Costs: the key's 1,024 leaves are grown once; a link's calls stand in memory, 160 bytes each. The key and the ring share
+//! verdicts (`RememberedKey` of `ring_run`), so no node verifies a head that the agent sealed.
 #![tactic(auto)]
 
 mod counting;

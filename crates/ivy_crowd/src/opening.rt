@@ -13,17 +13,17 @@ ghost use Rattle.ivy_crowd.specs.Jobs.{IsOpened};
 ghost use Rattle.ivy_crowd.specs.Requests.{IsKey, alone};
 
 use crate::key::key;
-use hss_keys::Hss;
 use ivy_agent::{Agent, EnterFault, MakeFault};
 use ivy_base::{Memory, Moment, PubKey};
 use ivy_io::MemKeeper;
+use ring_run::{RememberedKey, Verdicts};
 use std::alloc::Global;
 use view_blocks::{View, ViewFault};
 
 /// The agent, and the view that it is in.
 #[derive(Drop)]
 pub(crate) struct Opened {
-    pub(crate) agent: Agent<MemKeeper, Hss>,
+    pub(crate) agent: Agent<MemKeeper, RememberedKey>,
     pub(crate) view: View,
 }
 
@@ -55,7 +55,11 @@ fn agent_lacks(why: MakeFault) -> Memory
 
 /// An agent with the participant's key that opens its log at that moment, over a keeper in memory of which no save is to fail. The
 /// error is want of memory.
-fn create(alloc: Global, signer: Hss, moment: Moment) -> Result<Agent<MemKeeper, Hss>, Memory>
+fn create(
+    alloc: Global,
+    signer: RememberedKey,
+    moment: Moment,
+) -> Result<Agent<MemKeeper, RememberedKey>, Memory>
     requires { IsKey signer }
     ensures { IfOk result (λ agent. Makes hss IsSigner saves_in_memory fresh_keeper signer moment (Ok agent)) }
 {
@@ -74,7 +78,11 @@ fn entry_lacks(why: EnterFault) -> Memory
 }
 
 /// Has an agent that was just created enter the view of its log alone. The error is want of memory.
-fn enter(alloc: Global, agent: &mut Agent<MemKeeper, Hss>, view: &View) -> Result<(), Memory>
+fn enter(
+    alloc: Global,
+    agent: &mut Agent<MemKeeper, RememberedKey>,
+    view: &View,
+) -> Result<(), Memory>
     requires made { (signer : Signer) × (moment : Moment) × Makes hss IsSigner saves_in_memory fresh_keeper signer moment (Ok agent.old) }
     requires view { view.now ≡ alone (own hss agent.old.agent) }
     ensures { OnOk result (Enters hss IsSigner saves_in_memory view.now agent.old (Ok tt) agent.new) }
@@ -85,12 +93,13 @@ fn enter(alloc: Global, agent: &mut Agent<MemKeeper, Hss>, view: &View) -> Resul
     }
 }
 
-/// An agent that opens its log at that moment, and enters the view of its log alone. The error is want of memory.
-pub(crate) fn open(alloc: Global, moment: Moment) -> Result<Opened, Memory>
+/// An agent that opens its log at that moment, and enters the view of its log alone. What its key signs is known there. The error
+/// is want of memory.
+pub(crate) fn open(alloc: Global, moment: Moment, verdicts: Verdicts) -> Result<Opened, Memory>
     ensures { IfOk result (IsOpened moment) }
 {
     let signer = key(alloc)?;
-    let mut agent = create(alloc, signer, moment)?;
+    let mut agent = create(alloc, RememberedKey::new(signer, verdicts), moment)?;
     let view = view_of(alloc, agent.owner())?;
     enter(alloc, &mut agent, &view)?;
     Ok(Opened { agent, view })

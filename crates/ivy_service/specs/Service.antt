@@ -1,5 +1,6 @@
 -- How a service goes, from its keeper to its end.
-use Rattle.std.specs.Prelude.{◌≡◌, ◌<◌, ◌≤◌, ℕ, Bool, true, false, List, [], ◌∷◌, ◌++◌, codes, length, take, Option, Some, None, Result, Ok, Err}
+use Rattle.std.specs.Prelude.{◌≡◌, ◌<◌, ◌≤◌, ℕ, Bool, true, false, List, [], ◌∷◌, ◌++◌, codes, length, take, Option, Some, None, Result, Ok}
+use Rattle.std.specs.Prelude.{Err}
 use Rattle.std.specs.Fmt.{decimal}
 use Rattle.hash_signature_model.specs.Signer.{Signer}
 use Rattle.ivy_io.specs.Causes.{Rose}
@@ -160,10 +161,12 @@ module _ {P Ks K Q W C : Type 0} (kind : ServiceKind P Ks K Q W C) where
         → HasKeeper asked before keeper lent moment clock → kind.keepers.takes lent asked.name left now
         → (why ≡ refusal.Failed → Rose (kind.keepers.faults before.keepers) (kind.keepers.faults now))
         → Goes asked before (status_refused why) (record { around = before.around; keepers = now; clock = clock })
-    given_back : {keeper : K} {lent now : Ks} {moment : ℕ × ℕ} {clock : C} {opening closed : Holder K Signer} {status : ℕ} {after : Around P}
+    given_back : {keeper : K} {lent now : Ks} {moment : ℕ
+        × ℕ} {clock : C} {opening closed : Holder K Signer} {status : ℕ} {after : Around P}
         → HasKeeper asked before keeper lent moment clock
         → IsOpened kind.serving.agents.saves keeper asked.signer (moment_of moment) opening
-        → Serves kind.ports kind.serving kind.moment asked.port clock opening before.around (Some closed) status after → kind.keepers.takes lent asked.name closed.keeper now
+        → Serves kind.ports kind.serving kind.moment asked.port clock opening before.around (Some closed) status after
+        → kind.keepers.takes lent asked.name closed.keeper now
         → Goes asked before status (record { around = after; keepers = now; clock = clock })
     lost : {keeper : K} {lent : Ks} {moment : ℕ × ℕ} {clock : C} {opening : Holder K Signer} {status : ℕ} {after : Around P}
         → HasKeeper asked before keeper lent moment clock

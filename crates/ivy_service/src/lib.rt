@@ -12,7 +12,8 @@
 //!   keeper isn't given back where memory was wanting for the gate.
 //!
 //! Definitions: `specs/Opening.antt` (the agent as it is opened), `specs/Service.antt` (the rest).
-//! Costs: the agent's key is grown by the caller; a ring of five nodes is made before the ports are asked to listen.
+//! Costs: the agent's key is grown by the caller; a ring of five nodes is made before the ports are asked to listen. The key and
+//! the ring share verdicts (`RememberedKey` of `ring_run`), so no node verifies a head that the agent sealed.
 #![tactic(auto)]
 
 mod opening;

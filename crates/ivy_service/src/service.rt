@@ -9,14 +9,14 @@ ghost use Rattle.ring_run.specs.Live.{new_ring};
 ghost use Rattle.ivy_serving.specs.Serving.{Outcome, ports_of};
 ghost use Rattle.ivy_service.specs.Service.{Goes, HasServed, Serves, keepers_of, service_of, serving_line, status_refused, status_served, status_untold};
 
-use crate::opening::open;
+use crate::opening::{Opened, open};
 use agent_gate::{Closed, Gate};
 use hss_keys::Hss;
 use ivy_agent::Agent;
 use ivy_base::{Bytes, Memory, Moment};
 use ivy_io::{Clock, Keeper, Keepers, OpenFault, Ports, Sink, SinkFault, write_all};
 use ivy_serving::{LinksServed, ServeFault, serve_links};
-use ring_run::LiveRing;
+use ring_run::{LiveRing, RememberedKey, Verdicts};
 use std::alloc::Global;
 use std::sync::Wait;
 use std::thread::Threads;
@@ -90,11 +90,11 @@ fn moment<C: Clock>(clock: &mut C) -> Moment
 fn serve_behind_gate<R: Threads + Wait + Sync, K: Keeper + Drop + Send, P: Ports + Send, C: Clock>(
     rt: &R,
     alloc: Global,
-    agent: Agent<K, Hss>,
+    agent: Agent<K, RememberedKey>,
     ring: &LiveRing,
     clock: &C,
     ports: &mut P,
-) -> Option<(Agent<K, Hss>, u8)>
+) -> Option<(Agent<K, RememberedKey>, u8)>
     requires ring { ring.now ≡ new_ring 5 3 }
     requires view { IsSomeAnd agent.agent.view (λ view. Unit {0}) }
     ensures none { IsNone result → ports.new ≡ ports.old }
@@ -121,8 +121,8 @@ fn serve_behind_gate<R: Threads + Wait + Sync, K: Keeper + Drop + Send, P: Ports
     }
 }
 
-/// Asks the ports to listen, tells the sink of the port, and serves the links of the ports with the agent. The agent is none where
-/// memory was wanting for its gate.
+/// Asks the ports to listen, tells the sink of the port, and serves the links of the ports with the agent, over a ring with these
+/// verdicts. The agent is none where memory was wanting for its gate.
 fn serve_agent<
     R: Threads + Wait + Sync,
     W: Sink,
@@ -132,12 +132,13 @@ fn serve_agent<
 >(
     rt: &R,
     alloc: Global,
-    agent: Agent<K, Hss>,
+    agent: Agent<K, RememberedKey>,
+    verdicts: Verdicts,
     port: u16,
     sink: &mut W,
     clock: &C,
     ports: &mut P,
-) -> (Option<Agent<K, Hss>>, u8)
+) -> (Option<Agent<K, RememberedKey>>, u8)
     requires view { IsSomeAnd agent.agent.view (λ view. Unit {0}) }
     ensures { Serves (ports_of P.links P.faults P.ends P.gives P.takes)
         (serving_of (kind_of hss IsSigner K.saves) (ends_of P.Reads.left P.Writes.contents P.Reads.faults P.Writes.faults) C.gives) C.moment
@@ -145,7 +146,7 @@ fn serve_agent<
         result.0 result.1 (record { ports = ports.new; held = W.contents sink.new; writes = W.faults sink.new }) }
 {
     let (Ok(ring), Ok(line)) = (
-        LiveRing::make(rt, alloc, NODES, REPLICAS),
+        LiveRing::make_with(rt, alloc, NODES, REPLICAS, verdicts),
         line_of(alloc, port),
     ) else {
         return (Some(agent), STATUS_MEMORY);
@@ -193,8 +194,8 @@ pub fn serve<R: Threads + Wait + Sync, W: Sink, C: Clock, P: Ports + Send, N: Ke
     };
     let moment = moment(clock);
     match open(alloc, keeper, signer, moment) {
-        Ok(agent) => {
-            let (agent, status) = serve_agent(rt, alloc, agent, port, sink, clock, ports);
+        Ok(Opened { agent, verdicts }) => {
+            let (agent, status) = serve_agent(rt, alloc, agent, verdicts, port, sink, clock, ports);
             if let Some(agent) = agent {
                 keepers.give_back(name, agent.into_keeper());
             }

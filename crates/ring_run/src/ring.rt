@@ -5,10 +5,11 @@ ghost use Rattle.std.specs.List.Sorted.{IsStrictlyIncreasing};
 ghost use Rattle.dht_ids.specs.Asked.{IsAnswerTo};
 ghost use Rattle.dhash_model.specs.Signed.{hss_judged};
 
+use crate::remembering::RememberingJudge;
 use crate::seat::{Seat, peers_of, seat_of, seats_of};
+use crate::verdicts::Verdicts;
 use dht_ids::{Answer, Ask, Peer, Peers};
 use ivy_base::Memory;
-use log_heads::HssJudge;
 use ring_nodes::settled_nodes;
 use std::alloc::Global;
 use std::marker::Model;
@@ -21,6 +22,8 @@ pub struct LiveRing {
     /// By number.
     pub(crate) made: Vec<Peer>,
     pub(crate) live: Vec<Seat>,
+    /// What the nodes know of signatures. No contract sees it.
+    verdicts: Verdicts,
 }
 
 /// One function, so that whatever drops a ring calls it and isn't proved over all of its parts once more.
@@ -30,6 +33,7 @@ impl Drop for LiveRing {
             replicas: _,
             made: _,
             live: _,
+            verdicts: _,
         } = self;
     }
 }
@@ -50,7 +54,23 @@ impl LiveRing {
 
     /// The settled ring of nodes 0 to `count` - 1, at most 256, of which `replicas`, 1 to 8, own a key. A node whose
     /// identifier was made before is left out. It waits for nothing. The error is want of memory.
-    pub fn make<R>(_rt: &R, alloc: Global, count: u32, replicas: u32) -> Result<LiveRing, Memory>
+    pub fn make<R>(rt: &R, alloc: Global, count: u32, replicas: u32) -> Result<LiveRing, Memory>
+        requires count { (1 ≤ count) × (count ≤ 256) }
+        requires few { (1 ≤ replicas) × (replicas ≤ 8) }
+        ensures { IfOk result (λ ring. ring ≡ new_ring count replicas) }
+    {
+        LiveRing::make_with(rt, alloc, count, replicas, Verdicts::new(alloc)?)
+    }
+
+    /// As [`LiveRing::make`], with nodes that have these verdicts, which whoever publishes may share: what a
+    /// [`RememberedKey`](crate::RememberedKey) signs they needn't verify. The error is want of memory.
+    pub fn make_with<R>(
+        _rt: &R,
+        alloc: Global,
+        count: u32,
+        replicas: u32,
+        verdicts: Verdicts,
+    ) -> Result<LiveRing, Memory>
         requires count { (1 ≤ count) × (count ≤ 256) }
         requires few { (1 ≤ replicas) × (replicas ≤ 8) }
         ensures { IfOk result (λ ring. ring ≡ new_ring count replicas) }
@@ -61,6 +81,7 @@ impl LiveRing {
             replicas,
             made,
             live,
+            verdicts,
         })
     }
 
@@ -83,8 +104,11 @@ impl LiveRing {
         ensures gives { IfOk result (Gives hss_judged self.now node.now ask.now) }
         ensures form { IfOk result (IsAnswerTo ask.now) }
     {
+        let judge = RememberingJudge {
+            verdicts: &self.verdicts,
+        };
         match seat_of(&self.live, node) {
-            Some(seat) => seat.node.lock(rt).answer(alloc, &HssJudge, ask),
+            Some(seat) => seat.node.lock(rt).answer(alloc, &judge, ask),
             None => Ok(Answer::Silent),
         }
     }

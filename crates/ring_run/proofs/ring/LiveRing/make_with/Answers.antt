@@ -2,7 +2,7 @@ use Rattle.std.proofs.Common.{map}
 use Rattle.world_model.specs.Ring.{first_peers, in_ring_order}
 use Rattle.ring_run.proofs.Numbers.{new_is_live}
 use Rattle.ring_run.proofs.Seats.{made_first}
-use Rattle.ring_run.proofs.ring.LiveRing.make.Goals as goal
+use Rattle.ring_run.proofs.ring.LiveRing.make_with.Goals as goal
 
 pub invariant_of-result : goal.invariant_of-result
 invariant_of-result g c =
