@@ -8,6 +8,8 @@ from remote import HOST, NFS, NULL, READ, Closed, Link, Neighbour, call, fragmen
 from served import Server
 
 NEIGHBOUR_SECONDS = 10
+# How long a server may wait at its end for a client that doesn't read: some writes of 30 seconds, until one sends nothing. It took 97 s.
+STUCK_SECONDS = 150
 # A message is 65,536 bytes at most, and 16 links are served at once.
 MOST_MESSAGE, MOST_LINKS = 65_536, 16
 
@@ -249,19 +251,17 @@ def outside(program, say):
     return wrong
 
 
-def ends(program, say, what, open_links):
-    """A server whose standard input ends while links are open. It ends then, or once one of them goes, and says with status 0."""
+def ends(program, say, what, open_links, within=5):
+    """A server whose standard input ends while links are open, which stay open. It ends so many seconds later at most, with status 0."""
     with Server(program, sets="w4h10") as server:
         links = open_links(server.wait_until_serving().port)
         server.process.stdin.close()
+        begun = time.monotonic()
         try:
-            how = f"it ends at once with status {server.status(5)}"
+            status = server.status(within)
+            how = f"it ends after {time.monotonic() - begun:.1f} s with status {status}"
         except subprocess.TimeoutExpired:
-            links[0].close()
-            try:
-                how = f"it ends once a link goes, with status {server.status(20)}"
-            except subprocess.TimeoutExpired:
-                how = "it doesn't end, though a link goes"
+            how = f"it doesn't end within {within} s"
         for link in links:
             link.close()
         say(f"  {what}: {how}")
@@ -278,7 +278,7 @@ def silent(port, count):
 def end_of_input(program, say):
     wrong = ends(program, say, "the end with a silent link and half a message", lambda port: silent(port, 2) + [half_sent(port)])
     wrong += ends(program, say, "the end with 16 silent links", lambda port: silent(port, MOST_LINKS))
-    return wrong + ends(program, say, "the end with a client that doesn't read", lambda port: [stuck(port)])
+    return wrong + ends(program, say, "the end with a client that doesn't read", lambda port: [stuck(port)], within=STUCK_SECONDS)
 
 
 def half_sent(port):

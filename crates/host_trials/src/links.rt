@@ -7,7 +7,7 @@ use ivy_io::{OpenFault, Ports, Sink, Source, StdSink, write_all};
 use std::alloc::Global;
 use std::io::{Read, Write};
 use std::net::{Ipv4Addr, Net, SocketAddr, TcpListener, TcpStream};
-use std::sync::Arc;
+use std::sync::{Arc, Wait};
 use std::thread::Threads;
 use std::{io, str, thread};
 
@@ -23,13 +23,13 @@ const GOODBYE: &str = "goodbye from the server";
 /// A link of the ports.
 type Link = (TcpSource, StdSink<TcpStream>);
 
-/// What the server met: what it read, whether it then came to the end of the ports and of the link, and the link, which is
+/// What the server met: what it read, whether it then came to the end of the link and of the ports, and the link, which is
 /// still open at this end.
 #[derive(Drop)]
 struct Served {
     bytes: Vec<u8>,
-    ports_ended: bool,
     link_ended: bool,
+    ports_ended: bool,
     link: Option<Link>,
 }
 
@@ -46,22 +46,23 @@ fn read_some<S: Source>(alloc: Global, source: &mut S, count: usize) -> io::Resu
     Ok(bytes)
 }
 
-/// Serves one link: reads and replies, waits for the end, reads on, replies again, and hangs up.
+/// Serves one link: reads and replies, reads on to the end, asks for a further link, replies again, and hangs up. So the
+/// link comes to its end while nobody asks for a further one.
 fn serve<P: Ports<Reads = TcpSource, Writes = StdSink<TcpStream>>>(
     ports: &mut P,
     alloc: Global,
 ) -> io::Result<Served> {
     let mut served = Served {
         bytes: Vec::new(alloc),
-        ports_ended: false,
         link_ended: false,
+        ports_ended: false,
         link: None,
     };
     if let Ok(Some((mut reads, mut writes))) = ports.accept(alloc) {
         served.bytes = read_some(alloc, &mut reads, HELLO.len())?;
         let _ = write_all(&mut writes, WELCOME.as_bytes());
-        served.ports_ended = matches!(ports.accept(alloc), Ok(None));
         served.link_ended = matches!(reads.read(&mut [0u8]), Ok(0));
+        served.ports_ended = matches!(ports.accept(alloc), Ok(None));
         let _ = write_all(&mut writes, GOODBYE.as_bytes());
         P::hang_up(&reads, &writes);
         served.link = Some((reads, writes));
@@ -79,7 +80,11 @@ fn greet<R: Net<Stream = TcpStream>>(rt: &R, port: u16) -> io::Result<TcpStream>
 }
 
 /// Greets the server, has it end, and reads until it hangs up.
-fn connect<R: Net<Stream = TcpStream>>(rt: &R, alloc: Global, stop: &Stop) -> io::Result<Vec<u8>> {
+fn connect<R: Net<Stream = TcpStream> + Wait>(
+    rt: &R,
+    alloc: Global,
+    stop: &Stop,
+) -> io::Result<Vec<u8>> {
     let stream = greet(rt, stop.port().unwrap_or(0));
     stop.set(rt);
     let mut bytes = Vec::new(alloc);
@@ -95,7 +100,7 @@ fn at_both_ends<R, P>(
     stop: &Stop,
 ) -> ((P, io::Result<Served>), io::Result<Vec<u8>>)
 where
-    R: Net<Stream = TcpStream> + Threads + Sync,
+    R: Net<Stream = TcpStream> + Threads + Wait + Sync,
     P: Ports<Reads = TcpSource, Writes = StdSink<TcpStream>> + Drop + Send,
 {
     thread::join(
@@ -114,8 +119,8 @@ where
 /// Says what both ends of the link met.
 fn tell<R: Print>(rt: &R, served: &Served, received: &Vec<u8>) -> io::Result<()> {
     println!(rt; "server read: {}", text_of(&served.bytes))?;
-    println!(rt; "then the end of the ports: {}", served.ports_ended)?;
     println!(rt; "then the end of the link: {}", served.link_ended)?;
+    println!(rt; "then the end of the ports: {}", served.ports_ended)?;
     println!(rt; "client read: {}", text_of(received))
 }
 
@@ -133,9 +138,15 @@ fn give_back<P: Ports<Reads = TcpSource, Writes = StdSink<TcpStream>>>(
 /// Puts a link to trial, and ports that are to end before they listen.
 pub fn put_to_trial<R>(rt: &R, alloc: Global) -> io::Result<()>
 where
-    R: Net<Listener = TcpListener, Stream = TcpStream> + Threads + Print + Copy + Send + Sync,
+    R: Net<Listener = TcpListener, Stream = TcpStream>
+        + Threads
+        + Wait
+        + Print
+        + Copy
+        + Send
+        + Sync,
 {
-    let stop = Arc::new(alloc, Stop::new())?;
+    let stop = Arc::new(alloc, Stop::new(alloc))?;
     let mut ports = TcpPorts::new(*rt, alloc, Arc::try_clone(&stop)?);
     let _ = ports.listen(alloc, 0);
     let ((mut ports, served), received) = at_both_ends(rt, alloc, ports, &stop);

@@ -7,9 +7,10 @@
 //!   saves; that the name isn't given twice; what a keeper says of a save whose folder is gone, and that its failure is
 //!   counted where it is given back;
 //! - of the clock: whether it is beyond the year 2020;
-//! - of a link, with both ends in threads of their own: what the server read; that it came to the end of the ports and then
-//!   of the link, though the client was still there; what the client read until the server hung up, without letting the
-//!   link go; the link's number. Then whether ports listen that are to end, and what they give.
+//! - of a link, with both ends in threads of their own: what the server read; that the link came to its end, though the
+//!   client was still there and nobody asked the ports for a further link, and then the ports to theirs; what the client
+//!   read until the server hung up, without letting the link go; the link's number. Then whether ports listen that are to
+//!   end, and what they give.
 #![tactic(auto)]
 
 mod files;

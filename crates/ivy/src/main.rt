@@ -5,11 +5,12 @@
 //! clauses of `run` speak of the bytes of a source and a sink, and the stored run shows them.
 //!
 //! What is outside is that of `ivy_host`: the host's clock, links of a TCP port of the loopback, and files of the folder that
-//! the program runs in. Nothing of it is asked for by the words `play` and `load`; `crowd` asks for the clock alone.
+//! the program runs in. Nothing of it is asked for by the words `play`, `load` and `fork`; `crowd` asks for the clock alone.
 //!
 //! Where the first word is `serve`, a thread reads standard input to its end, or until a read fails, and then has the ports end
-//! ([`Stop::set`]). So `serve` ends at the end of standard input. For other words no thread is started here. The thread isn't
-//! joined: where `serve` ends by itself, as on a port in use, the program ends though its input goes on.
+//! ([`Stop::set`]), and with them each link that is out. So `serve` ends at the end of standard input, also while it has as
+//! many links as it serves at once. For other words no thread is started here. The thread isn't joined: where `serve` ends by
+//! itself, as on a port in use, the program ends though its input goes on.
 #![tactic(auto)]
 
 use ivy_base::Memory;
@@ -20,7 +21,7 @@ use std::alloc::Global;
 use std::io::{ErrorKind, Input};
 use std::net::Net;
 use std::process::ExitCode;
-use std::sync::Arc;
+use std::sync::{Arc, Wait};
 use std::{env, thread};
 
 /// The status of a program for which memory was wanting.
@@ -47,7 +48,7 @@ fn may_ask_service(words: &[String]) -> bool {
 }
 
 /// Reads standard input to its end, or until a read fails, and has the server end then.
-fn stop_at_end<R: Input + Net>(rt: &R, stop: &Stop) {
+fn stop_at_end<R: Input + Net + Wait>(rt: &R, stop: &Stop) {
     let mut source = StdSource::new(rt.reader());
     let mut chunk = [0u8; CHUNK];
     for _ in 0..u64::MAX {
@@ -61,7 +62,7 @@ fn stop_at_end<R: Input + Net>(rt: &R, stop: &Stop) {
 
 /// The end of a server, for its ports and for a thread. The error is want of memory.
 fn stops(alloc: Global) -> Result<(Arc<Stop>, Arc<Stop>), Memory> {
-    let stop = Arc::new(alloc, Stop::new())?;
+    let stop = Arc::new(alloc, Stop::new(alloc))?;
     let theirs = Arc::try_clone(&stop)?;
     Ok((stop, theirs))
 }

@@ -9,7 +9,8 @@
 //! - [`FileKeeper`] has a file that it made, and [`DirKeepers`] such keepers by name, none where the file exists already.
 //!   A save writes another file and renames it, so what is kept is always one of the saved bytes, whole. It doesn't wait
 //!   until the disk has them.
-//! - [`TcpPorts`] numbers its links and knows which are out. A [`Stop`] that other threads share ends it.
+//! - [`TcpPorts`] numbers its links and knows which are out. A [`Stop`] that other threads share ends it, and each link that
+//!   is out. A write on a link waits for 30 seconds at most, and fails where nothing of it could be taken by then.
 //!
 //! Definitions: `specs/Files.antt` (what keepers over files are seen as, and which names they take), and `specs/Tcp.antt`
 //! (what the ports are seen as, and which link may be given).

@@ -1,10 +1,11 @@
 //! Links of a TCP port of the loopback.
 
-ghost use Rattle.std.specs.Prelude.{◌≡◌, ◌≤◌, [], None, Some, IfOk, IfErr, OnErr, OnOk, map};
+ghost use Rattle.std.specs.Prelude.{◌≡◌, ◌≤◌, [], None, Some, IfOk, IfErr, OnErr, OnOk};
 ghost use Rattle.ivy_io.specs.Faults.{EndsCount, Refuses};
 ghost use Rattle.ivy_host.specs.Tcp.{GivesLink, after_end, after_refusal, others_than, without};
 
 use crate::fault::open_fault;
+use crate::stop::OutLink;
 use crate::{Stop, TcpSource};
 use ivy_io::{OpenFault, Ports, StdSink};
 use std::alloc::Global;
@@ -12,16 +13,13 @@ use std::io;
 use std::io::ErrorKind;
 use std::marker::Model;
 use std::net::{Ipv4Addr, Net, Shutdown, SocketAddr, TcpListener, TcpStream};
-use std::sync::Arc;
+use std::sync::{Arc, Wait};
+use std::time::Duration;
 
-/// A link that was given and didn't come back.
-#[derive(Drop)]
-struct OutLink {
-    number: u64,
-    stream: TcpStream,
-}
+/// How many seconds a write waits for who is at the other end to take something, before it fails.
+const WRITE_SECONDS: u64 = 30;
 
-/// Three handles of one link: for its source, for its sink, and for the ports themselves.
+/// Three handles of one link: for its source, for its sink, and for the shared [`Stop`].
 #[derive(Drop)]
 struct Handles {
     reads: TcpStream,
@@ -31,24 +29,27 @@ struct Handles {
 
 /// Links of a TCP port of the loopback, each with a number of its own. There is no further one exactly where the shared
 /// [`Stop`] is set. The links that are out come to their end then, behind what has come by then, and their replies still go.
+///
+/// A write on a link waits for 30 seconds at most, and fails where nothing of it could be taken by then. So who doesn't read
+/// doesn't hold a link for ever: what is left behind a part that could be taken waits anew, and then fails.
 #[derive(Drop)]
 pub struct TcpPorts<R> {
     rt: R,
     stop: Arc<Stop>,
     listener: Option<TcpListener>,
-    out: Vec<OutLink>,
+    /// The numbers of the links that are out. The stop has their streams.
+    out: Vec<u64>,
     given: u64,
     faults: u64,
     ends: u64,
 }
 
 impl<R> Model for TcpPorts<R> {
-    ghost use Rattle.std.specs.Prelude.{map};
     ghost use Rattle.ivy_host.specs.Tcp.{TcpState};
 
     ghost Value = { TcpState };
 
-    ghost view = { λ p. record { given = p.given; out = map (λ link. link.number) p.out.items; faults = p.faults; ends = p.ends } };
+    ghost view = { λ p. record { given = p.given; out = p.out.items; faults = p.faults; ends = p.ends } };
 }
 
 impl<R> TcpPorts<R> {
@@ -79,16 +80,12 @@ impl<R> TcpPorts<R> {
         fault
     }
 
-    /// Counts an end. From then on nobody can connect, and the links that are out come to their end.
+    /// Counts an end. From then on nobody can connect. Who set the stop ends the links that are out.
     fn end(&mut self)
         ensures counts { self.new ≡ after_end self.old }
         ensures never_falls { self.old.ends ≤ self.new.ends }
     {
         self.listener = None;
-        for link in self.out.iter() {
-            // A link that can't be shut has been shut by who is at its other end.
-            let _ = link.stream.shutdown(Shutdown::Read);
-        }
         self.ends = self.ends.saturating_add(1);
     }
 
@@ -105,7 +102,9 @@ impl<R> TcpPorts<R> {
             None => Ok(None),
         }
     }
+}
 
+impl<R: Wait> TcpPorts<R> {
     /// Gives a link. The error is want of memory, and then nothing has changed.
     fn lend(&mut self, link: Handles) -> Result<(TcpSource, StdSink<TcpStream>), OpenFault>
         ensures ok { IfOk result (λ given. GivesLink self.old (Some given) self.new) }
@@ -118,19 +117,23 @@ impl<R> TcpPorts<R> {
             kept,
         } = link;
         let number = self.given;
+        if self.out.reserve(1).is_err() {
+            return Err(OpenFault::Memory);
+        }
         let out = OutLink {
             number,
             stream: kept,
         };
-        if self.out.push(out).is_err() {
+        if self.stop.lend(&self.rt, out).is_err() {
             return Err(OpenFault::Memory);
         }
+        self.out.push_reserved(number);
         self.given = number.saturating_add(1);
         Ok((TcpSource::of(reads, number), StdSink::new(writes)))
     }
 }
 
-impl<R: Net<Listener = TcpListener, Stream = TcpStream>> Ports for TcpPorts<R> {
+impl<R: Net<Listener = TcpListener, Stream = TcpStream> + Wait> Ports for TcpPorts<R> {
     type Reads = TcpSource;
 
     type Writes = StdSink<TcpStream>;
@@ -194,7 +197,8 @@ impl<R: Net<Listener = TcpListener, Stream = TcpStream>> Ports for TcpPorts<R> {
 
     fn give_back(&mut self, reads: TcpSource, _writes: StdSink<TcpStream>) {
         let number = reads.number();
-        drop_link(&mut self.out, number);
+        self.stop.take_back(&self.rt, number);
+        drop_number(&mut self.out, number);
     }
 }
 
@@ -226,10 +230,11 @@ fn next_stream(listener: &TcpListener, stop: &Stop) -> io::Result<Option<TcpStre
     Err(io::Error::from(ErrorKind::Interrupted))
 }
 
-/// Three handles of a link, which sends each reply at once.
+/// Three handles of a link, which sends each reply at once, and whose writes fail where nobody takes them.
 fn handles_of(stream: TcpStream) -> io::Result<Handles> {
     // A link that doesn't is slower, and nothing else.
     let _ = stream.set_nodelay(true);
+    stream.set_write_timeout(Some(Duration::from_secs(WRITE_SECONDS)))?;
     Ok(Handles {
         writes: stream.try_clone()?,
         kept: stream.try_clone()?,
@@ -237,9 +242,9 @@ fn handles_of(stream: TcpStream) -> io::Result<Handles> {
     })
 }
 
-/// Lets the link of that number go.
-fn drop_link(links: &mut Vec<OutLink>, number: u64)
-    ensures { map (λ link. link.number) links.new.items ≡ others_than number (map (λ link. link.number) links.old.items) }
+/// Lets that number go.
+fn drop_number(numbers: &mut Vec<u64>, number: u64)
+    ensures { numbers.new.items ≡ others_than number numbers.old.items }
 {
-    links.retain(|link| link.number != number);
+    numbers.retain(|other| *other != number);
 }
