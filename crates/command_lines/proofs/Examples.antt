@@ -177,6 +177,10 @@ work : command_of (codes "work a") ≡ Some (command.Show (shown.Work (codes "a"
 unfolding command_of
 work = refl
 
+conflicts : command_of (codes "conflicts a") ≡ Some (command.Show (shown.Conflicts (codes "a")))
+unfolding command_of
+conflicts = refl
+
 -- ---- lines
 
 end : command_of (codes "end") ≡ Some command.End

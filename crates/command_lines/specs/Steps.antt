@@ -6,7 +6,8 @@ use Rattle.script_model.specs.declared.command.Piece.TheVariants as piece
 use Rattle.script_model.specs.declared.command.KeyWord.{KeyWord}
 use Rattle.script_model.specs.declared.command.Command.{Command}
 use Rattle.script_model.specs.declared.command.Command.TheVariants as command
-use Rattle.script_model.specs.Words.{names_of, parts_at, number_below, of_number, text_of, opaque_of, of_raw, each_of, piece_of, key_of, key_of_parts}
+use Rattle.script_model.specs.Words.{names_of, parts_at, number_below, of_number, text_of, opaque_of, of_raw, each_of, piece_of, key_of}
+use Rattle.script_model.specs.Words.{key_of_parts}
 use Rattle.command_lines.specs.declared.pieces.Short.{Short}
 use Rattle.command_lines.specs.declared.pieces.Short.TheVariants as short
 use Rattle.command_lines.specs.declared.pieces.Long.{Long}
@@ -72,3 +73,4 @@ command_asked Finish = command.Finish
 abbrev pub shown_asked : ShownAsked → List ℕ → Shown
 shown_asked asks.Order = shown.Order
 shown_asked asks.Work = shown.Work
+shown_asked asks.Conflicts = shown.Conflicts

@@ -19,6 +19,8 @@ enum ShownAsked {
     Order,
     /// `work P`.
     Work,
+    /// `conflicts P`.
+    Conflicts,
 }
 
 /// What is shown of a participant, of the words behind the first: its name alone. The error is want of memory.
@@ -35,6 +37,7 @@ fn of_log(alloc: Global, asked: ShownAsked, words: &[&[u8]]) -> Result<Option<Sh
     Ok(Some(match asked {
         ShownAsked::Order => Shown::Order { log },
         ShownAsked::Work => Shown::Work { log },
+        ShownAsked::Conflicts => Shown::Conflicts { log },
     }))
 }
 
@@ -58,6 +61,8 @@ fn shown(alloc: Global, word: &[u8], words: &[&[u8]]) -> Result<Option<Shown>, M
         of_log(alloc, ShownAsked::Order, words)
     } else if is(word, b"work") {
         of_log(alloc, ShownAsked::Work, words)
+    } else if is(word, b"conflicts") {
+        of_log(alloc, ShownAsked::Conflicts, words)
     } else {
         Ok(None)
     }

@@ -13,7 +13,7 @@ use Rattle.log_records.specs.declared.record.Record as kept
 use Rattle.log_records.specs.Records.{record_of, records_of}
 use Rattle.conflict_list.specs.declared.logs.Log.{Log}
 use Rattle.conflict_list.specs.declared.marked.Marked.{Marked}
-use Rattle.conflict_list.specs.Conflicts.{are_concurrent, in_conflict, knows, touch}
+use Rattle.log_model.specs.Conflicts.{are_concurrent, in_conflict, knows, touch}
 use Rattle.conflict_list.specs.Marks.{looks, marks}
 use Rattle.conflict_list.specs.Numbers.{looked_up, number, numbers_of}
 use Rattle.conflict_list.specs.Order.{marked, order, order_of}

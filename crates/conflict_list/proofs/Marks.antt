@@ -12,7 +12,7 @@ use Rattle.std.proofs.lemmas.Bool.{eqb-true}
 use Rattle.std.proofs.lemmas.Bool.Decides.{leb_tells}
 use Rattle.tree_model.proofs.Sound.{both_true}
 use Rattle.conflict_list.proofs.Shared.{in_both, meet}
-use Rattle.conflict_list.specs.Touching.{Span, overlap, places, share_bytes, share_entry, span, spans_overlap}
+use Rattle.log_model.specs.Touching.{Span, overlap, places, share_bytes, share_entry, span, spans_overlap}
 use Rattle.conflict_list.specs.Marks.{Mark, Cut, Entry, Page, Written, all_bytes, both_pages, cut, looks, marks, page, pages}
 
 in_entries : (ps : List Place) (p : Place) → Contains ps p → Contains (map Entry ps) (Entry p)

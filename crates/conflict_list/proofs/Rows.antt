@@ -9,7 +9,8 @@ use Rattle.log_records.specs.Records.{record_of, records_of}
 use Rattle.conflict_list.specs.declared.list.Clash as listed
 use Rattle.conflict_list.specs.declared.list.ListFault.{ListFault}
 use Rattle.conflict_list.specs.declared.list.ListFault.TheVariants as fault
-use Rattle.conflict_list.specs.Conflicts.{Clash, IsTooMany, clash_of, clash_with, clashes, in_conflict, seen, seen_all}
+use Rattle.log_model.specs.Conflicts.{Clash, clash_of, clash_with, clashes, in_conflict}
+use Rattle.conflict_list.specs.Conflicts.{IsTooMany, seen, seen_all}
 use Rattle.conflict_list.specs.Pairs.{HasNoPair, HasNoRow, IsWithPair, IsWithRow, row}
 use Rattle.conflict_list.specs.Tables.{AllAreFound, At}
 use Rattle.conflict_list.proofs.Places.{at_one, at_some, below_or_at}

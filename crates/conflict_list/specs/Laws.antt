@@ -7,8 +7,8 @@ use Rattle.tree_model.specs.Tree.{Place}
 use Rattle.log_model.specs.Closed.{IsAscending}
 use Rattle.log_model.specs.Record.{Record}
 use Rattle.log_model.specs.Rank.{record_cmp, rank_cmp}
-use Rattle.conflict_list.specs.Touching.{Span, places, share_entry, span, share_bytes, is_within}
-use Rattle.conflict_list.specs.Conflicts.{Clash, clashes, clash_of, are_concurrent, touch}
+use Rattle.log_model.specs.Touching.{Span, places, share_entry, span, share_bytes, is_within}
+use Rattle.log_model.specs.Conflicts.{Clash, clashes, clash_of, are_concurrent, touch}
 
 -- two of the records, the first of a smaller rank, that touch one thing while neither knows the other
 pub record IsConflict (records : List Record) (c : Clash) : Type 0 where

@@ -1,4 +1,3 @@
-pub mod Touching
 pub mod Spans
 pub mod Conflicts
 pub mod Laws

@@ -5,7 +5,7 @@ use Rattle.ivy_base.specs.declared.key.Key.{Key}
 use Rattle.ivy_base.specs.declared.operation.Op.{Op}
 use Rattle.ivy_base.specs.declared.operation.Op.TheVariants as op
 use Rattle.tree_model.specs.Tree.{Place}
-use Rattle.conflict_list.specs.Touching.{places}
+use Rattle.log_model.specs.Touching.{places}
 
 -- a name in a directory; so many bytes of a file; any bytes of it that are written; or its size
 pub data Mark : Type 0 where

@@ -4,7 +4,8 @@ use Rattle.std.specs.List.{flat_map}
 use Rattle.log_records.specs.declared.record.Record as kept
 use Rattle.log_records.specs.Records.{record_of, records_of}
 use Rattle.conflict_list.specs.declared.list.ListFault.{ListFault}
-use Rattle.conflict_list.specs.Conflicts.{Clash, IsTooMany, clash_with}
+use Rattle.log_model.specs.Conflicts.{Clash, clash_with}
+use Rattle.conflict_list.specs.Conflicts.{IsTooMany}
 use Rattle.conflict_list.specs.Tables.{At}
 
 abbrev pub IsWithPair : List kept.Record → ℕ → ℕ → List Clash → List Clash → Type 0

@@ -8,7 +8,7 @@ use Rattle.log_records.specs.declared.record.Record as kept
 use Rattle.log_records.specs.Records.{record_of}
 use Rattle.conflict_list.specs.declared.logs.Log.{Log}
 use Rattle.conflict_list.specs.declared.marked.Marked.{Marked}
-use Rattle.conflict_list.specs.Conflicts.{knows, in_conflict}
+use Rattle.log_model.specs.Conflicts.{knows, in_conflict}
 use Rattle.conflict_list.specs.Numbers.{numbers_of}
 use Rattle.conflict_list.specs.Order.{marked}
 

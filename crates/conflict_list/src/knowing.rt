@@ -6,7 +6,7 @@ ghost use Rattle.log_model.specs.Rank.{full_vector};
 ghost use Rattle.log_model.specs.Spelling.{HasSpelling};
 ghost use Rattle.log_model.specs.Vector.{seq_of, stamp_at};
 ghost use Rattle.log_records.specs.Records.{record_of};
-ghost use Rattle.conflict_list.specs.Conflicts.{are_concurrent, knows};
+ghost use Rattle.log_model.specs.Conflicts.{are_concurrent, knows};
 ghost use Rattle.conflict_list.specs.Tables.{Grows};
 
 use ivy_base::Key;

@@ -19,8 +19,9 @@
 //!   first that knows the record, as those behind know it too. Where some log forgets, it goes through all.
 //! - `list` tests what was found, in order, and makes the list.
 //!
-//! Definitions: `specs/Touching.antt` (what operations touch), `specs/Conflicts.antt` (knowing, and the
-//! list), `specs/Laws.antt` (the laws). All other files of `specs/` serve the functions inside.
+//! Definitions: `log_model`'s `specs/Touching.antt` (what operations touch) and `specs/Conflicts.antt`
+//! (knowing, and the list); here `specs/Conflicts.antt` (lists as the code gives them) and `specs/Laws.antt`
+//! (the laws). All other files of `specs/` serve the functions inside.
 //!
 //! Costs, for n records of l logs: the records under their numbers, at most three each, are sorted. Then for
 //! each number under which a record looks there are 2 log n steps, l log n more among the records under it,

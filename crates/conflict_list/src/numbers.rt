@@ -5,7 +5,7 @@ ghost use Rattle.tree_model.specs.Tree.{longest_file};
 ghost use Rattle.log_model.specs.Spelling.{OperationFits};
 ghost use Rattle.conflict_list.specs.Marks.{Entry, all_bytes, cut, pages};
 ghost use Rattle.conflict_list.specs.Numbers.{file_number, looked_up, number, numbers_of, stirred, stirred_all};
-ghost use Rattle.conflict_list.specs.Touching.{places};
+ghost use Rattle.log_model.specs.Touching.{places};
 
 use ivy_base::{Key, Memory, Op};
 

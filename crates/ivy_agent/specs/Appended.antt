@@ -51,22 +51,26 @@ AppendedFront = (own : PubKey) (now : Moment) (s : List Record) (ops : List Op)
 -- So has the front of what is held.
 abbrev pub HeldFront : Type 0
 HeldFront = (own : PubKey) (now : Moment) (h : Holding) (ops : List Op) → IsTrue (is_sorted key_cmp (joined h))
-    → joined (with_held h (written_over own now (joined h) ops)) ≡ with_newest own (newest_stamp (written_over own now (joined h) ops)) (joined h)
+    → joined (with_held h (written_over own now (joined h) ops))
+    ≡ with_newest own (newest_stamp (written_over own now (joined h) ops)) (joined h)
 
 -- The newest of some records is the last one.
 abbrev pub NewestIsLast : Type 0
-NewestIsLast = (records : List Record) (t : Stamp) → newest_stamp records ≡ Some t → (before : List Record) × (last : Record) × (records ≡ before ++ last ∷ []) × ((own_entry last).1 ≡ t)
+NewestIsLast = (records : List Record) (t : Stamp) → newest_stamp records ≡ Some t
+    → (before : List Record) × (last : Record) × (records ≡ before ++ last ∷ []) × ((own_entry last).1 ≡ t)
 
 -- It has the number to which the own log goes then.
 abbrev pub NewestIsReached : Type 0
-NewestIsReached = (own : PubKey) (now : Moment) (f : Vector) (ops : List Op) (t : Stamp) → newest_stamp (written_over own now f ops) ≡ Some t
+NewestIsReached = (own : PubKey) (now : Moment) (f : Vector) (ops : List Op) (t : Stamp)
+    → newest_stamp (written_over own now f ops) ≡ Some t
     → (t.seq ≡ seq_of f (head_key_of own) + length ops) × (1 ≤ length ops)
 
 -- ---- the records, whether or not names tell apart
 
 -- What is to be written for a call on a tree may be written behind that number.
 abbrev pub WritesMayStand : Type 0
-WritesMayStand = (a : Inputs) (t : Tree) (seq : ℕ) (asked : Asked) (now : Moment) (ops : List Op) → NumbersAreKeys t → IsIdentity asked.caller → ArgumentsFit asked.args → IsMoment now
+WritesMayStand = (a : Inputs) (t : Tree) (seq : ℕ) (asked : Asked) (now : Moment) (ops : List Op) → NumbersAreKeys t
+    → IsIdentity asked.caller → ArgumentsFit asked.args → IsMoment now
     → serve_on a t seq asked now ≡ Writes ops → AllMayBeWritten a.own (seq + 1) ops
 
 -- the front is one that a member of the view may cite
@@ -76,12 +80,14 @@ pub record MayBeCited (view : View) (f : Vector) : Type 0 where
 
 -- Over such a front, in which the own log is begun, the records are good.
 abbrev pub WrittenAreGood : Type 0
-WrittenAreGood = (view : View) (own : PubKey) (now : Moment) (f : Vector) (ops : List Op) → IsView view → MayBeCited view f → IsMoment now → 1 ≤ seq_of f (head_key_of own)
+WrittenAreGood = (view : View) (own : PubKey) (now : Moment) (f : Vector) (ops : List Op) → IsView view → MayBeCited view f → IsMoment now
+    → 1 ≤ seq_of f (head_key_of own)
     → AllMayBeWritten own (seq_of f (head_key_of own) + 1) ops → AllByRecursion (IsGood view own) (written_over own now f ops)
 
 -- With the newest of good records the front may be cited too.
 abbrev pub WithNewestMayBeCited : Type 0
-WithNewestMayBeCited = (view : View) (own : PubKey) (records : List Record) (f : Vector) → Contains view.members own → AllByRecursion (IsGood view own) records → MayBeCited view f
+WithNewestMayBeCited = (view : View) (own : PubKey) (records : List Record) (f : Vector) → Contains view.members own
+    → AllByRecursion (IsGood view own) records → MayBeCited view f
     → MayBeCited view (with_newest own (newest_stamp records) f)
 
 -- The posts of records that have a spelling are under their blocks' names, and short.
@@ -96,20 +102,24 @@ WrittenAreNext = (own : PubKey) (now : Moment) (f : Vector) (ops : List Op)
 
 -- They ascend, and go behind all that is held.
 abbrev pub WrittenGoBehind : Type 0
-WrittenGoBehind = (own : PubKey) (now : Moment) (h : Holding) (ops : List Op) → IsTrue (is_sorted key_cmp (joined h)) → AllByRecursion HasSpelling h.held
+WrittenGoBehind = (own : PubKey) (now : Moment) (h : Holding) (ops : List Op) → IsTrue (is_sorted key_cmp (joined h))
+    → AllByRecursion HasSpelling h.held
     → IsAscending (written_over own now (joined h) ops)
     × AllByRecursion (λ r. AllByRecursion (λ q. IsTrue (is_lt (record_cmp q r))) h.held) (written_over own now (joined h) ops)
 
 -- What is held over the basis's front is closed with them, where it is without.
 abbrev pub WrittenIsClosed : Type 0
-WrittenIsClosed = (view : View) (own : PubKey) (now : Moment) (h : Holding) (ops : List Op) → IsView view → Contains view.members own → IsTrue (is_sorted key_cmp h.basis.front)
+WrittenIsClosed = (view : View) (own : PubKey) (now : Moment) (h : Holding) (ops : List Op) → IsView view → Contains view.members own
+    → IsTrue (is_sorted key_cmp h.basis.front)
     → MayBeCited view (joined h) → over.IsClosed view h.basis.front h.held → IsMoment now → 1 ≤ seq_of (joined h) (head_key_of own)
-    → AllMayBeWritten own (seq_of (joined h) (head_key_of own) + 1) ops → over.IsClosed view h.basis.front (h.held ++ written_over own now (joined h) ops)
+    → AllMayBeWritten own (seq_of (joined h) (head_key_of own) + 1) ops
+    → over.IsClosed view h.basis.front (h.held ++ written_over own now (joined h) ops)
 
 -- ---- the set, where all of it is held
 
 -- The set with what is appended is the one with what is written over what is held, and its replay is the tree that is held then.
 abbrev pub WrittenIsAppended : Type 0
-WrittenIsAppended = (view : View) (own : PubKey) (now : Moment) (s : List Record) (h : Holding) (ops : List Op) → IsClosed view s → HoldsAll view s h → front s ≡ joined h
+WrittenIsAppended = (view : View) (own : PubKey) (now : Moment) (s : List Record) (h : Holding) (ops : List Op) → IsClosed view s
+    → HoldsAll view s h → front s ≡ joined h
     → (s ++ written_over own now (joined h) ops ≡ appended own One now s ops)
     × (kept_tree (with_held h (written_over own now (joined h) ops)) ≡ replay (appended own One now s ops))

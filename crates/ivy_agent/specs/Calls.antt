@@ -26,7 +26,8 @@ pub record Made : Type 0 where
 
 -- Where the turns are told, one that was answered is the newest of them, and one that wasn't is none.
 abbrev pub MadeThen : Option (List Made) → Option (List Made) → Refresh_ → Asked_ → Moment → Result Turned TurnFault → Type 0
-MadeThen old new refresh asked now (Ok turned) = new ≡ option_map (λ made. made ++ record { refresh = refresh; asked = asked; now = now; turned = turned } ∷ []) old
+MadeThen old new refresh asked now (Ok turned) =
+    new ≡ option_map (λ made. made ++ record { refresh = refresh; asked = asked; now = now; turned = turned } ∷ []) old
 MadeThen old new refresh asked now (Err fault) = new ≡ old
 
 -- What a call is: that of an agent in its view to which it may come, and that it may leave so.
@@ -41,7 +42,8 @@ module _ {K S : Type 0} (signs : Signing S) where
     pub stands : IfOk result (λ s. IfSome viewed (λ view. standing_of s ≡ standing_in signs found.agent view))
 
   -- the agent's turn
-  pub record Turns (IsWhole : S → Type 0) (saves : K → List ℕ → Bool → K → Type 0) (comes leaves : Holder K S → Type 0) (viewed : Option View) (brought : Refresh) (asked : Asked) (now : Moment) (result : Result Turned TurnFault) : Type 0 where
+  pub record Turns (IsWhole : S → Type 0) (saves : K → List ℕ → Bool → K → Type 0) (comes leaves : Holder K S → Type 0)
+      (viewed : Option View) (brought : Refresh) (asked : Asked) (now : Moment) (result : Result Turned TurnFault) : Type 0 where
     pub found : Holder K S
     pub after : Holder K S
     pub came : comes found

@@ -22,7 +22,8 @@ abbrev pub kept_with : {S : Type 0} → Kept S → Next S → Kept S
 kept_with k n = record k { signer = n.signer; floor = n.floor; pending = n.pending }
 
 -- These are the new signer and the new posts, once these records are written: the last of them has that number and that name.
-pub record IsSigned {S : Type 0} (signs : Signing S) (k : Kept S) (written : List Record) (newest : Stamp) (signer : S) (pending : List Post) : Type 0 where
+pub record IsSigned {S : Type 0} (signs : Signing S) (k : Kept S) (written : List Record) (newest : Stamp) (signer : S)
+    (pending : List Post) : Type 0 where
   pub next : signer ≡ signs.next k.signer
   pub same_key : signs.key signer ≡ signs.key k.signer
   pub posts : pending ≡ with_posts k.pending written (head_post signs k.signer newest)
@@ -31,7 +32,8 @@ pub record IsSigned {S : Type 0} (signs : Signing S) (k : Kept S) (written : Lis
   pub head : AreOpaque (head_post signs k.signer newest).bytes
 
 -- These are the records of some operations over the front, and what is next with them.
-pub record IsDraft {S : Type 0} (signs : Signing S) (k : Kept S) (front : Vector) (now : Moment) (ops : List Op) (d : Draft S) : Type 0 where
+pub record IsDraft {S : Type 0} (signs : Signing S) (k : Kept S) (front : Vector) (now : Moment) (ops : List Op)
+    (d : Draft S) : Type 0 where
   pub start : List Record
   pub last : Record
   pub written : written_over (own_key signs k.signer) now front ops ≡ start ++ last ∷ []

@@ -27,7 +27,8 @@ agent_after before NotMember = before
 agent_after before (NotNamed log) = before
 agent_after before (KeeperFailed after) = after
 
-module _ {K S : Type 0} (signs : Signing S) (IsWhole : S → Type 0) (saves : K → List ℕ → Bool → K → Type 0) (view : View) (before : Holder K S) where
+module _ {K S : Type 0} (signs : Signing S) (IsWhole : S → Type 0) (saves : K → List ℕ → Bool → K → Type 0) (view : View)
+    (before : Holder K S) where
   -- by whether the save fails: what is answered, the agent, and the keeper; and what is saved may be
   pub record EntersAs (fails : Bool) (answer : Result Unit EnterFault) (after : Holder K S) : Type 0 where
     pub answered : answer ≡ answer_of (entering signs before.agent view fails).0
@@ -64,14 +65,18 @@ module _ {S : Type 0} (signs : Signing S) (view : View) (a : Agent S) where
   MayEnter (Err why) = IsRefused why
 
 -- the agent in the view may be saved, and the save of it left the keeper so
-pub record IsSavedIn {K S : Type 0} (signs : Signing S) (IsWhole : S → Type 0) (saves : K → List ℕ → Bool → K → Type 0) (view : View) (before : Holder K S) (fails : Bool) (after : K) : Type 0 where
+pub record IsSavedIn {K S : Type 0} (signs : Signing S) (IsWhole : S → Type 0) (saves : K → List ℕ → Bool → K → Type 0) (view : View)
+    (before : Holder K S) (fails : Bool) (after : K) : Type 0 where
   pub kept : IsKept signs IsWhole (kept_of (entered before.agent view))
   pub saved : saves before.keeper (kept_bytes signs (kept_of (entered before.agent view))) fails after
 
 -- it is saved in the view and is in it, or the save failed, or memory is wanting
-abbrev pub GoesIn : {K S : Type 0} → Signing S → (S → Type 0) → (K → List ℕ → Bool → K → Type 0) → View → Holder K S → Result Unit EnterFault → Holder K S → Type 0
-GoesIn signs IsWhole saves view before (Ok done) after = (after.agent ≡ entered before.agent view) × IsSavedIn signs IsWhole saves view before false after.keeper
-GoesIn signs IsWhole saves view before (Err fault.Keeper) after = (after.agent ≡ failed before.agent) × IsSavedIn signs IsWhole saves view before true after.keeper
+abbrev pub GoesIn : {K S : Type 0} → Signing S → (S → Type 0) → (K → List ℕ → Bool → K → Type 0) → View → Holder K S
+    → Result Unit EnterFault → Holder K S → Type 0
+GoesIn signs IsWhole saves view before (Ok done) after =
+    (after.agent ≡ entered before.agent view) × IsSavedIn signs IsWhole saves view before false after.keeper
+GoesIn signs IsWhole saves view before (Err fault.Keeper) after =
+    (after.agent ≡ failed before.agent) × IsSavedIn signs IsWhole saves view before true after.keeper
 GoesIn signs IsWhole saves view before (Err fault.Memory) after = after ≡ before
 GoesIn signs IsWhole saves view before (Err fault.NotMember) after = ⊥
 GoesIn signs IsWhole saves view before (Err (fault.NotNamed log)) after = ⊥

@@ -48,8 +48,8 @@ abbrev pub Stands : {S : Type 0} → Signing S → Agent S → Option View → T
 Stands signs a None = StandsOutside a
 Stands signs a (Some view) = StandsIn signs a view
 
--- What holds of an agent, whatever the names of blocks, where its log and the front of what it holds are these. What would be saved of it may be saved, as far
--- as that isn't the signer's own matter.
+-- What holds of an agent, whatever the names of blocks, where its log and the front of what it holds are these. What would be saved of it
+-- may be saved, as far as that isn't the signer's own matter.
 pub record IsSound {S : Type 0} (signs : Signing S) (a : Agent S) (log : Key) (front : Vector) : Type 0 where
   pub its_log : log ≡ head_key_of (own signs a)
   pub its_front : front ≡ joined a.holding

@@ -26,12 +26,16 @@ with_save a fails = record a { has_failed = a.has_failed || fails }
 
 -- Where nothing is written, the turn gives that reply and leaves the set as it is, whatever would become of a save.
 abbrev pub RepliesWhateverIsSaved : Type 0
-RepliesWhateverIsSaved = (a : Inputs) (s : List Record) (asked : Asked) (now : Moment) (reply : Reply) → serve_on a (replay s) (own_seq a.own s) asked now ≡ Replies reply
-    → (turn_on a s asked now ≡ record { reply = reply; set = s }) × ((fails : Bool) → turn_on (with_save a fails) s asked now ≡ record { reply = reply; set = s })
+RepliesWhateverIsSaved = (a : Inputs) (s : List Record) (asked : Asked) (now : Moment) (reply : Reply)
+    → serve_on a (replay s) (own_seq a.own s) asked now ≡ Replies reply
+    → (turn_on a s asked now ≡ record { reply = reply; set = s })
+    × ((fails : Bool) → turn_on (with_save a fails) s asked now ≡ record { reply = reply; set = s })
 
--- Where operations are written, the turn appends them; it is the same with a save that doesn't fail, and with one that fails it says so and leaves the set as it is.
+-- Where operations are written, the turn appends them; it is the same with a save that doesn't fail, and with one that fails it says so and
+-- leaves the set as it is.
 abbrev pub WritesAreSaved : Type 0
-WritesAreSaved = (a : Inputs) (s : List Record) (asked : Asked) (now : Moment) (ops : List Op) → serve_on a (replay s) (own_seq a.own s) asked now ≡ Writes ops
+WritesAreSaved = (a : Inputs) (s : List Record) (asked : Asked) (now : Moment) (ops : List Op)
+    → serve_on a (replay s) (own_seq a.own s) asked now ≡ Writes ops
     → (turn_on a s asked now ≡ turned_by a s asked now (Writes ops))
     × (turn_on (with_save a false) s asked now ≡ turned_by a s asked now (Writes ops))
     × (turn_on (with_save a true) s asked now ≡ record { reply = Refused ServerFault (bare_tail asked.args); set = s })
@@ -48,4 +52,5 @@ pub record IsPlanned (a : Inputs) (t : Tree) (seq : ℕ) (asked : Asked) (now : 
 
 -- What is to be written is planned so.
 abbrev pub WritesArePlanned : Type 0
-WritesArePlanned = (a : Inputs) (t : Tree) (seq : ℕ) (asked : Asked) (now : Moment) (ops : List Op) → serve_on a t seq asked now ≡ Writes ops → IsPlanned a t seq asked now ops
+WritesArePlanned = (a : Inputs) (t : Tree) (seq : ℕ) (asked : Asked) (now : Moment) (ops : List Op)
+    → serve_on a t seq asked now ≡ Writes ops → IsPlanned a t seq asked now ops

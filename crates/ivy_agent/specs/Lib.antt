@@ -20,3 +20,4 @@ pub mod Given
 pub mod Newest
 pub mod Laws
 pub mod Appended
+pub mod Settling

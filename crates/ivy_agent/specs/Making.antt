@@ -21,7 +21,8 @@ pub record IsOpening {S : Type 0} (signs : Signing S) (signer : S) (now : Moment
   pub its_log : o.kept.log ≡ head_key_of (own_key signs signer)
   pub outside : o.kept.view ≡ None
   pub its_floor : o.kept.floor ≡ own_entry (opening (own_key signs signer) now) ∷ []
-  pub posts : o.kept.pending ≡ record_post (opening (own_key signs signer) now) ∷ head_post signs signer (own_entry (opening (own_key signs signer) now)).1 ∷ []
+  pub posts : o.kept.pending ≡ record_post (opening (own_key signs signer) now)
+      ∷ head_post signs signer (own_entry (opening (own_key signs signer) now)).1 ∷ []
   pub spelled : ArePostsSpelled o.kept.pending
   pub no_snapshot : o.kept.snapshot ≡ None
   pub nothing : holding o.engine ≡ nothing_held
@@ -34,8 +35,8 @@ module _ {K S : Type 0} (signs : Signing S) (IsWhole : S → Type 0) (saves : K 
     pub kept : IsKept signs IsWhole (kept_of (opened signs signer now))
     pub saved : saves before (kept_bytes signs (kept_of (opened signs signer now))) fails after
 
-  -- Spent is the answer exactly where nothing is left to sign with. Else the agent opens its log and is saved, or the save fails; or memory is wanting, and the
-  -- keeper stays as it is.
+  -- Spent is the answer exactly where nothing is left to sign with. Else the agent opens its log and is saved, or the save fails; or memory
+  -- is wanting, and the keeper stays as it is.
   abbrev pub Makes : K → S → Moment → Result (Holder K S) (K × MakeFault) → Type 0
   Makes before signer now (Ok h) = (h.agent ≡ opened signs signer now) × IsFirstSave before signer now false h.keeper
   Makes before signer now (Err (after, fault.Spent)) = (signs.remaining signer ≡ 0) × (after ≡ before)

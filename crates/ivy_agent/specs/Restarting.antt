@@ -48,19 +48,25 @@ module _ {K S : Type 0} (signs : Signing S) (IsWhole : S → Type 0) where
 
   -- From a keeper: from the bytes that it keeps, where it keeps some and doesn't fail.
   abbrev pub Restarts : (K → Option (Option (List ℕ))) → (K → ℕ) → K → Result (Holder K S) (K × RestartFault) → Type 0
-  Restarts kept faults before (Ok h) = (k : Kept S) × IsKept signs IsWhole k × Keeps (kept before) (Some (kept_bytes signs k)) × (h.agent ≡ restored k) × HasStayed kept faults before h.keeper
+  Restarts kept faults before (Ok h) =
+      (k : Kept S) × IsKept signs IsWhole k × Keeps (kept before) (Some (kept_bytes signs k)) × (h.agent ≡ restored k)
+      × HasStayed kept faults before h.keeper
   Restarts kept faults before (Err (after, fault.Nothing)) = Keeps (kept before) None × HasStayed kept faults before after
-  Restarts kept faults before (Err (after, fault.Malformed)) = (bytes : List ℕ) × AreNobodys signs IsWhole bytes × Keeps (kept before) (Some bytes) × HasStayed kept faults before after
+  Restarts kept faults before (Err (after, fault.Malformed)) =
+      (bytes : List ℕ) × AreNobodys signs IsWhole bytes × Keeps (kept before) (Some bytes) × HasStayed kept faults before after
   Restarts kept faults before (Err (after, fault.Keeper)) = HasFailed kept faults before after
   Restarts kept faults before (Err (after, fault.Memory)) = KeepsSome (kept before) × HasStayed kept faults before after
 
 -- ---- in place
 
 module _ {S : Type 0} (signs : Signing S) (IsWhole : S → Type 0) (before : Holder KeeperState S) where
-  -- Over a keeper in memory, which stays as it is: the agent that it keeps starts again in the place of the one before; or nothing has changed.
+  -- Over a keeper in memory, which stays as it is: the agent that it keeps starts again in the place of the one before; or nothing has
+  -- changed.
   abbrev pub StartsAgain : Result Unit RestartFault → Holder KeeperState S → Type 0
-  StartsAgain (Ok done) after = (k : Kept S) × IsKept signs IsWhole k × (before.keeper.kept ≡ Some (kept_bytes signs k)) × (after ≡ record before { agent = restored k })
+  StartsAgain (Ok done) after = (k : Kept S) × IsKept signs IsWhole k × (before.keeper.kept ≡ Some (kept_bytes signs k))
+      × (after ≡ record before { agent = restored k })
   StartsAgain (Err fault.Nothing) after = (before.keeper.kept ≡ None) × (after ≡ before)
-  StartsAgain (Err fault.Malformed) after = (bytes : List ℕ) × (before.keeper.kept ≡ Some bytes) × AreNobodys signs IsWhole bytes × (after ≡ before)
+  StartsAgain (Err fault.Malformed) after =
+      (bytes : List ℕ) × (before.keeper.kept ≡ Some bytes) × AreNobodys signs IsWhole bytes × (after ≡ before)
   StartsAgain (Err fault.Memory) after = after ≡ before
   StartsAgain (Err fault.Keeper) after = ⊥

@@ -20,7 +20,8 @@ use Rattle.ivy_agent.specs.declared.fault.SnapFault.TheVariants as fault
 abbrev pub posts_of_new : List Post → List (List ℕ) → List Post
 posts_of_new pending blocks = map block_post (filter (λ b. not (is_pending_block pending b)) blocks)
 
-module _ {K S : Type 0} (signs : Signing S) (IsWhole : S → Type 0) (saves : K → List ℕ → Bool → K → Type 0) (view : View) (before : Holder K S) where
+module _ {K S : Type 0} (signs : Signing S) (IsWhole : S → Type 0) (saves : K → List ℕ → Bool → K → Type 0) (view : View)
+    (before : Holder K S) where
   -- the root's name
   abbrev pub root_of : Key
   root_of = root_name view (basis_of before.agent.holding)

@@ -41,7 +41,8 @@ pub record MayTakeFrom (view : View) (own : PubKey) (floor : Vector) (h : Holdin
   pub under : (edges : Key → Option Edge) × AreUnder view edges b
   pub members : AllByRecursion (λ c. Contains view.members (owner_of c.1)) b.chains
 
-module _ {K S : Type 0} (signs : Signing S) (IsWhole : S → Type 0) (saves : K → List ℕ → Bool → K → Type 0) (view : View) (b : Batch) (asked : Asked) (now : Moment) (k : Kept S) (has_failed : Bool) (h : Holding) (keeper : K) where
+module _ {K S : Type 0} (signs : Signing S) (IsWhole : S → Type 0) (saves : K → List ℕ → Bool → K → Type 0) (view : View) (b : Batch)
+    (asked : Asked) (now : Moment) (k : Kept S) (has_failed : Bool) (h : Holding) (keeper : K) where
   -- the new records were taken, and the call is answered on them
   pub record TakesAndAnswers (k_after : Kept S) (h_after : Holding) (keeper_after : K) (done : Done) : Type 0 where
     pub new : List Record
@@ -50,11 +51,13 @@ module _ {K S : Type 0} (signs : Signing S) (IsWhole : S → Type 0) (saves : K 
     pub base : IsVector h.basis.front
     pub front : IsVector (joined (with_new h new))
     pub short : length done.turned.reply ≤ longest_result
-    pub answers : Answers signs IsWhole saves view asked now k has_failed (with_new h new) (joined (with_new h new)) keeper (applied_between h.held (with_new h new).held) k_after h_after keeper_after done
+    pub answers : Answers signs IsWhole saves view asked now k has_failed (with_new h new) (joined (with_new h new)) keeper
+        (applied_between h.held (with_new h new).held) k_after h_after keeper_after done
 
   abbrev pub TurnsOn : Result Done Refusal → Kept S → Holding → K → Type 0
   TurnsOn (Ok done) k_after h_after keeper_after = TakesAndAnswers k_after h_after keeper_after done
   TurnsOn (Err refusal.Behind) k_after h_after keeper_after = is_behind view (own_key signs k.signer) k.floor h (refresh_with b None) ≡ true
   TurnsOn (Err refusal.BelowTide) k_after h_after keeper_after =
-      (is_behind view (own_key signs k.signer) k.floor h (refresh_with b None) ≡ false) × (is_below_tide (own_key signs k.signer) k.floor h (refresh_with b None) ≡ true)
+      (is_behind view (own_key signs k.signer) k.floor h (refresh_with b None) ≡ false)
+      × (is_below_tide (own_key signs k.signer) k.floor h (refresh_with b None) ≡ true)
   TurnsOn (Err refusal.Memory) k_after h_after keeper_after = Unit {0}

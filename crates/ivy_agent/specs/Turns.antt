@@ -37,12 +37,15 @@ pub record Gives {S : Type 0} (reply : Reply) (after : Agent S) (t : Turned) : T
   pub posts : t.posts ≡ after.pending
   pub front : t.front ≡ joined after.holding
 
-module _ {K S : Type 0} (signs : Signing S) (IsWhole : S → Type 0) (saves : K → List ℕ → Bool → K → Type 0) (view : View) (brought : Refresh) (asked : Asked) (now : Moment) (before : Holder K S) where
-  -- By whether the save fails: how it ends, the agent, and the keeper; and what is saved may be. Where nothing is to be saved it is so whether or not a save would fail.
+module _ {K S : Type 0} (signs : Signing S) (IsWhole : S → Type 0) (saves : K → List ℕ → Bool → K → Type 0) (view : View)
+    (brought : Refresh) (asked : Asked) (now : Moment) (before : Holder K S) where
+  -- By whether the save fails: how it ends, the agent, and the keeper; and what is saved may be. Where nothing is to be saved it is so
+  -- whether or not a save would fail.
   pub record TurnsAs (fails : Bool) (end : TurnEnd) (after : Holder K S) : Type 0 where
     pub saving : Option (Kept S)
     pub turns : Turns signs brought (record { agent = before.agent; view = view; now = now; fails = fails }) asked end after.agent saving
-    pub either : saving ≡ None → (other : Bool) → Turns signs brought (record { agent = before.agent; view = view; now = now; fails = other }) asked end after.agent saving
+    pub either : saving ≡ None → (other : Bool)
+        → Turns signs brought (record { agent = before.agent; view = view; now = now; fails = other }) asked end after.agent saving
     pub keeper : Saves saves before.keeper (option_map (kept_bytes signs) saving) fails after.keeper
     pub kept : IfSome saving (IsKept signs IsWhole)
 
@@ -70,16 +73,19 @@ module _ {K S : Type 0} (signs : Signing S) (IsWhole : S → Type 0) (saves : K 
   -- it replies, or it is to be refused, and nothing has changed
   abbrev pub ComesTo : Result Turned Refusal → Holder K S → Type 0
   ComesTo (Ok t) after = IsAnswered t after
-  ComesTo (Err refusal.Behind) after = (after ≡ before) × (is_behind view (own signs before.agent) before.agent.floor (going_on before.agent brought.basis) brought ≡ true)
+  ComesTo (Err refusal.Behind) after =
+      (after ≡ before) × (is_behind view (own signs before.agent) before.agent.floor (going_on before.agent brought.basis) brought ≡ true)
   ComesTo (Err refusal.BelowTide) after = (after ≡ before)
       × (is_behind view (own signs before.agent) before.agent.floor (going_on before.agent brought.basis) brought ≡ false)
       × (is_below_tide (own signs before.agent) before.agent.floor (going_on before.agent brought.basis) brought ≡ true)
   ComesTo (Err refusal.Memory) after = after ≡ before
 
 -- what a turn comes to that goes on from this, whichever basis was brought
-abbrev pub ComesFrom : {K S : Type 0} → Signing S → (S → Type 0) → (K → List ℕ → Bool → K → Type 0) → View → Batch → Asked → Moment → Holder K S → Holding → Result Turned Refusal → Holder K S → Type 0
+abbrev pub ComesFrom : {K S : Type 0} → Signing S → (S → Type 0) → (K → List ℕ → Bool → K → Type 0) → View → Batch → Asked → Moment
+    → Holder K S → Holding → Result Turned Refusal → Holder K S → Type 0
 ComesFrom signs IsWhole saves view batch asked now before h result after =
-    (basis : Option Basis) → going_on before.agent basis ≡ h → ComesTo signs IsWhole saves view (refresh_with batch basis) asked now before result after
+    (basis : Option Basis) → going_on before.agent basis ≡ h
+    → ComesTo signs IsWhole saves view (refresh_with batch basis) asked now before result after
 
 -- what it held is dropped, and a snapshot that was to be loaded
 abbrev pub dropping : {S : Type 0} → Agent S → Agent S
@@ -87,7 +93,9 @@ dropping a = record a { holding = nothing_held; to_load = None }
 
 -- what a refusal is told as, and what it changes
 abbrev pub Refuses : {K S : Type 0} → Signing S → View → Holder K S → Refusal → TurnFault → Holder K S → Type 0
-Refuses signs view before refusal.Behind (fault.Behind standing) after = (after ≡ before) × (standing_of standing ≡ anew_in signs before.agent view)
-Refuses signs view before refusal.BelowTide (fault.BelowTide standing) after = (after ≡ record before { agent = dropping before.agent }) × (standing_of standing ≡ anew_in signs (dropping before.agent) view)
+Refuses signs view before refusal.Behind (fault.Behind standing) after =
+    (after ≡ before) × (standing_of standing ≡ anew_in signs before.agent view)
+Refuses signs view before refusal.BelowTide (fault.BelowTide standing) after =
+    (after ≡ record before { agent = dropping before.agent }) × (standing_of standing ≡ anew_in signs (dropping before.agent) view)
 Refuses signs view before why fault.Memory after = after ≡ before
 Refuses signs view before why told after = ⊥

@@ -38,17 +38,22 @@ abbrev pub written_reply : View → Asked → List Op → Holding → List Recor
 written_reply view asked ops h written = finish (kept_tree h) (kept_tree (with_held h written)) view asked.caller asked.args ops
 
 module _ {K S : Type 0} (signs : Signing S) (IsWhole : S → Type 0) (saves : K → List ℕ → Bool → K → Type 0) where
-  -- the keeper was asked to save the draft's records, with a key that can be, and by how that ended they are kept and held, or what is held goes into the floor alone
-  pub record HasWritten (view : View) (asked : Asked) (ops : List Op) (k : Kept S) (h : Holding) (front : Vector) (keeper : K) (applied : ℕ) (d : Draft S) (k_after : Kept S) (h_after : Holding) (keeper_after : K) (done : Done) : Type 0 where
+  -- the keeper was asked to save the draft's records, with a key that can be, and by how that ended they are kept and held, or what is held
+  -- goes into the floor alone
+  pub record HasWritten (view : View) (asked : Asked) (ops : List Op) (k : Kept S) (h : Holding) (front : Vector) (keeper : K) (applied : ℕ)
+      (d : Draft S) (k_after : Kept S) (h_after : Holding) (keeper_after : K) (done : Done) : Type 0 where
     pub whole : IsWhole d.next.signer
     pub saved : saves keeper (kept_bytes signs (saved_of (kept_with k d.next))) done.has_failed keeper_after
     pub kept : k_after ≡ (if done.has_failed then kept_to k front else kept_with k d.next)
     pub held : h_after ≡ (if done.has_failed then h else with_held h (records_of d.records.items))
     pub its_front : done.front ≡ (if done.has_failed then front else d.front)
-    pub given : Gives (if done.has_failed then lost_reply asked else written_reply view asked ops h (records_of d.records.items)) k_after done.front applied done.turned
+    pub given : Gives (if done.has_failed then lost_reply asked else written_reply view asked ops h (records_of d.records.items)) k_after
+        done.front applied done.turned
 
   -- the operations were drafted so, and written, or their save failed
-  pub record WritesDraft (view : View) (asked : Asked) (now : Moment) (ops : List Op) (k : Kept S) (h : Holding) (front : Vector) (keeper : K) (applied : ℕ) (k_after : Kept S) (h_after : Holding) (keeper_after : K) (done : Done) : Type 0 where
+  pub record WritesDraft (view : View) (asked : Asked) (now : Moment) (ops : List Op) (k : Kept S) (h : Holding) (front : Vector)
+      (keeper : K) (applied : ℕ) (k_after : Kept S) (h_after : Holding) (keeper_after : K) (done : Done) : Type 0 where
     pub draft : Draft S
     pub is_draft : IsDraft signs k front now ops draft
-    pub written : HasWritten view asked ops k h front keeper (applied + length (records_of draft.records.items)) draft k_after h_after keeper_after done
+    pub written : HasWritten view asked ops k h front keeper
+        (applied + length (records_of draft.records.items)) draft k_after h_after keeper_after done

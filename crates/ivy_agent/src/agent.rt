@@ -3,6 +3,7 @@
 ghost use Rattle.std.specs.Prelude.{◌≡◌, ◌≤◌, ◌+◌, length, Option, None, false, IfOk, OnOk, OnErr, IfSome, IsSomeAnd, option_map};
 ghost use Rattle.std.specs.List.{AllByRecursion};
 ghost use Rattle.ivy_io.specs.Keepers.{with_plan};
+ghost use Rattle.log_model.specs.Spelling.{HasSpelling};
 ghost use Rattle.log_records.specs.Records.{records_of};
 ghost use Rattle.turn_model.specs.Basis.{Basis, kept_tree};
 ghost use Rattle.agent_model.specs.Others.{settled};
@@ -201,6 +202,7 @@ impl<K: Keeper, S: Signs> Agent<K, S> {
         let filled = fill(
             alloc,
             &mut standing,
+            self.engine.basis_front(),
             &self.front,
             &self.kept.floor,
             self.engine.records(),
@@ -290,9 +292,10 @@ impl<K: Keeper, S: Signs> Agent<K, S> {
         self.kept.view.as_ref()
     }
 
-    /// The records that are held above the basis, ascending by rank.
+    /// The records that are held above the basis, ascending by rank. Each has a spelling.
     pub fn order(&self) -> &[Record]
-        ensures { records_of result.now ≡ self.now.agent.holding.held }
+        ensures records { records_of result.now ≡ self.now.agent.holding.held }
+        ensures spelled { AllByRecursion HasSpelling (records_of result.now) }
     {
         self.engine.records()
     }

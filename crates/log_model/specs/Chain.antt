@@ -68,4 +68,5 @@ IsChain view owner (r ∷ rs) = IsGood view owner r × IsFirst r × GoesOn view 
 -- the owner's records from that number on, the first of which names that one, and each the one before it, whatever logs their vectors name
 abbrev pub LinkedFrom : PubKey → ℕ → Key → List Record → Type 0
 LinkedFrom owner seq prev [] = Unit {0}
-LinkedFrom owner seq prev (r ∷ rs) = (r.owner ≡ owner) × HasSpelling r × (r.seq ≡ seq) × (r.prev ≡ prev) × LinkedFrom owner (seq + 1) r.name rs
+LinkedFrom owner seq prev (r ∷ rs) =
+    (r.owner ≡ owner) × HasSpelling r × (r.seq ≡ seq) × (r.prev ≡ prev) × LinkedFrom owner (seq + 1) r.name rs

@@ -7,8 +7,8 @@ use Rattle.ivy_base.specs.declared.operation.Moment.{Moment}
 use Rattle.ivy_base.specs.declared.operation.Op.{Op}
 use Rattle.log_model.specs.Vector.{Vector}
 
--- whose log it is of, its number there from 1 on, the name of the record before it, what its writer held of the other logs, and what it does at which
--- moment; in which format it is written; and its own name, which is that of its block
+-- whose log it is of, its number there from 1 on, the name of the record before it, what its writer held of the other logs, and what it
+-- does at which moment; in which format it is written; and its own name, which is that of its block
 pub record Record : Type 0 where
   pub owner : PubKey
   pub seq : ℕ
@@ -19,8 +19,8 @@ pub record Record : Type 0 where
   pub format : Format
   pub name : Key
 
--- What records that are written together have in common: whose log they are of, in which format they are written, what their writer holds of the other
--- logs, and the moment.
+-- What records that are written together have in common: whose log they are of, in which format they are written, what their writer holds
+-- of the other logs, and the moment.
 pub record Heading : Type 0 where
   pub owner : PubKey
   pub format : Format

@@ -131,8 +131,10 @@ pub record IsChange (c : Change) : Type 0 where
 
 -- the operation's parts have their bounds
 abbrev pub OperationFits : Op → Type 0
-OperationFits (op.Inode number kind mode uid gid target) = IsKey number × IsMode mode × (uid < 2 ^ 32) × (gid < 2 ^ 32) × IsTarget kind target
-OperationFits (op.Write number offset bytes) = IsKey number × (1 ≤ length bytes) × (length bytes ≤ 8192) × (offset + length bytes ≤ longest_file)
+OperationFits (op.Inode number kind mode uid gid target) =
+    IsKey number × IsMode mode × (uid < 2 ^ 32) × (gid < 2 ^ 32) × IsTarget kind target
+OperationFits (op.Write number offset bytes) =
+    IsKey number × (1 ≤ length bytes) × (length bytes ≤ 8192) × (offset + length bytes ≤ longest_file)
 OperationFits (op.Link dir name number) = IsKey dir × IsFileName name × IsKey number
 OperationFits (op.Unlink dir name) = IsKey dir × IsFileName name
 OperationFits (op.Rename dir name to_dir to_name) = IsKey dir × IsFileName name × IsKey to_dir × IsFileName to_name
@@ -146,8 +148,8 @@ abbrev pub IsEndOp : Op → Type 0
 IsEndOp op.End = Unit {0}
 IsEndOp _ = ⊥
 
--- The record has a block that a reader takes, and its name. A log begins with End, which stands nowhere else, and its first record cites nothing and has
--- format 1; a vector's entries ascend by head key, none of them of the own log
+-- The record has a block that a reader takes, and its name. A log begins with End, which stands nowhere else, and its first record cites
+-- nothing and has format 1; a vector's entries ascend by head key, none of them of the own log
 pub record HasSpelling (r : Record) : Type 0 where
   pub some : 1 ≤ r.seq
   pub few : r.seq ≤ most_records

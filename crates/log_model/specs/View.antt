@@ -56,7 +56,8 @@ abbrev pub have_own_head_keys : List PubKey → Bool
 have_own_head_keys [] = true
 have_own_head_keys (k ∷ ks) = list_all (λ other. not (same_key (head_key_of k) (head_key_of other))) ks && have_own_head_keys ks
 
--- a view that may be made: 1 to 16 members, 0 to 16 former logs, each list in order, and no two keys of one head key, so that none stands twice
+-- a view that may be made: 1 to 16 members, 0 to 16 former logs, each list in order, and no two keys of one head key, so that none stands
+-- twice
 pub record IsView (view : View) : Type 0 where
   pub some : 1 ≤ length view.members
   pub few : length view.members ≤ most_members

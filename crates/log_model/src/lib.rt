@@ -10,7 +10,8 @@
 //! one), `specs/Vector.antt`, `specs/Rank.antt` (weights, the order of records, fronts), `specs/View.antt`,
 //! `specs/ViewKeys.antt`, `specs/Heads.antt` (the parts of a head), `specs/Chain.antt`, `specs/Fetched.antt` (chains that
 //! were fetched, and by [`ChainFault`] why one isn't taken), `specs/Closed.antt`, `specs/Part.antt`,
-//! `specs/Replay.antt`. The laws: `specs/Laws.antt`.
+//! `specs/Replay.antt`, `specs/Touching.antt` (what operations touch), `specs/Conflicts.antt` (which records of a set are
+//! in conflict). The laws: `specs/Laws.antt`.
 #![tactic(auto)]
 
 mod chain_fault;

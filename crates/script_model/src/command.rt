@@ -179,6 +179,8 @@ pub enum Shown {
     Order { log: Bytes },
     /// `work P`: how many records the participant's last turn applied.
     Work { log: Bytes },
+    /// `conflicts P`: which of the records that the participant holds are in conflict.
+    Conflicts { log: Bytes },
 }
 
 /// What a line of a script asks for.

@@ -6,3 +6,4 @@ pub mod Named
 pub mod Places
 pub mod Returned
 pub mod Snapped
+pub mod Clashing

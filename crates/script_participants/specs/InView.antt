@@ -8,7 +8,8 @@ use Rattle.script_participants.specs.declared.end.EnterEnd.{EnterEnd}
 use Rattle.script_participants.specs.declared.end.EnterEnd.TheVariants as end
 use Rattle.script_participants.specs.ParticipantState.{ParticipantState}
 
--- how it ends, and the participant then, by what its agent comes to: its keeper was asked to save, where it was, and in a view its cache is empty
+-- how it ends, and the participant then, by what its agent comes to: its keeper was asked to save, where it was, and in a view its cache is
+-- empty
 abbrev pub having_entered : ParticipantState → Entering → Option Kept → EnterEnd × ParticipantState
 having_entered p (Entered after) saving = (end.Entered, record p { agent = after; keeper = asked_to_save p.keeper saving; cache = [] })
 having_entered p NotMember saving = (end.Refused, p)

@@ -7,3 +7,4 @@ pub mod Snapping
 pub mod Turning
 pub mod RecordLines
 pub mod Lending
+pub mod Texts

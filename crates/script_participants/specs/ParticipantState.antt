@@ -20,7 +20,15 @@ pub record ParticipantState : Type 0 where
   pub work : ℕ
 
 abbrev pub state_of : Participant → ParticipantState
-state_of p = record { name = p.name; agent = p.agent; keeper = p.keeper; cache = p.cache; made = p.made; printed = p.printed; work = p.work }
+state_of p = record {
+  name = p.name;
+  agent = p.agent;
+  keeper = p.keeper;
+  cache = p.cache;
+  made = p.made;
+  printed = p.printed;
+  work = p.work;
+}
 
 -- the world has these participants, in this order
 abbrev pub HasParticipants : World → List ParticipantState → Type 0

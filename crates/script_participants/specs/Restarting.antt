@@ -32,6 +32,8 @@ HasReturned before end.Lost after = HoldsNobody before.keeper.kept × (after ≡
 
 -- how it ends, and the participant then: what its agent has to publish counts as made
 abbrev pub HasStartedAgain : ParticipantState → RestartEnd → ParticipantState → Type 0
-HasStartedAgain before end.Restarted after = (k : Kept) × IsTrue (is_some before.agent.view) × IsKept k × (before.keeper.kept ≡ Some (kept_bytes k)) × (after ≡ counting (returned before k))
+HasStartedAgain before end.Restarted after =
+    (k : Kept) × IsTrue (is_some before.agent.view) × IsKept k × (before.keeper.kept ≡ Some (kept_bytes k))
+    × (after ≡ counting (returned before k))
 HasStartedAgain before end.Outside after = (before.agent.view ≡ None) × (after ≡ before)
 HasStartedAgain before end.Lost after = HoldsNobody before.keeper.kept × (after ≡ before)

@@ -22,5 +22,8 @@ tried p view = record p { agent = (snapping_of p view).0.0; keeper = asked_to_sa
 
 -- How it ends, and the participant then: what is saved may be; the root counts as printed where there is a snapshot.
 abbrev pub HasSnapped : View → ParticipantState → Option Key → ParticipantState → Type 0
-HasSnapped view before (Some root) after = ((snapping_of before view).0.1 ≡ true) × (root ≡ root_in before view) × IfSome (snapping_of before view).1 IsKept × (after ≡ record (tried before view) { printed = Some root })
-HasSnapped view before None after = ((snapping_of before view).0.1 ≡ false) × IfSome (snapping_of before view).1 IsKept × (after ≡ tried before view)
+HasSnapped view before (Some root) after =
+    ((snapping_of before view).0.1 ≡ true) × (root ≡ root_in before view) × IfSome (snapping_of before view).1 IsKept
+    × (after ≡ record (tried before view) { printed = Some root })
+HasSnapped view before None after =
+    ((snapping_of before view).0.1 ≡ false) × IfSome (snapping_of before view).1 IsKept × (after ≡ tried before view)

@@ -23,12 +23,18 @@ work_after Behind before = before
 work_after BelowTide before = before
 
 module _ (view : View) (brought : Refresh) (asked : Asked) (now : Moment) (before : ParticipantState) where
-  -- How the turn ends, and the participant then. A save fails exactly where its keeper plans it; the keeper was asked to save, where it was, what may be saved.
+  -- How the turn ends, and the participant then. A save fails exactly where its keeper plans it; the keeper was asked to save, where it
+  -- was, what may be saved.
   pub record HasTurn (end : TurnEnd) (after : ParticipantState) : Type 0 where
     pub saving : Option Kept
-    pub turns : Turns hss brought (record { agent = before.agent; view = view; now = now; fails = fails_next before.keeper }) asked end after.agent saving
+    pub turns : Turns hss brought (record { agent = before.agent; view = view; now = now; fails = fails_next before.keeper }) asked end
+        after.agent saving
     pub kept : IfSome saving IsKept
-    pub then_is : after ≡ record before { agent = after.agent; keeper = asked_to_save before.keeper saving; work = work_after end before.work }
+    pub then_is : after ≡ record before {
+      agent = after.agent;
+      keeper = asked_to_save before.keeper saving;
+      work = work_after end before.work;
+    }
 
   -- it replies
   pub record IsAnswered (t : Turned) (after : ParticipantState) : Type 0 where

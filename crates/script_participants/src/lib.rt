@@ -11,9 +11,9 @@
 //! gives `restored` of what its keeper holds, of which what is to be published counts as made, or tells that it is in no view, or
 //! that the keeper holds the bytes of nothing that may be saved (`specs/Restarting.antt`). [`Participant::plan_fault`]
 //! is `with_fault`, [`Participant::settle`] is `settled`, [`Participant::record_made`] gives the name that a script says by a
-//! number. [`Participant::work_text`] and [`Participants::order_text`] are what the lines of these names show, and
-//! [`Participants::keys_of`] are the public keys that a view is made of. [`Participants::at`] lends one to be changed, and
-//! [`Participant::cache`] its cache; [`Participant::standing`] is what its sessions are given of its agent.
+//! number. [`Participant::work_text`], [`Participants::order_text`] and [`Participants::conflicts_text`] are what the lines of
+//! these names show, and [`Participants::keys_of`] are the public keys that a view is made of. [`Participants::at`] lends one to
+//! be changed, and [`Participant::cache`] its cache; [`Participant::standing`] is what its sessions are given of its agent.
 //! Lemmas to cite: `changed_has` of `proofs/Places.antt`: where no two have one name, a world with the changed one has the
 //! participants then.
 //! Definitions: `specs/*.antt`, and `world_model`'s `specs/Agents.antt`, `specs/Keepers.antt`, `specs/Logs.antt` and

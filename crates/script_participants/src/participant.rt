@@ -2,8 +2,10 @@
 
 ghost use Rattle.std.specs.Prelude.{◌≡◌, ◌≢◌, ◌≤◌, ◌+◌, ◌==◌, ◌++◌, codes, length, find, option_map, None, IfOk, OnOk, OnErr, IfSome, IsSomeAnd};
 ghost use Rattle.std.specs.Borrow.{sem};
+ghost use Rattle.std.specs.List.{AllByRecursion};
 ghost use Rattle.hash_signature_model.specs.Signer.{left_of};
 ghost use Rattle.log_fetch.specs.Standings.{asked_of, refresh_of, standing_of};
+ghost use Rattle.log_model.specs.Spelling.{HasSpelling};
 ghost use Rattle.log_records.specs.Records.{records_of};
 ghost use Rattle.agent_model.specs.Others.{settled};
 ghost use Rattle.ivy_agent.specs.Answering.{IsCall};
@@ -152,9 +154,10 @@ impl Participant {
         self.agent.pending()
     }
 
-    /// The records that it holds above its basis, ascending by rank.
+    /// The records that it holds above its basis, ascending by rank. Each has a spelling.
     pub fn order(&self) -> &[Record]
-        ensures { records_of result.now ≡ self.now.agent.holding.held }
+        ensures records { records_of result.now ≡ self.now.agent.holding.held }
+        ensures spelled { AllByRecursion HasSpelling (records_of result.now) }
     {
         self.agent.order()
     }

@@ -12,6 +12,8 @@ ghost use Rattle.world_model.specs.Shows.{order_text};
 ghost use Rattle.world_model.specs.Logs.{keys_of};
 ghost use Rattle.world_model.specs.World.{World, Participant as Seen, name_of_owner, participant};
 
+mod clashing;
+
 use crate::participant::Participant;
 use crate::text::counted_line;
 use ivy_base::{Bytes, Memory, PubKey};

@@ -9,7 +9,8 @@ use Rattle.world_model.specs.Logs.{LogLine, Played, fresh_signer, newcomer, with
 use Rattle.world_model.specs.World.{Participant, participant}
 use Rattle.script_world.specs.PartsState.{GoesOn, HasParts, PartsState}
 
--- a newcomer of that name may come, and the world that it has come to has these parts: what the line of a log asks for, but that its agent publishes then
+-- a newcomer of that name may come, and the world that it has come to has these parts: what the line of a log asks for, but that its agent
+-- publishes then
 pub record HasNewcomer (w : Played) (name id seed : List ℕ) (sets : List Set) (after : PartsState) : Type 0 where
   pub replicas : ℕ
   pub one : Participant
@@ -21,4 +22,5 @@ pub record HasNewcomer (w : Played) (name id seed : List ℕ) (sets : List Set) 
 -- so in each world that has the parts before; or in each the line is refused
 abbrev pub BeginsIn : List ℕ → List ℕ → List ℕ → List Set → PartsState → Bool → PartsState → Type 0
 BeginsIn name id seed sets before true after = (w : Played) → HasParts w.0 before → HasNewcomer w name id seed sets after
-BeginsIn name id seed sets before false after = (w : Played) → HasParts w.0 before → (judged : Key → List ℕ → Option Judged) → LogLine judged w name id seed sets Refuses
+BeginsIn name id seed sets before false after =
+    (w : Played) → HasParts w.0 before → (judged : Key → List ℕ → Option Judged) → LogLine judged w name id seed sets Refuses

@@ -1,4 +1,5 @@
--- A script's world but for its open sessions, as contracts see it; the worlds of the definitions that have the same; and what a line does in them.
+-- A script's world but for its open sessions, as contracts see it; the worlds of the definitions that have the same; and what a line does
+-- in them.
 use Rattle.std.specs.Prelude.{◌≡◌, ◌≤◌, ◌==◌, ℕ, List, [], Option, Some, None, IfSome, find, option_map}
 use Rattle.ivy_base.specs.declared.key.Key.{Key}
 use Rattle.ivy_base.specs.declared.operation.Moment.{Moment}
@@ -12,7 +13,8 @@ use Rattle.session_steps.specs.MetState.{AreMet, MetState}
 use Rattle.ring_nodes.specs.NodesState.{IsNodesOf, NodesState}
 use Rattle.script_participants.specs.ParticipantState.{AreNamedApart, HasParticipants, ParticipantState}
 
--- r, where a ring was made; the nodes, the participants, the views in the order of their lines; what each reply gave; the moment; and the blocks met
+-- r, where a ring was made; the nodes, the participants, the views in the order of their lines; what each reply gave; the moment; and the
+-- blocks met
 pub record PartsState : Type 0 where
   pub replicas : Option ℕ
   pub nodes : NodesState

@@ -52,11 +52,13 @@ pub record LeadsTo (after : PartsState) (new : CallState) (c end : Scene) : Type
 module _ (name : List ℕ) (before : PartsState) (old : CallState) (after : PartsState) (new : CallState) where
   -- so many steps lead there from each such scene
   abbrev pub StepsOnIn : ℕ → Type 0
-  StepsOnIn count = (c : Scene) (r : ℕ) → IsSceneIn before name old c r → (end : Scene) × StepsOn hss_judged r name count c end × LeadsTo after new c end
+  StepsOnIn count = (c : Scene) (r : ℕ) → IsSceneIn before name old c r
+      → (end : Scene) × StepsOn hss_judged r name count c end × LeadsTo after new c end
 
   -- all steps up to the end do, and it was told
   abbrev pub RunsOutIn : Type 0
-  RunsOutIn = IsTrue (is_some new.told) × ((c : Scene) (r : ℕ) → IsSceneIn before name old c r → (end : Scene) × RunsOut hss_judged r name c end × LeadsTo after new c end)
+  RunsOutIn = IsTrue (is_some new.told)
+      × ((c : Scene) (r : ℕ) → IsSceneIn before name old c r → (end : Scene) × RunsOut hss_judged r name c end × LeadsTo after new c end)
 
 -- ---- publishing
 

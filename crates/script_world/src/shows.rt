@@ -25,6 +25,7 @@ impl Parts {
             Shown::Holds { node } => self.holds(alloc, node),
             Shown::Order { log } => self.order(alloc, log.as_slice()),
             Shown::Work { log } => self.work(alloc, log.as_slice()),
+            Shown::Conflicts { log } => self.conflicts(alloc, log.as_slice()),
         }
     }
 
@@ -66,6 +67,23 @@ impl Parts {
             return Ok(Taken::Refused);
         }
         Ok(Taken::Went(one.work_text(alloc)?))
+    }
+
+    /// The line `conflicts`: shows which of the records that a participant in a view holds are in conflict. It meets a limit where
+    /// there are more than 1,000,000 pairs. The error is want of memory.
+    fn conflicts(&self, alloc: Global, log: &[u8]) -> Result<Taken, Memory>
+        ensures { IfOk result (λ taken. DoesIn (λ w outcome. outcome ≡ show_line w (shown.Conflicts log.now)) self.now taken self.now) }
+    {
+        let Some(one) = self.participants.named(log) else {
+            return Ok(Taken::Refused);
+        };
+        if one.view().is_none() {
+            return Ok(Taken::Refused);
+        }
+        match self.participants.conflicts_text(alloc, one)? {
+            Some(text) => Ok(Taken::Went(text)),
+            None => Ok(Taken::Exceeded),
+        }
     }
 }
 

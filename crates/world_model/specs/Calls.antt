@@ -1,5 +1,6 @@
 -- Lines of calls: a whole call, or a session that is begun, goes some steps, and is brought to its end; and what is shown of it.
-use Rattle.std.specs.Prelude.{◌≡◌, ℕ, ◌+◌, nat_lt, nat_le, Bool, true, false, ◌&&◌, List, [], ◌∷◌, ◌++◌, codes, Option, Some, None, is_some, if◌then◌else◌}
+use Rattle.std.specs.Prelude.{◌≡◌, ℕ, ◌+◌, nat_lt, nat_le, Bool, true, false, ◌&&◌, List, [], ◌∷◌, ◌++◌, codes, Option, Some, None, is_some}
+use Rattle.std.specs.Prelude.{if◌then◌else◌}
 use Rattle.std.specs.List.{flat_map}
 use Rattle.hex.specs.Hex.{encode_lower}
 use Rattle.ivy_base.specs.declared.key.Key.{Key}
@@ -68,7 +69,10 @@ shown_end s said = shown_message said.message ++ shown_miss s.missed ++ flat_map
 
 -- a reply line counts for later lines
 abbrev pub replied : World → Said → World
-replied w said = if is_some said.message then record w { replies = w.replies ++ record { handle = said.handle; verifier = said.verifier } ∷ [] } else w
+replied w said = if is_some said.message then record w {
+  replies = w.replies
+      ++ record { handle = said.handle; verifier = said.verifier } ∷ [];
+} else w
 
 -- ---- lines
 
@@ -84,14 +88,19 @@ module _ (judged : Key → List ℕ → Option Judged) (w : Played) where
   pub data AsLine : Option Sending → Outcome Played → Type 0 where
     sends_nothing : AsLine None Refuses
     calls : (s : Sending) (r : ℕ) (t : Session) (end : Scene) (said : Said) → w.0.replicas ≡ Some r → BeginsWith w.0 s t
-        → RunsOut judged r s.by.name (record { world = w.0; story = having_begun w.1; session = t; began = beginning w.1 s.by.name }) end → end.session.stage ≡ Over (Some said)
+        → RunsOut judged r s.by.name (record { world = w.0; story = having_begun w.1; session = t; began = beginning w.1 s.by.name }) end
+        → end.session.stage ≡ Over (Some said)
         → AsLine (Some s) (Goes (replied end.world said, end.story) (shown_end end.session said))
 
   pub data OpenLine (name : List ℕ) : Option Sending → Outcome Played → Type 0 where
     sends_nothing : OpenLine name None Refuses
     is_open : (s : Sending) → is_some (session_named w.0 name) ≡ true → OpenLine name (Some s) Refuses
     opens : (s : Sending) (t : Session) → is_some (session_named w.0 name) ≡ false → BeginsWith w.0 s t
-        → OpenLine name (Some s) (Goes (record w.0 { sessions = w.0.sessions ++ record { name = name; session = t } ∷ [] }, record (having_begun w.1) { sessions = w.1.sessions ++ (name, beginning w.1 s.by.name) ∷ [] }) [])
+        → OpenLine name (Some s) (Goes (
+          record w.0 { sessions = w.0.sessions ++ record { name = name; session = t } ∷ [] },
+          record
+              (having_begun w.1) { sessions = w.1.sessions ++ (name, beginning w.1 s.by.name) ∷ [] },
+        ) [])
 
   -- 1 to 1,000,000 steps
   pub data StepLine (name : List ℕ) (count : ℕ) : Option Session → Outcome Played → Type 0 where
@@ -103,5 +112,7 @@ module _ (judged : Key → List ℕ → Option Judged) (w : Played) where
 
   pub data FinishLine (name : List ℕ) : Option Session → Outcome Played → Type 0 where
     not_open : FinishLine name None Refuses
-    ends : (s : Session) (r : ℕ) (end : Scene) (said : Said) → w.0.replicas ≡ Some r → RunsOut judged r s.by (scene_of w s (began_of w.1 name)) end → end.session.stage ≡ Over (Some said)
-        → FinishLine name (Some s) (Goes (replied (without_session end.world name) said, without_began end.story name) (shown_end end.session said))
+    ends : (s : Session) (r : ℕ) (end : Scene) (said : Said) → w.0.replicas ≡ Some r
+        → RunsOut judged r s.by (scene_of w s (began_of w.1 name)) end → end.session.stage ≡ Over (Some said)
+        → FinishLine name (Some s) (Goes (replied (without_session end.world name) said, without_began end.story name)
+        (shown_end end.session said))

@@ -1,5 +1,6 @@
 -- Lines of faults, and how nodes and keys are named.
-use Rattle.std.specs.Prelude.{ℕ, ◌+◌, ◌-◌, ◌==◌, nat_lt, nat_le, ◌&&◌, List, [], ◌∷◌, find, drop, Option, Some, None, option_map, if◌then◌else◌}
+use Rattle.std.specs.Prelude.{ℕ, ◌+◌, ◌-◌, ◌==◌, nat_lt, nat_le, ◌&&◌, List, [], ◌∷◌, find, drop, Option, Some, None, option_map}
+use Rattle.std.specs.Prelude.{if◌then◌else◌}
 use Rattle.ivy_base.specs.declared.key.Key.{Key}
 use Rattle.ivy_base.specs.Naming.{head_key_of}
 use Rattle.ring_model.specs.Circle.{number}
@@ -55,7 +56,8 @@ meets_some met (Some bytes) = meets met bytes
 -- the block with that byte changed is held, and met
 abbrev pub damaged_to : World → Node → Key → Option Blocks → Outcome World
 damaged_to w n k None = Refuses
-damaged_to w n k (Some blocks) = Goes (record (with_node w (record n { blocks = blocks })) { met = meets_some w.met (bytes_at k blocks) }) []
+damaged_to w n k (Some blocks) = Goes
+    (record (with_node w (record n { blocks = blocks })) { met = meets_some w.met (bytes_at k blocks) }) []
 
 abbrev pub damage_by : World → Option Node → Option Key → ℕ → ℕ → Outcome World
 damage_by w (Some n) (Some k) offset byte = damaged_to w n k (with_byte k offset byte n.blocks)

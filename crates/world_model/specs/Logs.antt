@@ -1,5 +1,6 @@
 -- Lines of participants: a log begins, a view is made, a participant enters one, starts again, or makes a snapshot.
-use Rattle.std.specs.Prelude.{◌≡◌, ℕ, ◌+◌, nat_lt, Bool, true, false, ◌&&◌, ◌||◌, not, List, [], ◌∷◌, ◌++◌, codes, fold, filter, map, length, IfSome, Option, Some, None, is_some, if◌then◌else◌, Result, Ok}
+use Rattle.std.specs.Prelude.{◌≡◌, ℕ, ◌+◌, nat_lt, Bool, true, false, ◌&&◌, ◌||◌, not, List, [], ◌∷◌, ◌++◌, codes, fold, filter, map}
+use Rattle.std.specs.Prelude.{length, IfSome, Option, Some, None, is_some, if◌then◌else◌, Result, Ok}
 use Rattle.std.specs.List.{list_any}
 use Rattle.std.specs.FinMap.Entries.{by_order}
 use Rattle.std.specs.Ordering.{eq_by_cmp}
@@ -30,7 +31,8 @@ use Rattle.script_driver.specs.Run.{Outcome, Goes, Ends, Refuses, Exceeds}
 use Rattle.script_model.specs.Words.{◌>>=◌}
 use Rattle.world_model.specs.Agents.{Agent, Entering, IsKept, Kept, entering, kept_bytes, opened, own, standing_in}
 use Rattle.world_model.specs.Keepers.{asked_to_save, fails_next, fresh_keeper, with_fault}
-use Rattle.world_model.specs.World.{World, Participant, participant, view_named, with_participant, without_sessions_of, named_bytes, meets, entries}
+use Rattle.world_model.specs.World.{World, Participant, participant, view_named, with_participant, without_sessions_of, named_bytes, meets}
+use Rattle.world_model.specs.World.{entries}
 use Rattle.world_model.specs.Story.{Story, Knowing, began_nothing, known_of, knowing_now}
 use Rattle.world_model.specs.Fates.{Puts}
 use Rattle.world_model.specs.Steps.{Scene, RunsOut, having_made, met_by}
@@ -66,7 +68,9 @@ to_publish w p = publishing_session p.name (entries w) (standing_in p.agent empt
 
 -- all that the participant's agent has pending is put, and settled
 abbrev pub Publishes : (Key → List ℕ → Option Judged) → ℕ → Played → Participant → Played → Type 0
-Publishes judged r w p next = (end : Scene) × RunsOut judged r p.name (record { world = w.0; story = w.1; session = to_publish w.0 p; began = began_nothing }) end × (next ≡ (end.world, end.story))
+Publishes judged r w p next = (end : Scene)
+    × RunsOut judged r p.name (record { world = w.0; story = w.1; session = to_publish w.0 p; began = began_nothing }) end
+    × (next ≡ (end.world, end.story))
 
 -- ---- log
 
@@ -75,20 +79,34 @@ fresh_signer id seed sets = record { id = id; seed = seed; sets = sets; made = 0
 
 -- a participant whose agent opens its log, and is saved; its first posts count as made
 abbrev pub newcomer : List ℕ → Agent → Participant
-newcomer name a = having_made (record { name = name; agent = a; keeper = asked_to_save fresh_keeper (Some (kept_of a)); cache = []; made = []; printed = None; work = 0; left = [] }) a.pending
+newcomer name a = having_made (record {
+  name = name;
+  agent = a;
+  keeper = asked_to_save fresh_keeper (Some (kept_of a));
+  cache = [];
+  made = [];
+  printed = None;
+  work = 0;
+  left = [];
+}) a.pending
 
 -- it knows its opening record
 abbrev pub with_newcomer : Played → Participant → Played
 with_newcomer w p = (
   record w.0 { participants = w.0.participants ++ p ∷ []; met = met_by w.0.met p.agent.pending },
-  record w.1 { participants = w.1.participants ++ record { name = p.name; known = opening (own p.agent) w.0.now ∷ []; received = [] } ∷ [] },
+  record w.1 {
+    participants = w.1.participants
+        ++ record { name = p.name; known = opening (own p.agent) w.0.now ∷ []; received = [] } ∷ [];
+  },
 )
 
 -- A log begins with its opening record, at the present moment, which is published with its head. Two logs may have one key.
-pub data LogLine (judged : Key → List ℕ → Option Judged) (w : Played) (name id seed : List ℕ) (sets : List Set) : Outcome Played → Type 0 where
+pub data LogLine (judged : Key → List ℕ → Option Judged) (w : Played) (name id seed : List ℕ) (sets : List Set) : Outcome Played
+    → Type 0 where
   before_ring : is_some w.0.replicas ≡ false → LogLine judged w name id seed sets Refuses
   known : is_some (participant w.0 name) ≡ true → LogLine judged w name id seed sets Refuses
-  begins : (r : ℕ) (p : Participant) (next : Played) → w.0.replicas ≡ Some r → is_some (participant w.0 name) ≡ false → p ≡ newcomer name (opened (fresh_signer id seed sets) w.0.now)
+  begins : (r : ℕ) (p : Participant) (next : Played) → w.0.replicas ≡ Some r → is_some (participant w.0 name) ≡ false
+      → p ≡ newcomer name (opened (fresh_signer id seed sets) w.0.now)
       → Publishes judged r (with_newcomer w p) p next → LogLine judged w name id seed sets (Goes next [])
 
 -- ---- view
@@ -121,17 +139,22 @@ acked_view view _ = []
 abbrev pub is_too_large : List PubKey → List PubKey → Bool
 is_too_large members former = nat_lt most_members (length members) || nat_lt most_former (length former)
 
--- A view is refused where its name is taken, a log isn't there, or two of its logs have one head key; else it meets a limit where it has more than 16 members
--- or former logs. Its block is put.
-pub data ViewLine (judged : Key → List ℕ → Option Judged) (w : Played) (name : List ℕ) : Option (List PubKey) → Option (List PubKey) → Outcome Played → Type 0 where
+-- A view is refused where its name is taken, a log isn't there, or two of its logs have one head key; else it meets a limit where it has
+-- more than 16 members or former logs. Its block is put.
+pub data ViewLine (judged : Key → List ℕ → Option Judged) (w : Played) (name : List ℕ) : Option (List PubKey) → Option (List PubKey)
+    → Outcome Played → Type 0 where
   known : {members former : Option (List PubKey)} → is_some (view_named w.0 name) ≡ true → ViewLine judged w name members former Refuses
   no_members : {former : Option (List PubKey)} → ViewLine judged w name None former Refuses
   no_former : {members : Option (List PubKey)} → ViewLine judged w name members None Refuses
-  one_head_key : (members former : List PubKey) → have_own_head_keys (members ++ former) ≡ false → ViewLine judged w name (Some members) (Some former) Refuses
-  exceeds : (members former : List PubKey) → is_some (view_named w.0 name) ≡ false → have_own_head_keys (members ++ former) ≡ true → is_too_large members former ≡ true
+  one_head_key : (members former : List PubKey) → have_own_head_keys (members ++ former) ≡ false
+      → ViewLine judged w name (Some members) (Some former) Refuses
+  exceeds : (members former : List PubKey) → is_some (view_named w.0 name) ≡ false → have_own_head_keys (members ++ former) ≡ true
+      → is_too_large members former ≡ true
       → ViewLine judged w name (Some members) (Some former) Exceeds
-  makes : (members former : List PubKey) (r : ℕ) (view : View) (next : World) → is_some (view_named w.0 name) ≡ false → have_own_head_keys (members ++ former) ≡ true
-      → is_too_large members former ≡ false → w.0.replicas ≡ Some r → view ≡ record { members = in_key_order members; former = in_key_order former }
+  makes : (members former : List PubKey) (r : ℕ) (view : View) (next : World) → is_some (view_named w.0 name) ≡ false
+      → have_own_head_keys (members ++ former) ≡ true
+      → is_too_large members former ≡ false → w.0.replicas ≡ Some r
+      → view ≡ record { members = in_key_order members; former = in_key_order former }
       → (put : Puts judged (with_view w.0 name view) r (view_name view) (ask.PutBlock (view_name view) (view_block view)) next)
       → ViewLine judged w name (Some members) (Some former) (Goes (next, record w.1 { acked = w.1.acked ++ acked_view view put.came }) [])
 
@@ -148,7 +171,8 @@ abbrev pub names_of_sessions : World → List ℕ → List (List ℕ)
 names_of_sessions w by = map (λ t. t.name) (filter (λ t. bytes_eq t.session.by by) w.sessions)
 
 abbrev pub afresh_told : Played → List ℕ → List Record → Story
-afresh_told w by set = record (knowing_now w.1 by set) { sessions = filter (λ c. not (list_any (bytes_eq c.0) (names_of_sessions w.0 by))) w.1.sessions }
+afresh_told w by set = record (knowing_now w.1 by set)
+    { sessions = filter (λ c. not (list_any (bytes_eq c.0) (names_of_sessions w.0 by))) w.1.sessions }
 
 -- the records of the view's members
 abbrev pub of_members : View → List Record → List Record
@@ -156,10 +180,16 @@ of_members view s = filter (λ r. list_any (eq_by_cmp owner_cmp r.owner) view.me
 
 -- in another view it knows what it knew of that one's members
 abbrev pub after_entering : Played → Participant → View → Entering → Option Kept → Outcome Played
-after_entering w p view (Entered after) saving = Goes (afresh w.0 (record p { agent = after; keeper = asked_to_save p.keeper saving }), afresh_told w p.name (of_members view (known_of w.1 p.name))) []
+after_entering w p view (Entered after) saving =
+    Goes (
+      afresh w.0 (record p { agent = after; keeper = asked_to_save p.keeper saving }),
+      afresh_told w p.name
+          (of_members view (known_of w.1 p.name)),
+    ) []
 after_entering w p view NotMember saving = Refuses
 after_entering w p view (NotNamed log) saving = Refuses
-after_entering w p view (KeeperFailed after) saving = Goes (with_participant w.0 (record p { agent = after; keeper = asked_to_save p.keeper saving }), w.1) (failed_text (codes "use") p.name)
+after_entering w p view (KeeperFailed after) saving =
+    Goes (with_participant w.0 (record p { agent = after; keeper = asked_to_save p.keeper saving }), w.1) (failed_text (codes "use") p.name)
 
 abbrev pub use_by : Played → Option Participant → Option View → Outcome Played
 use_by w (Some p) (Some view) = (let came = entering p.agent view (fails_next p.keeper) in after_entering w p view came.0 came.1)
@@ -181,19 +211,22 @@ keep_line w log count new = keep_by w (participant w log) count new
 
 -- ---- restart
 
--- what becomes of the participant whose agent starts again from what was saved; what it then has to publish counts as made and met from now on
+-- what becomes of the participant whose agent starts again from what was saved; what it then has to publish counts as made and met from now
+-- on
 abbrev pub restarted : World → Participant → Kept → World
 restarted w p k = record (afresh w (having_made (record p { agent = restored k }) k.pending)) { met = met_by w.met k.pending }
 
 -- it knows what the floor that was saved names, where names tell apart
 abbrev pub IsKnownAgain : World → Kept → List Record → Type 0
-IsKnownAgain next k set = (view : View) → k.view ≡ Some view → NamesTellApart (named_bytes next) → IsKnown view k.floor set × Stand next.met set
+IsKnownAgain next k set = (view : View) → k.view ≡ Some view → NamesTellApart (named_bytes next)
+    → IsKnown view k.floor set × Stand next.met set
 
 -- The agent starts again from what its keeper's bytes say.
 pub data RestartLine (w : Played) : Option Participant → Outcome Played → Type 0 where
   nobody : RestartLine w None Refuses
   outside : (p : Participant) → p.agent.view ≡ None → RestartLine w (Some p) Refuses
-  starts : (p : Participant) (view : View) (k : Kept) (set : List Record) → p.agent.view ≡ Some view → IsKept k → p.keeper.kept ≡ Some (kept_bytes k)
+  starts : (p : Participant) (view : View) (k : Kept) (set : List Record) → p.agent.view ≡ Some view → IsKept k
+      → p.keeper.kept ≡ Some (kept_bytes k)
       → IsKnownAgain (restarted w.0 p k) k set
       → RestartLine w (Some p) (Goes (restarted w.0 p k, afresh_told w p.name set) [])
 
@@ -204,7 +237,8 @@ snap_text name root = codes "snap " ++ name ++ 32 ∷ encode_lower root.0 ++ 10 
 
 -- what a participant's snapshot is made of
 abbrev pub snapping_in : Participant → View → (Agent × Bool) × Option Kept
-snapping_in p view = snapping p.agent (root_name view (basis_of p.agent.holding)) (snapshot_blocks view (basis_of p.agent.holding)) (fails_next p.keeper)
+snapping_in p view = snapping p.agent (root_name view (basis_of p.agent.holding)) (snapshot_blocks view (basis_of p.agent.holding))
+    (fails_next p.keeper)
 
 -- the participant after it, and with the snapshot that was printed
 abbrev pub having_tried : Participant → View → Participant
@@ -217,8 +251,11 @@ having_snapped p view = record (having_tried p view) { printed = Some (root_name
 pub data SnapLine (judged : Key → List ℕ → Option Judged) (w : Played) : Option Participant → Outcome Played → Type 0 where
   nobody : SnapLine judged w None Refuses
   outside : (p : Participant) → p.agent.view ≡ None → SnapLine judged w (Some p) Refuses
-  fails : (p : Participant) (view : View) → p.agent.view ≡ Some view → (snapping_in p view).0.1 ≡ false → IfSome (snapping_in p view).1 (λ k. ArePostsSpelled k.pending)
+  fails : (p : Participant) (view : View) → p.agent.view ≡ Some view → (snapping_in p view).0.1 ≡ false
+      → IfSome (snapping_in p view).1 (λ k. ArePostsSpelled k.pending)
       → SnapLine judged w (Some p) (Goes (with_participant w.0 (having_tried p view), w.1) (failed_text (codes "snap") p.name))
-  makes : (p q : Participant) (view : View) (r : ℕ) (next : Played) → p.agent.view ≡ Some view → (snapping_in p view).0.1 ≡ true → w.0.replicas ≡ Some r → q ≡ having_snapped p view
-      → ArePostsSpelled q.agent.pending → Publishes judged r (record (with_participant w.0 q) { met = met_by w.0.met q.agent.pending }, w.1) q next
+  makes : (p q : Participant) (view : View) (r : ℕ) (next : Played) → p.agent.view ≡ Some view → (snapping_in p view).0.1 ≡ true
+      → w.0.replicas ≡ Some r → q ≡ having_snapped p view
+      → ArePostsSpelled q.agent.pending
+      → Publishes judged r (record (with_participant w.0 q) { met = met_by w.0.met q.agent.pending }, w.1) q next
       → SnapLine judged w (Some p) (Goes next (snap_text p.name (root_name view (basis_of p.agent.holding))))

@@ -1,5 +1,6 @@
 -- Lines that change the ring: it is made, a node joins or stops.
-use Rattle.std.specs.Prelude.{◌≡◌, ℕ, zero, suc, ◌==◌, ◌<◌, nat_lt, nat_le, Bool, true, false, ◌&&◌, ◌||◌, not, List, [], ◌∷◌, ◌++◌, length, map, fold, codes, Option, Some, None, is_some, if◌then◌else◌}
+use Rattle.std.specs.Prelude.{◌≡◌, ℕ, zero, suc, ◌==◌, ◌<◌, nat_lt, nat_le, Bool, true, false, ◌&&◌, ◌||◌, not, List, [], ◌∷◌, ◌++◌, length}
+use Rattle.std.specs.Prelude.{map, fold, codes, Option, Some, None, is_some, if◌then◌else◌}
 use Rattle.std.specs.List.{list_any}
 use Rattle.std.specs.Fmt.{decimal}
 use Rattle.std.specs.Ordering.{eq_by_cmp}
@@ -31,7 +32,8 @@ is_known_id peers p = list_any (λ q. eq_by_cmp key_cmp q.id p.id) peers
 -- the peers of the first numbers; one whose identifier stands already is left out
 abbrev pub first_peers : ℕ → List Peer
 first_peers zero = []
-first_peers (suc n) = (let before = first_peers n in if is_known_id before (peer_numbered n) then before else before ++ peer_numbered n ∷ [])
+first_peers (suc n) = (let before = first_peers n in if is_known_id before (peer_numbered n) then before else before
+    ++ peer_numbered n ∷ [])
 
 -- peers in the order of their places
 abbrev pub with_peer : List Peer → Peer → List Peer
@@ -62,7 +64,8 @@ is_refused_ring w count r = is_some w.replicas || not (nat_le 1 r && nat_le r 8)
 pub data RingLine (w : World) (count r : ℕ) : Outcome World → Type 0 where
   refused : is_refused_ring w count r ≡ true → RingLine w count r Refuses
   exceeds : is_refused_ring w count r ≡ false → nat_le count 256 ≡ false → RingLine w count r Exceeds
-  makes : (nodes : List Node) → is_refused_ring w count r ≡ false → nat_le count 256 ≡ true → AreSettled (in_ring_order (first_peers count)) r (first_peers count) nodes
+  makes : (nodes : List Node) → is_refused_ring w count r ≡ false → nat_le count 256 ≡ true
+      → AreSettled (in_ring_order (first_peers count)) r (first_peers count) nodes
       → RingLine w count r (Goes (record w { replicas = Some r; nodes = nodes }) [])
 
 -- ---- stop
@@ -74,7 +77,8 @@ stop_line w (Some n) = if n.is_live then Goes (with_node w (record n { is_live =
 -- ---- join
 
 -- A look-up of the key from these nodes on, by asks in the world.
-pub record LooksUp (judged : Key → List ℕ → Option Judged) (w : World) (key : Key) (entries : List Peer) (found : Option (List Peer)) (next : World) : Type 0 where
+pub record LooksUp (judged : Key → List ℕ → Option Judged) (w : World) (key : Key) (entries : List Peer) (found : Option (List Peer))
+    (next : World) : Type 0 where
   pub looks : Told
   pub fates : Fates judged w (asking (ask.Route key) looks) next
   pub lookup : IsLookup [] None entries (routes looks) found
@@ -103,12 +107,16 @@ FindsNobody (Some (p ∷ ps)) = ⊥
 pub data JoinLine (judged : Key → List ℕ → Option Judged) (w : World) (number : ℕ) : Option ℕ → Outcome World → Type 0 where
   before_ring : JoinLine judged w number None Refuses
   known : (r : ℕ) → is_known_id (map peer_of w.nodes) (peer_numbered number) ≡ true → JoinLine judged w number (Some r) Refuses
-  exceeds : (r : ℕ) → is_known_id (map peer_of w.nodes) (peer_numbered number) ≡ false → nat_le 256 (length w.nodes) ≡ true → JoinLine judged w number (Some r) Exceeds
-  alone : (r : ℕ) → is_known_id (map peer_of w.nodes) (peer_numbered number) ≡ false → nat_le 256 (length w.nodes) ≡ false → least (live_peers w) ≡ None
+  exceeds : (r : ℕ) → is_known_id (map peer_of w.nodes) (peer_numbered number) ≡ false → nat_le 256 (length w.nodes) ≡ true
+      → JoinLine judged w number (Some r) Exceeds
+  alone : (r : ℕ) → is_known_id (map peer_of w.nodes) (peer_numbered number) ≡ false → nat_le 256 (length w.nodes) ≡ false
+      → least (live_peers w) ≡ None
       → JoinLine judged w number (Some r) (Goes (with_new_node w (empty_node (alone_node (peer_numbered number) r))) [])
-  joins : (r : ℕ) (through p : Peer) (ps : List Peer) (next : World) → is_known_id (map peer_of w.nodes) (peer_numbered number) ≡ false → nat_le 256 (length w.nodes) ≡ false
+  joins : (r : ℕ) (through p : Peer) (ps : List Peer) (next : World) → is_known_id (map peer_of w.nodes) (peer_numbered number) ≡ false
+      → nat_le 256 (length w.nodes) ≡ false
       → least (live_peers w) ≡ Some through → LooksUp judged w (peer_numbered number).id (through ∷ []) (Some (p ∷ ps)) next
       → JoinLine judged w number (Some r) (Goes (with_new_node next (joined_node (peer_numbered number) r (p ∷ ps))) [])
-  fails : (r : ℕ) (through : Peer) (found : Option (List Peer)) (next : World) → is_known_id (map peer_of w.nodes) (peer_numbered number) ≡ false → nat_le 256 (length w.nodes) ≡ false
+  fails : (r : ℕ) (through : Peer) (found : Option (List Peer)) (next : World)
+      → is_known_id (map peer_of w.nodes) (peer_numbered number) ≡ false → nat_le 256 (length w.nodes) ≡ false
       → least (live_peers w) ≡ Some through → LooksUp judged w (peer_numbered number).id (through ∷ []) found next → FindsNobody found
       → JoinLine judged w number (Some r) (Goes next (failed_join_text number))

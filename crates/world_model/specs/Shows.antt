@@ -1,8 +1,9 @@
 -- Lines that show something: they change nothing.
-use Rattle.std.specs.Prelude.{List, ℕ, [], ◌∷◌, ◌++◌, codes, length, Option, Some, None, is_some, if◌then◌else◌}
+use Rattle.std.specs.Prelude.{List, ℕ, nat_lt, Bool, [], ◌∷◌, ◌++◌, codes, length, Option, Some, None, is_some, if◌then◌else◌}
 use Rattle.std.specs.List.{flat_map}
 use Rattle.std.specs.Fmt.{decimal}
 use Rattle.hex.specs.Hex.{encode_lower}
+use Rattle.log_model.specs.Conflicts.{Clash, clashes, most_clashes}
 use Rattle.log_model.specs.Record.{Record}
 use Rattle.log_model.specs.Rank.{weight}
 use Rattle.script_driver.specs.Run.{Outcome, Goes, Refuses, Exceeds}
@@ -39,24 +40,48 @@ order_text w p = p.name ++ 32 ∷ decimal (length p.agent.holding.held) ++ 10 �
 abbrev pub work_text : Participant → List ℕ
 work_text p = p.name ++ 32 ∷ decimal p.work ++ 10 ∷ []
 
--- a participant that entered a view shows this
-abbrev pub of_entered : (Participant → List ℕ) → Option Participant → Showing
-of_entered text None = Absent
-of_entered text (Some p) = if is_some p.agent.view then Text (text p) else Absent
+-- ---- which of the records that it holds are in conflict
+
+-- what both touch: bytes of a file, or else a name in a directory
+abbrev pub touched_text : Bool → List ℕ
+touched_text bytes = if bytes then codes "bytes" else codes "name"
+
+-- two records by their logs and numbers, the one of the smaller rank first, and what both touch
+abbrev pub clash_line : World → Clash → List ℕ
+clash_line w c =
+    name_of_owner w c.first.owner ++ 32 ∷ decimal c.first.seq ++ 32 ∷ name_of_owner w c.second.owner ++ 32 ∷ decimal c.second.seq
+    ++ 32 ∷ touched_text c.bytes ++ 10 ∷ []
+
+abbrev pub clashes_text : World → List ℕ → List Clash → List ℕ
+clashes_text w name list = name ++ 32 ∷ decimal (length list) ++ 10 ∷ flat_map (clash_line w) list
+
+-- of the log of that name, unless there are too many
+abbrev pub clashes_shown : World → List ℕ → List Clash → Showing
+clashes_shown w name list = if nat_lt most_clashes (length list) then TooMuch else Text (clashes_text w name list)
+
+abbrev pub conflicts_shown : World → Participant → Showing
+conflicts_shown w p = clashes_shown w p.name (clashes p.agent.holding.held)
 
 -- ---- the line
+
+-- a participant that entered a view shows this
+abbrev pub of_entered : (Participant → Showing) → Option Participant → Showing
+of_entered shows None = Absent
+of_entered shows (Some p) = if is_some p.agent.view then shows p else Absent
 
 -- the word that the line and what it shows begin with
 abbrev pub word_of : Shown → List ℕ
 word_of (shown.Holds node) = codes "holds"
 word_of (shown.Order log) = codes "order"
 word_of (shown.Work log) = codes "work"
+word_of (shown.Conflicts log) = codes "conflicts"
 
 -- what is shown behind that word
 abbrev pub showing : World → Shown → Showing
 showing w (shown.Holds node) = of_live (node_named w node)
-showing w (shown.Order log) = of_entered (order_text w) (participant w log)
-showing w (shown.Work log) = of_entered work_text (participant w log)
+showing w (shown.Order log) = of_entered (λ p. Text (order_text w p)) (participant w log)
+showing w (shown.Work log) = of_entered (λ p. Text (work_text p)) (participant w log)
+showing w (shown.Conflicts log) = of_entered (conflicts_shown w) (participant w log)
 
 -- a line that shows nothing is refused, and one that would show too much meets a limit
 abbrev pub shown_as : World → List ℕ → Showing → Outcome World

@@ -1,4 +1,5 @@
--- The step of a script: what a line may do in a world with its story. Each kind of line has its module; a kind that comes later is one more case.
+-- The step of a script: what a line may do in a world with its story. Each kind of line has its module; a kind that comes later is one more
+-- case.
 use Rattle.std.specs.Prelude.{◌≡◌, ℕ, nat_lt, Bool, true, false, List, [], Option, Some, None, MatchBool, length, sum_by}
 use Rattle.ivy_base.specs.declared.key.Key.{Key}
 use Rattle.dht_ids.specs.declared.judge.Judged.{Judged}

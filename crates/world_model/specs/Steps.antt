@@ -1,5 +1,6 @@
 -- Steps of a session in the world: one ask, one turn or one settling each.
-use Rattle.std.specs.Prelude.{◌≡◌, ℕ, zero, suc, nat_lt, ◌==◌, if◌then◌else◌, length, List, [], ◌∷◌, ◌++◌, map, filter, fold, drop, take, Option, Some, None}
+use Rattle.std.specs.Prelude.{◌≡◌, ℕ, zero, suc, nat_lt, ◌==◌, if◌then◌else◌, length, List, [], ◌∷◌, ◌++◌, map, filter, fold, drop, take}
+use Rattle.std.specs.Prelude.{Option, Some, None}
 use Rattle.std.specs.List.{list_any}
 use Rattle.std.specs.Int.{w32, from_be_bytes}
 use Rattle.ivy_base.specs.declared.key.Key.{Key}
@@ -92,29 +93,54 @@ abbrev pub acked_by : Stage → Stage → List Post
 acked_by (Publishing said (p ∷ posts) acks) (Publishing also rest more) = if nat_lt (length acks) (length more) then p ∷ [] else []
 acked_by _ _ = []
 
--- what is told after an ask by which the session became this one: the verified heads among what it was brought, and a post that was acknowledged
+-- what is told after an ask by which the session became this one: the verified heads among what it was brought, and a post that was
+-- acknowledged
 abbrev pub ask_told : Story → List ℕ → Session → Session → Story
-ask_told st name s t = record (receiving st name (all_heads (brought_in (drop (length s.parts) t.parts)))) { acked = st.acked ++ acked_by s.stage t.stage }
+ask_told st name s t = record (receiving st name (all_heads (brought_in (drop (length s.parts) t.parts)))) {
+  acked = st.acked
+      ++ acked_by s.stage t.stage;
+}
 
 -- ---- steps
 
 module _ (judged : Key → List ℕ → Option Judged) (replicas : ℕ) where
-  -- What the session does in one step, of which others see something: it asks, has a turn, or settles. Where memory is wanting an answer may not be heard.
+  -- What the session does in one step, of which others see something: it asks, has a turn, or settles. Where memory is wanting an answer
+  -- may not be heard.
   pub data Acts (p : Participant) (c : Scene) : Scene → Type 0 where
-    asks : (node : Peer) (question : Ask) (answer : Answer) (next : World) (heard t : Session) (cache : Cache) → FateOf judged c.world node question answer next
+    asks : (node : Peer) (question : Ask) (answer : Answer) (next : World) (heard t : Session) (cache : Cache)
+        → FateOf judged c.world node question answer next
         → Hears judged replicas c.session p.cache node question answer heard cache → Fails heard t
-        → Acts p c (record { world = with_participant next (record p { cache = cache }); story = ask_told c.story p.name c.session t; session = t; began = c.began })
-    asks_in_vain : (node : Peer) (question : Ask) (answer : Answer) (next : World) (heard t : Session) (cache : Cache) → FateOf judged c.world node question answer next
+        → Acts p c (record {
+          world = with_participant next (record p { cache = cache });
+          story = ask_told c.story p.name c.session t;
+          session = t;
+          began = c.began;
+        })
+    asks_in_vain : (node : Peer) (question : Ask) (answer : Answer) (next : World) (heard t : Session) (cache : Cache)
+        → FateOf judged c.world node question answer next
         → Hears judged replicas c.session p.cache node question answer heard cache → LacksMemory c.session t
         → Acts p c (record c { world = next; session = t })
-    turns : (view : View) (reply : Reply) (applied : ℕ) (after : Agent) (saving : Option Kept) (t : Session) (turned : Turned) → p.agent.view ≡ Some view
+    turns : (view : View) (reply : Reply) (applied : ℕ) (after : Agent) (saving : Option Kept) (t : Session) (turned : Turned)
+        → p.agent.view ≡ Some view
         → TakesTurn (turning_of c.world p view) c.session (Answered reply applied) after saving t → turned.reply ≡ reply
-        → (NamesTellApart (named_bytes c.world) → IsTurnIn (named_bytes c.world) (turning_of c.world p view) c.session c.began.knew (known_of c.story p.name) turned)
-        → Acts p c (record { world = world_after c.world (record (after_turn p after saving) { work = applied }); story = turn_told c p view after turned; session = t; began = c.began })
-    is_refused : (view : View) (end : TurnEnd) (after : Agent) (saving : Option Kept) (t : Session) → p.agent.view ≡ Some view → IsRefusal end
+        → (NamesTellApart (named_bytes c.world)
+        → IsTurnIn (named_bytes c.world) (turning_of c.world p view) c.session c.began.knew (known_of c.story p.name) turned)
+        → Acts p c (record {
+          world = world_after c.world (record (after_turn p after saving) { work = applied });
+          story = turn_told c p view after turned;
+          session = t;
+          began = c.began;
+        })
+    is_refused : (view : View) (end : TurnEnd) (after : Agent) (saving : Option Kept) (t : Session) → p.agent.view ≡ Some view
+        → IsRefusal end
         → TakesTurn (turning_of c.world p view) c.session end after saving t
-        → Acts p c (record c { world = world_after c.world (after_turn p after saving); session = t; began = record c.began { knew = known_of c.story p.name } })
-    settles : (after : Agent) (t : Session) → Settles p.agent c.session after t → Acts p c (record c { world = with_participant c.world (record p { agent = after }); session = t })
+        → Acts p c (record c {
+          world = world_after c.world (after_turn p after saving);
+          session = t;
+          began = record c.began { knew = known_of c.story p.name };
+        })
+    settles : (after : Agent) (t : Session) → Settles p.agent c.session after t
+        → Acts p c (record c { world = with_participant c.world (record p { agent = after }); session = t })
 
   -- with another cache of its participant
   abbrev pub with_cache : Scene → Participant → Session → Cache → Scene
@@ -122,9 +148,11 @@ module _ (judged : Key → List ℕ → Option Judged) (replicas : ℕ) where
 
   -- A step of a participant's session: what is at hand is taken first; or memory is wanting, and the session is over.
   pub data Steps (name : List ℕ) (c : Scene) : Scene → Type 0 where
-    acts : (p : Participant) (taken : Session) (cache : Cache) (next : Scene) → participant c.world name ≡ Some p → TakesAll judged replicas c.session p.cache taken cache
+    acts : (p : Participant) (taken : Session) (cache : Cache) (next : Scene) → participant c.world name ≡ Some p
+        → TakesAll judged replicas c.session p.cache taken cache
         → Acts (record p { cache = cache }) (with_cache c p taken cache) next → Steps name c next
-    lacks_memory : (p : Participant) (taken t : Session) (cache : Cache) → participant c.world name ≡ Some p → TakesSome judged replicas c.session p.cache taken cache → LacksMemory taken t
+    lacks_memory : (p : Participant) (taken t : Session) (cache : Cache) → participant c.world name ≡ Some p
+        → TakesSome judged replicas c.session p.cache taken cache → LacksMemory taken t
         → Steps name c (with_cache c p t cache)
 
   -- so many steps; a session that is over stays

@@ -23,8 +23,8 @@ pub record Began : Type 0 where
   pub number : ℕ
   pub knew : List Record
 
--- A turn that was answered: of which session, whose it was and in which view, what was met before it and when it was, the agent behind it, and the reply
--- with what is known then.
+-- A turn that was answered: of which session, whose it was and in which view, what was met before it and when it was, the agent behind it,
+-- and the reply with what is known then.
 pub record HadTurn : Type 0 where
   pub session : Session
   pub began : Began
@@ -36,7 +36,8 @@ pub record HadTurn : Type 0 where
   pub after : Agent
   pub turned : Turned
 
--- The participants' and the open sessions' parts, how many calls began, the turns that were answered, and the posts of which a put was acknowledged.
+-- The participants' and the open sessions' parts, how many calls began, the turns that were answered, and the posts of which a put was
+-- acknowledged.
 pub record Story : Type 0 where
   pub participants : List Knowing
   pub sessions : List (List ℕ × Began)

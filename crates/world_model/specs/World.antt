@@ -16,8 +16,8 @@ use Rattle.world_model.specs.Agents.{Agent, own}
 use Rattle.world_model.specs.Keepers.{Keeper}
 use Rattle.world_model.specs.Nodes.{Node}
 
--- Who writes a log: its name in the script, its agent and the keeper of it, its cache, the names of the records that its agent made by their numbers, the last
--- snapshot that a line printed, how many records its last turn applied, and the heads that left it.
+-- Who writes a log: its name in the script, its agent and the keeper of it, its cache, the names of the records that its agent made by
+-- their numbers, the last snapshot that a line printed, how many records its last turn applied, and the heads that left it.
 pub record Participant : Type 0 where
   pub name : List ℕ
   pub agent : Agent
@@ -37,8 +37,8 @@ pub record NamedSession : Type 0 where
   pub name : List ℕ
   pub session : Session
 
--- What is stored: r, where a ring was made; the nodes in the order in which they were made; participants, views and sessions in the order of their lines; what
--- each reply gave; the moment; how many asks there were, and which are lost; and the blocks met, each once.
+-- What is stored: r, where a ring was made; the nodes in the order in which they were made; participants, views and sessions in the order
+-- of their lines; what each reply gave; the moment; how many asks there were, and which are lost; and the blocks met, each once.
 pub record World : Type 0 where
   pub replicas : Option ℕ
   pub nodes : List Node
@@ -81,7 +81,10 @@ abbrev pub with_participant : World → Participant → World
 with_participant w p = record w { participants = map (λ q. if bytes_eq q.name p.name then p else q) w.participants }
 
 abbrev pub with_session : World → List ℕ → Session → World
-with_session w name s = record w { sessions = map (λ t. if bytes_eq t.name name then record { name = name; session = s } else t) w.sessions }
+with_session w name s = record w {
+  sessions = map
+      (λ t. if bytes_eq t.name name then record { name = name; session = s } else t) w.sessions;
+}
 
 abbrev pub without_session : World → List ℕ → World
 without_session w name = record w { sessions = filter (λ t. not (bytes_eq t.name name)) w.sessions }

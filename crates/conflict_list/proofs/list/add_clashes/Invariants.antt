@@ -1,5 +1,6 @@
 use Rattle.std.proofs.Common.{◌+◌, ◌≤◌, length}
-use Rattle.conflict_list.specs.Conflicts.{most_clashes, seen_all}
+use Rattle.log_model.specs.Conflicts.{most_clashes}
+use Rattle.conflict_list.specs.Conflicts.{seen_all}
 use Rattle.conflict_list.proofs.Rows.{IsRowSoFar, Passed}
 use Rattle.conflict_list.proofs.list.add_clashes.Given as goal
 
