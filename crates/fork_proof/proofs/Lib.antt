@@ -5,3 +5,9 @@ pub mod Reading
 pub mod Walks
 pub mod Accepted
 pub mod Forks
+pub mod SignedTips
+pub mod PlaceLemmas
+pub mod WaysDown
+pub mod Names
+pub mod FoundProofs
+pub mod OneFinding

@@ -8,7 +8,8 @@ use Rattle.ivy_base.specs.declared.key.PubKey.{PubKey}
 use Rattle.log_model.specs.Vector.{Stamp}
 use Rattle.log_model.specs.Spelling.{head_message}
 use Rattle.log_records.proofs.OneHead.{one_head}
-use Rattle.fork_proof.specs.Forms.{Head, IsHead, ForkProof, bytes_of_head, proof_tag}
+use Rattle.fork_model.specs.Bytes.{proof_tag}
+use Rattle.fork_proof.specs.Forms.{Head, IsHead, ForkProof, bytes_of_head}
 use Rattle.fork_proof.specs.Reading.{longest_head}
 use Rattle.fork_proof.specs.Laws.{ProofsAreOne}
 use Rattle.fork_proof.proofs.Claims.{message_length}

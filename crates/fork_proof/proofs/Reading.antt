@@ -17,7 +17,8 @@ use Rattle.block_parts.proofs.Constants.{one_constant}
 use Rattle.log_records.specs.Reading.{IsSpelled}
 use Rattle.log_records.proofs.OneHead.{one_head}
 use Rattle.log_records.proofs.ReadParts.{fit_read, misfit_read, is_whole, is_not_whole}
-use Rattle.fork_proof.specs.Forms.{Head, ForkProof, IsHead, IsProofOf, IsShort, bytes_of_head, proof_tag, most_blocks}
+use Rattle.fork_proof.specs.Forms.{Head, ForkProof, IsHead, IsProofOf, IsShort, bytes_of_head}
+use Rattle.fork_model.specs.Bytes.{proof_tag, most_blocks}
 use Rattle.fork_proof.specs.Reading.{Front, IsFrontOfProof, front_bytes, AreBlocks, AreHeads, longest_head}
 use Rattle.fork_proof.proofs.Many.{counted_read, more_read}
 use Rattle.fork_proof.proofs.OneProof.{head_bytes_few}

@@ -29,7 +29,7 @@ module _ (owner : PubKey) where
   leads_on (here {seq = n} {name = name}) seq block r e link = let same : suc seq ≡ n = omega (arith, e) in subst (λ (k : ℕ). LeadsDown owner k name (block ∷ []) r.prev) same (down r link here)
   leads_on (down s also more) seq block r e link = down s also (leads_on more seq block r (omega (arith, e)) link)
 
-  leads_more : {n : ℕ} {name mid : Key} {blocks : List (List ℕ)} → LeadsDown owner n name blocks mid → (seq : ℕ) (block : List ℕ) (r : Record) → 1 ≤ seq → seq + length blocks ≡ n → IsLink owner seq mid block r
+  pub leads_more : {n : ℕ} {name mid : Key} {blocks : List (List ℕ)} → LeadsDown owner n name blocks mid → (seq : ℕ) (block : List ℕ) (r : Record) → 1 ≤ seq → seq + length blocks ≡ n → IsLink owner seq mid block r
       → LeadsDown owner n name (blocks ++ block ∷ []) r.prev
   leads_more leads zero block r some e link = absurd (omega (arith, some))
   leads_more leads (suc seq) block r some e link = leads_on leads seq block r e link
@@ -81,7 +81,7 @@ signed_as {owner} {other} {message} {said} {signature} e f h = subst (λ (o : Pu
 -- ---- records
 
 -- one block is one record
-one_read : (owner : PubKey) (block : List ℕ) (r s : Record) → IsRead owner block r → IsRead owner block s → r ≡ s
+pub one_read : (owner : PubKey) (block : List ℕ) (r s : Record) → IsRead owner block r → IsRead owner block s → r ≡ s
 one_read owner block r s f g = whole (one_record owner) r s (f.spelled.owned, f.spelled.fits) (g.spelled.owned, g.spelled.fits) (sym f.spelled.spelled ∙ g.spelled.spelled)
 
 pub prev_found : (owner : PubKey) (block : List ℕ) (seq : ℕ) (r : Record) (found : Option Key) → IsRead owner block r → MatchOption found (r.seq ≡ seq → ⊥) (λ prev. (r.seq ≡ seq) × (prev ≡ r.prev))

@@ -1,21 +1,18 @@
 -- The bytes of a fork proof: two signed heads of one log, and the records that lead from the head of the greater number down to the
 -- number of the other.
-use Rattle.std.specs.Prelude.{◌≡◌, ℕ, suc, ◌+◌, ◌≤◌, List, [], ◌∷◌, ◌++◌, length}
+use Rattle.std.specs.Prelude.{◌≡◌, ℕ, suc, ◌+◌, ◌≤◌, List, [], ◌∷◌, length}
 use Rattle.std.specs.List.{AllByRecursion}
 use Rattle.ivy_base.specs.declared.key.Key.{Key}
 use Rattle.ivy_base.specs.declared.key.PubKey.{PubKey}
-use Rattle.wire_model.specs.Xdr.{opaque, array, IsWord}
+use Rattle.wire_model.specs.Xdr.{IsWord}
 use Rattle.log_model.specs.Vector.{Stamp}
 use Rattle.log_model.specs.Record.{Record}
 use Rattle.log_model.specs.Spelling.{head_block, head_message, IsHeadOf}
 use Rattle.log_records.specs.Records.{IsRead}
 use Rattle.hss_keys.specs.Hss.{HssAccepts}
+use Rattle.fork_model.specs.Bytes.{fork_bytes, most_blocks}
 
 -- ---- the bytes
-
--- "IVF1"
-abbrev pub proof_tag : List ℕ
-proof_tag = 73 ∷ 86 ∷ 70 ∷ 49 ∷ []
 
 -- a head of a log: the newest record that it says, and its signature
 pub record Head : Type 0 where
@@ -33,14 +30,10 @@ abbrev pub bytes_of_head : PubKey → Head → List ℕ
 bytes_of_head owner h = head_block owner h.newest h.signature
 
 abbrev pub proof_bytes : ForkProof → List ℕ
-proof_bytes p = proof_tag ++ opaque (bytes_of_head p.owner p.low) ++ opaque (bytes_of_head p.owner p.high) ++ array opaque p.blocks
+proof_bytes p = fork_bytes (bytes_of_head p.owner p.low) (bytes_of_head p.owner p.high) p.blocks
 
 abbrev pub IsHead : PubKey → Head → Type 0
 IsHead owner h = IsHeadOf owner (bytes_of_head owner h) h.newest h.signature
-
--- so many blocks at most stand in a proof
-abbrev pub most_blocks : ℕ
-most_blocks = 1024
 
 -- a word holds the count of a block's bytes
 abbrev pub IsShort : List ℕ → Type 0

@@ -1,15 +1,18 @@
 -- What a fork proof says of a log, and of which bytes it is one.
-use Rattle.std.specs.Prelude.{◌≡◌, ◌⊎◌, List, ℕ, ◌++◌}
+use Rattle.std.specs.Prelude.{◌≡◌, ◌⊎◌, List, ℕ, ◌++◌, Some}
 use Rattle.ivy_base.specs.Naming.{HasClash}
 use Rattle.log_model.specs.Record.{Record}
 use Rattle.log_model.specs.Chain.{LinkedFrom}
 use Rattle.log_model.specs.Fetched.{EndsAt}
 use Rattle.log_model.specs.Spelling.{no_name}
 use Rattle.log_model.specs.Standing.{blocks_of}
+use Rattle.fork_model.specs.Before.{Before, TellsRecords}
+use Rattle.fork_model.specs.Finding.{find_fork}
+use Rattle.fork_proof.specs.declared.checking.Forked.{Forked}
 use Rattle.fork_proof.specs.declared.fault.ProofFault.{ProofFault}
 use Rattle.fork_proof.specs.declared.fault.ProofFault.TheVariants.{Memory}
 use Rattle.fork_proof.specs.Forms.{ForkProof, IsProof, IsProofOf, proof_bytes}
-use Rattle.fork_proof.specs.Checks.{IsShown, ShowsNone}
+use Rattle.fork_proof.specs.Checks.{IsShown, ShowsFork, ShowsNone}
 
 abbrev pub IsPrefixOf : List Record → List Record → Type 0
 IsPrefixOf xs ys = (rest : List Record) × (xs ++ rest ≡ ys)
@@ -29,6 +32,21 @@ ForksAreForks = (p : ForkProof) (low high : List Record) → IsProof p → IsSho
 -- the bytes are one proof
 abbrev pub ProofsAreOne : Type 0
 ProofsAreOne = (bytes : List ℕ) (p q : ForkProof) → IsProofOf bytes p → IsProofOf bytes q → p ≡ q
+
+-- By whatever function the records are told, one thing is found.
+abbrev pub FoundIsOne : Type 0
+FoundIsOne = (before other : Before) (heads blocks : List (List ℕ)) → TellsRecords before → TellsRecords other
+    → find_fork before heads blocks ≡ find_fork other heads blocks
+
+-- What is found is a proof that shows a fork.
+abbrev pub FoundIsShown : Type 0
+FoundIsShown = (before : Before) (heads blocks : List (List ℕ)) (bytes : List ℕ) → TellsRecords before
+    → find_fork before heads blocks ≡ Some bytes → (f : Forked) × ShowsFork bytes f
+
+-- So it isn't refused but for want of memory.
+abbrev pub FoundIsNotRefused : Type 0
+FoundIsNotRefused = (before : Before) (heads blocks : List (List ℕ)) (bytes : List ℕ) (fault : ProofFault) → TellsRecords before
+    → find_fork before heads blocks ≡ Some bytes → ShowsNone bytes fault → fault ≡ Memory
 
 -- A proof that shows a fork isn't refused but for want of memory.
 abbrev pub ShownIsNotRefused : Type 0

@@ -6,12 +6,13 @@ use Rattle.wire_model.specs.Xdr.{opaque, IsAny, IsUpTo}
 use Rattle.log_model.specs.Heads.{stamp}
 use Rattle.log_model.specs.Spelling.{IsHeadOf, head_message}
 use Rattle.block_parts.specs.Parts.{constant_bytes}
+use Rattle.fork_model.specs.Bytes.{proof_tag, most_blocks}
 use Rattle.log_records.specs.declared.head.Head as kept
 use Rattle.fork_proof.specs.declared.claim.Claim.{Claim}
 use Rattle.fork_proof.specs.declared.form.Proof.{Proof}
 use Rattle.fork_proof.specs.declared.fault.ProofFault.{ProofFault}
 use Rattle.fork_proof.specs.declared.fault.ProofFault.TheVariants.{Malformed, HeadWrong, Unlinked, Memory}
-use Rattle.fork_proof.specs.Forms.{Head, ForkProof, IsProofOf, IsShort, proof_tag, most_blocks}
+use Rattle.fork_proof.specs.Forms.{Head, ForkProof, IsProofOf, IsShort}
 use Rattle.fork_proof.specs.Checks.{FailsAt, BreaksAt}
 
 -- no head has more bytes
@@ -54,7 +55,12 @@ pub record AreKept (low high : Claim) : Type 0 where
 
 -- a proof as it is kept
 abbrev pub proof_of : Proof → ForkProof
-proof_of p = record { owner = p.low.head.owner; low = head_of p.low.head; high = head_of p.high.head; blocks = map (λ b. b.now) p.blocks.items }
+proof_of p = record {
+  owner = p.low.head.owner;
+  low = head_of p.low.head;
+  high = head_of p.high.head;
+  blocks = map (λ b. b.now) p.blocks.items;
+}
 
 abbrev pub IsNoProof : List ℕ → ProofFault → Type 0
 IsNoProof bytes Malformed = (p : ForkProof) → IsProofOf bytes p → ⊥

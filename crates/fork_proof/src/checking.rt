@@ -121,7 +121,12 @@ fn before(
 }
 
 /// The name of the record before it, where the block is the owner's record of that number. The error is want of memory.
-fn prev_of(alloc: Global, owner: &PubKey, seq: u32, block: &[u8]) -> Result<Option<Key>, Memory>
+pub(crate) fn prev_of(
+    alloc: Global,
+    owner: &PubKey,
+    seq: u32,
+    block: &[u8],
+) -> Result<Option<Key>, Memory>
     ensures { IfOk result (λ o. MatchOption o ((r : AnyRecord) → IsRead owner.now block.now r → r.seq ≢ seq) (λ prev. (r : AnyRecord) × IsRead owner.now block.now r × (r.seq ≡ seq) × (prev ≡ r.prev))) }
 {
     match Record::read(alloc, block, owner) {

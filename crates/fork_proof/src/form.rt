@@ -7,7 +7,8 @@ ghost use Rattle.wire_model.specs.Xdr.{word, opaque, array, AreSoMany, IsAny};
 ghost use Rattle.wire_model.specs.Parts.{Reads};
 ghost use Rattle.log_model.specs.Spelling.{most_records};
 ghost use Rattle.block_parts.specs.Parts.{constant_bytes, IsAtMost};
-ghost use Rattle.fork_proof.specs.Forms.{Head as AnyHead, IsShort, IsProofOf, proof_tag, most_blocks};
+ghost use Rattle.fork_model.specs.Bytes.{fork_bytes, proof_tag, most_blocks};
+ghost use Rattle.fork_proof.specs.Forms.{Head as AnyHead, IsShort, IsProofOf};
 ghost use Rattle.fork_proof.specs.Reading.{IsFrontOfProof, front_bytes, AreBlocks, head_of, AreHeads, AreKept, proof_of, IsNoProof};
 
 use crate::claim::Claim;

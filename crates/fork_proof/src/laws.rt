@@ -1,6 +1,6 @@
 //! Laws of fork proofs.
 
-ghost use Rattle.fork_proof.specs.Laws.{ForksAreForks, ProofsAreOne, ShownIsNotRefused};
+ghost use Rattle.fork_proof.specs.Laws.{ForksAreForks, ProofsAreOne, ShownIsNotRefused, FoundIsOne, FoundIsShown, FoundIsNotRefused};
 
 /// Laws and no code. What is shown is a fork: of any two histories of the log up to its heads neither begins the other,
 /// unless two different blocks share a name. Bytes are of one proof. And a proof of what is shown is refused only for want
@@ -9,4 +9,12 @@ pub fn forks_are_forks()
     ensures forks { ForksAreForks }
     ensures one { ProofsAreOne }
     ensures accepted { ShownIsNotRefused }
+{}
+
+/// Laws and no code. By whatever function the records of blocks are told, one thing is found. It is a proof that shows a fork,
+/// and the check of it fails only for want of memory.
+pub fn found_forks_are_shown()
+    ensures one { FoundIsOne }
+    ensures shown { FoundIsShown }
+    ensures accepted { FoundIsNotRefused }
 {}

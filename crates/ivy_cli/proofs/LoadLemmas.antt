@@ -25,7 +25,7 @@ zero_is_ended (RefusedAt n) e = absurd (omega (arith, e))
 zero_is_ended (LimitAt n) e = absurd (omega (arith, e))
 
 -- a status is none but these
-none_of : {a b c x status : ℕ} → (status ≡ a) ⊎ (status ≡ b) ⊎ (status ≡ c) → status ≡ x → (x ≡ a → ⊥) → (x ≡ b → ⊥) → (x ≡ c → ⊥) → ⊥
+pub none_of : {a b c x status : ℕ} → (status ≡ a) ⊎ (status ≡ b) ⊎ (status ≡ c) → status ≡ x → (x ≡ a → ⊥) → (x ≡ b → ⊥) → (x ≡ c → ⊥) → ⊥
 none_of statuses is not_a not_b not_c = elim statuses [
   | inl a ↦ not_a (sym is ∙ a)
   | inr more ↦ elim more [ inl b ↦ not_b (sym is ∙ b) | inr c ↦ not_c (sym is ∙ c) ]

@@ -27,7 +27,9 @@ use Rattle.ivy_cli.specs.declared.words.Asked.TheVariants as asked
 use Rattle.ivy_cli.specs.declared.words.Participant.{Participant}
 use Rattle.ivy_cli.specs.Crowds.{IsCrowd, IsTold, tally_text}
 use Rattle.ivy_cli.specs.Loads.{IsLoad}
-use Rattle.ivy_cli.specs.Runs.{Does, EndsWell, IsPlay, IsUsage, Outside, Streams, crowd_asked, serves_over, service_asked}
+use Rattle.ivy_cli.specs.Forks.{IsFork}
+use Rattle.ivy_cli.specs.Streams.{Streams}
+use Rattle.ivy_cli.specs.Runs.{Does, EndsWell, IsPlay, IsUsage, Outside, crowd_asked, serves_over, service_asked}
 use Rattle.ivy_cli.specs.Words.{AskService, asked_of}
 use Rattle.ivy_cli.proofs.LoadLemmas.{nothing_more}
 use Rattle.ivy_cli.proofs.WordLemmas.{IsOfService, of_service}
@@ -204,6 +206,11 @@ module _ {P Ks K Q W C : Type 0} (kind : ServiceKind P Ks K Q W C) (words found 
     unfolding Does
     does_serve port participant e goes left reads = by_form (asked.Serve port participant) e (record { left = left; reads = reads }, goes)
 
+    pub does_fork : form ≡ asked.Fork → IsFork status before.streams after.streams
+        → after.clock ≡ before.clock → after.ports ≡ before.ports → after.keepers ≡ before.keepers → Does kind words status before after
+    unfolding Does
+    does_fork e checked clock ports keepers = by_form asked.Fork e (checked, record { clock = clock; others = record { ports = ports; keepers = keepers } })
+
   pub does_usage : found ≡ None → IsUsage status before.streams after.streams
       → after.streams.left ≡ before.streams.left → after.streams.reads ≡ before.streams.reads
       → after.clock ≡ before.clock → after.ports ≡ before.ports → after.keepers ≡ before.keepers → Does kind words status before after
@@ -219,6 +226,7 @@ lacks kind (Some (asked.Load seed calls)) outside is = absurd is
 lacks kind (Some (asked.Crowd threads calls)) outside is = absurd is
 lacks kind (Some (asked.Serve port participant)) outside is =
     (record { left = refl; reads = refl }, goes_nowhere kind (service_asked port participant) (serves_over kind outside).around outside.keepers outside.clock)
+lacks kind (Some asked.Fork) outside is = absurd is
 lacks kind None outside is =
     (record { left = refl; reads = refl }, untold_usage outside.streams, record { clock = refl; others = record { ports = refl; keepers = refl } })
 
@@ -248,6 +256,15 @@ load_other loaded e = elim loaded.statuses [
   ]
 ]
 
+fork_other : {status : ℕ} {before after : Streams} → IsFork status before after → IsOther status
+fork_other checked e = elim checked.statuses [
+  | inl x ↦ omega (arith, x, e)
+  | inr a ↦ elim a [
+    | inl x ↦ omega (arith, x, e)
+    | inr b ↦ elim b [ inl x ↦ omega (arith, x, e) | inr d ↦ elim d [ inl x ↦ omega (arith, x, e) | inr x ↦ omega (arith, x, e) ] ]
+  ]
+]
+
 module _ {C : Type 0} (wanted : crowd.Asked C) {status : ℕ} {held holds : Option (List ℕ)} {wrote writes : ℕ} (come : IsCrowd wanted status held holds wrote writes) where
   crowd_other : IsOther status
   crowd_other e = elim come.statuses [ inl x ↦ omega (arith, x, e) | inr a ↦ elim a [ inl x ↦ omega (arith, x, e) | inr x ↦ omega (arith, x, e) ] ]
@@ -264,6 +281,7 @@ module _ {P Ks K Q W C : Type 0} (kind : ServiceKind P Ks K Q W C) (status : ℕ
   none_asked (Some (asked.Crowd threads calls)) does e = absurd (crowd_other (crowd_asked kind threads calls before.clock after.clock) does.1 e)
   none_asked (Some (asked.Serve port participant)) does e =
       absurd (goes_other kind (service_asked port participant) (serves_over kind before) status (serves_over kind after) does.1 e)
+  none_asked (Some asked.Fork) does e = absurd (fork_other does.0 e)
   none_asked None does e = refl
 
   -- and where no count rose, it ended as it should, but for memory
@@ -276,4 +294,5 @@ module _ {P Ks K Q W C : Type 0} (kind : ServiceKind P Ks K Q W C) (status : ℕ
   ends_well (Some (asked.Crowd threads calls)) does wrote quiet kept = crowd_well (crowd_asked kind threads calls before.clock after.clock) does.1 wrote
   ends_well (Some (asked.Serve port participant)) does wrote quiet kept =
       goes_well kind (service_asked port participant) (serves_over kind before) status (serves_over kind after) does.1 wrote quiet kept
+  ends_well (Some asked.Fork) does wrote quiet kept = tt
   ends_well None does wrote quiet kept = tt

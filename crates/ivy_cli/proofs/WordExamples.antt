@@ -51,3 +51,11 @@ two_names = refl
 no_sets : asked_of (serve (codes "1") (codes "a") (codes "1") (codes "aa") (codes "w4h6")) ≡ None
 unfolding command_of hex_on_literals
 no_sets = refl
+
+-- ---- fork proofs
+
+fork_alone : asked_of (codes "fork" ∷ []) ≡ Some asked.Fork
+fork_alone = refl
+
+fork_of_a_file : asked_of (codes "fork" ∷ codes "a" ∷ []) ≡ None
+fork_of_a_file = refl

@@ -27,5 +27,6 @@ pub record IsCrowd {C : Type 0} (asked : Asked C) (status : ℕ) (held holds : O
   -- 5: only where the sink's count rose
   pub write_fault : status ≡ 5 → Rose wrote writes
   -- 5 and 6: nothing was told, or less than all lines
-  pub less : status ≢ 0 → (holds ≡ held) ⊎ ((text : List ℕ) × IsTold asked text × (k : ℕ) × (k < length text) × (holds ≡ then held (take k text)))
+  pub less : status ≢ 0 → (holds ≡ held)
+      ⊎ ((text : List ℕ) × IsTold asked text × (k : ℕ) × (k < length text) × (holds ≡ then held (take k text)))
   pub later : wrote ≤ writes

@@ -2,7 +2,8 @@
 use Rattle.std.specs.Prelude.{◌≡◌, ℕ, ◌<◌, ◌^◌, List, ◌++◌, codes, Some, None}
 use Rattle.hex.specs.Hex.{encode_lower}
 use Rattle.wire_model.specs.Xdr.{word}
-use Rattle.wire_model.specs.Rpc.{Outcome, Success, ProgramUnavailable, ProgramMismatch, ProcedureUnavailable, GarbageArguments, SystemError, RpcMismatch, BadCredential, reply}
+use Rattle.wire_model.specs.Rpc.{Outcome, Success, ProgramUnavailable, ProgramMismatch, ProcedureUnavailable, GarbageArguments, SystemError}
+use Rattle.wire_model.specs.Rpc.{RpcMismatch, BadCredential, reply}
 use Rattle.ivy_cli.specs.Summary.{status_in}
 
 -- the line that shows the reply to a call
@@ -11,7 +12,8 @@ reply_line xid outcome = codes "reply " ++ encode_lower (reply xid outcome)
 
 -- the line of a call that was served shows the status that its results begin with, whatever is behind it
 abbrev pub ServedCallsShowStatus : Type 0
-ServedCallsShowStatus = (xid status : ℕ) (rest : List ℕ) → status < 2 ^ 32 → status_in (reply_line xid (Success (word status ++ rest))) ≡ Some status
+ServedCallsShowStatus = (xid status : ℕ) (rest : List ℕ) → status < 2 ^ 32
+    → status_in (reply_line xid (Success (word status ++ rest))) ≡ Some status
 
 -- the line of a call that was refused shows none
 abbrev pub RefusedCallsShowNone : Type 0

@@ -1,7 +1,11 @@
 pub mod Words
+pub mod Streams
 pub mod Loads
 pub mod Crowds
+pub mod ProofLines
+pub mod Forks
 pub mod Runs
 pub mod Generator
 pub mod Summary
 pub mod Laws
+pub mod ForkLaws

@@ -27,7 +27,8 @@ load_runs seed calls told = (ran : Ran) × ivy_runs (Some (script_of seed calls)
 -- for a call, or where names clash; or memory was wanting to the player.
 abbrev pub IsLoaded : ℕ → ℕ → ℕ → Option (List ℕ) → Option (List ℕ) → Type 0
 IsLoaded seed calls status held holds =
-    ((ran : Ran) × IsFullOrTells (script_of seed calls) ran × (status ≡ status_of ran.ending) × (holds ≡ then held (told_of calls ran.text ran.ending)))
+    ((ran : Ran) × IsFullOrTells (script_of seed calls) ran × (status ≡ status_of ran.ending)
+    × (holds ≡ then held (told_of calls ran.text ran.ending)))
     ⊎ (status ≡ 6)
 
 -- what comes before anything is told: the summary of the text that a run shows which ends by its line `end`

@@ -15,17 +15,12 @@ use Rattle.ivy_cli.specs.declared.words.Asked.{Asked}
 use Rattle.ivy_cli.specs.declared.words.Asked.TheVariants as asked
 use Rattle.ivy_cli.specs.declared.words.Participant.{Participant}
 use Rattle.ivy_cli.specs.Words.{usage_line}
+use Rattle.ivy_cli.specs.Streams.{IsUnread, Streams}
 use Rattle.ivy_cli.specs.Loads.{IsLoad}
 use Rattle.ivy_cli.specs.Crowds.{IsCrowd}
+use Rattle.ivy_cli.specs.Forks.{IsFork}
 
 -- ---- what is outside
-
--- a source and a sink: what is left and what is held, where it is known, and the counts of faults
-pub record Streams : Type 0 where
-  pub left : Option (List ℕ)
-  pub held : Option (List ℕ)
-  pub reads : ℕ
-  pub writes : ℕ
 
 -- all that is outside: the source and the sink, the clock, the ports and the keepers
 pub record Outside (P Ks C : Type 0) : Type 0 where
@@ -33,11 +28,6 @@ pub record Outside (P Ks C : Type 0) : Type 0 where
   pub clock : C
   pub ports : P
   pub keepers : Ks
-
--- the source stayed as it was
-pub record IsUnread (before after : Streams) : Type 0 where
-  pub left : after.left ≡ before.left
-  pub reads : after.reads ≡ before.reads
 
 -- the clock, the ports or the keepers stayed as they were: what they hold, where that is known, and their counts
 abbrev pub IsUntouched : {S : Type 0} → S → S → Type 0
@@ -69,7 +59,8 @@ pub record IsPlay (status : ℕ) (before after : Streams) : Type 0 where
   pub alike : (ending : Ending) → ((ran : Ran) → ivy_runs before.left ran → ran.ending ≡ ending)
       → ¬ Rose before.reads after.reads → ¬ Rose before.writes after.writes → (status ≡ status_of ending) ⊎ (status ≡ 6)
   pub fully : IfSome before.left RunsFully
-  pub complete : IfSome before.left (λ script. ¬ Rose before.reads after.reads → ¬ Rose before.writes after.writes → IsPlayed script status before.held after.held)
+  pub complete : IfSome before.left (λ script. ¬ Rose before.reads after.reads → ¬ Rose before.writes after.writes
+      → IsPlayed script status before.held after.held)
   pub reads : before.reads ≤ after.reads
   pub writes : before.writes ≤ after.writes
 
@@ -106,14 +97,18 @@ module _ {P Ks K Q W C : Type 0} (kind : ServiceKind P Ks K Q W C) where
   Does (Some asked.Play) status before after = IsPlay status before.streams after.streams × AreAllUntouched before after
   Does (Some (asked.Load seed calls)) status before after =
       IsUnread before.streams after.streams
-      × IsLoad seed calls status before.streams.held after.streams.held before.streams.writes after.streams.writes × AreAllUntouched before after
+      × IsLoad seed calls status before.streams.held after.streams.held before.streams.writes after.streams.writes
+      × AreAllUntouched before after
   Does (Some (asked.Crowd threads calls)) status before after =
       IsUnread before.streams after.streams
-      × IsCrowd (crowd_asked threads calls before.clock after.clock) status before.streams.held after.streams.held before.streams.writes after.streams.writes
+      × IsCrowd (crowd_asked threads calls before.clock after.clock) status before.streams.held after.streams.held before.streams.writes
+      after.streams.writes
       × AreUntouched before after
   Does (Some (asked.Serve port participant)) status before after =
       IsUnread before.streams after.streams × Goes kind (service_asked port participant) (serves_over before) status (serves_over after)
-  Does None status before after = IsUnread before.streams after.streams × IsUsage status before.streams after.streams × AreAllUntouched before after
+  Does (Some asked.Fork) status before after = IsFork status before.streams after.streams × AreAllUntouched before after
+  Does None status before after = IsUnread before.streams after.streams × IsUsage status before.streams after.streams
+      × AreAllUntouched before after
 
 -- a crowd or a service ended with 0, or for want of memory
 abbrev pub EndsWell : Option Asked → ℕ → Type 0

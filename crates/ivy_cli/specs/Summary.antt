@@ -1,5 +1,6 @@
 -- The summary of what a generated script showed: how many calls it had, the statuses of their replies, and the digest of all of it.
-use Rattle.std.specs.Prelude.{ℕ, ◌==◌, nat_lt, nat_eq, List, [], ◌∷◌, ◌++◌, codes, count_by, take, drop, Option, Some, None, option_and_then, if◌then◌else◌}
+use Rattle.std.specs.Prelude.{ℕ, ◌==◌, nat_lt, nat_eq, List, [], ◌∷◌, ◌++◌, codes, count_by, take, drop, Option, Some, None}
+use Rattle.std.specs.Prelude.{option_and_then, if◌then◌else◌}
 use Rattle.std.specs.Int.{w32, from_be_bytes}
 use Rattle.std.specs.List.{flat_map, filter_map, slice_split, starts_with}
 use Rattle.std.specs.Str.{bytes_eq}

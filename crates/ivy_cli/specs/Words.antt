@@ -1,5 +1,6 @@
 -- The words of the command line: what they ask for, by their positions.
-use Rattle.std.specs.Prelude.{◌≡◌, ℕ, ◌*◌, ◌≤◌, true, ◌^◌, ◌==◌, ◌&&◌, nat_le, List, [], ◌∷◌, ◌++◌, codes, Option, Some, None, if◌then◌else◌}
+use Rattle.std.specs.Prelude.{◌≡◌, ℕ, ◌*◌, ◌≤◌, true, ◌^◌, ◌==◌, ◌&&◌, nat_le, List, [], ◌∷◌, ◌++◌, codes, Option, Some, None}
+use Rattle.std.specs.Prelude.{if◌then◌else◌}
 use Rattle.std.specs.Str.{bytes_eq}
 use Rattle.hash_signature_model.specs.Saved.{AreLevels}
 use Rattle.script_model.specs.Lines.{command_of}
@@ -56,9 +57,13 @@ serve_of (p ∷ name ∷ id ∷ seed ∷ sets ∷ []) = do
   Some (asked.Serve port participant)
 serve_of _ = None
 
+abbrev pub fork_of : List (List ℕ) → Option Asked
+fork_of [] = Some asked.Fork
+fork_of _ = None
+
 -- ---- all words
 
--- the forms: `play`, `load SEED CALLS`, `crowd T CALLS`, and `serve PORT NAME ID SEED SETS`
+-- the forms: `play`, `load SEED CALLS`, `crowd T CALLS`, `serve PORT NAME ID SEED SETS`, and `fork`
 abbrev pub asked_of : List (List ℕ) → Option Asked
 asked_of [] = None
 asked_of (word ∷ words) =
@@ -66,10 +71,11 @@ asked_of (word ∷ words) =
     else if bytes_eq word (codes "load") then load_of words
     else if bytes_eq word (codes "crowd") then crowd_of words
     else if bytes_eq word (codes "serve") then serve_of words
+    else if bytes_eq word (codes "fork") then fork_of words
     else None
 
 abbrev pub usage_line : List ℕ
-usage_line = codes "usage: ivy play | load SEED CALLS | crowd T CALLS | serve PORT NAME ID SEED SETS\n"
+usage_line = codes "usage: ivy play | load SEED CALLS | crowd T CALLS | serve PORT NAME ID SEED SETS | fork\n"
 
 -- ---- what comes of the forms
 

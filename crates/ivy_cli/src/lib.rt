@@ -15,14 +15,18 @@
 //! - `serve PORT NAME ID SEED SETS`: the participant of the script's line `log NAME ID SEED SETS` is served on
 //!   the port. Its key grows, and signed nothing before. All that `serve` of `ivy_service` promises is handed
 //!   on (`Goes`, with the key that the words name).
+//! - `fork`: the fork proof that the source has in hexadecimal digits is checked, and the log that it shows with
+//!   two histories is written, or `no proof` ([`fork`]; `IsFork` in `specs/Forks.antt`). Status 0 comes only for
+//!   one line of digits (`specs/ProofLines.antt`), and 3 only for any other input. Status 4 comes only where the
+//!   source's count of faults rose, and 5 only where the sink's did.
 //! - Any other words: the status is 2, exactly where no form fits. Then the usage line was written, or the
 //!   sink's count of faults rose. If memory ran out for that line, the status is 6.
 //!
-//! What a form doesn't use stays as it was, which `Does` says form by form: the source is read by `play`
-//! alone, the clock is asked by `crowd` and `serve`, and the ports and the keepers are used by `serve` alone.
+//! What a form doesn't use stays as it was, which `Does` says form by form: the source is read by `play` and
+//! `fork` alone, the clock is asked by `crowd` and `serve`, and the ports and the keepers are used by `serve` alone.
 //!
 //! `crowd` and `serve` start threads and wait for them. So no clause says that [`run`] returns: its contract is
-//! of a call that does. What it calls for `play` and for `load` has no bound that would let it wait.
+//! of a call that does. What it calls for `play`, `load` and `fork` has no bound that would let it wait.
 //! Reading the words takes memory for the form `serve` alone, and so does growing its key. If it is wanting
 //! there, the status is 6 and nothing outside was touched.
 //!
@@ -33,19 +37,24 @@
 //!   its lines show, ascending, each with its count, and the text's SHA-1.
 //! - The only error of both is running out of memory.
 //! - [`lines_show_statuses`] is the law that says which status of RPC's replies such a status is.
+//! - [`forks_are_judged_alike`] says that what `fork` tells is determined by its input, and
+//!   [`written_digits_are_read`] that the digits of some bytes are read as these bytes (`specs/ForkLaws.antt`).
 //! - `proofs/Examples.antt` computes scripts and summaries from the definitions; other programs made the same
 //!   ones.
 //!
 //! Costs: a script has at most 53 bytes for each call. A summary reads the first 62 bytes of each line. It
 //! goes over the statuses once more for each different one, of which NFS has 29. The key of a service grows
-//! before its keeper is asked for: a tree for each set.
+//! before its keeper is asked for: a tree for each set. `fork` holds all digits of its input,
+//! and the bytes that they are.
 #![tactic(auto)]
 
 mod crowding;
 mod draws;
+mod forking;
 mod laws;
 mod loading;
 mod memory;
+mod proof_line;
 mod running;
 mod script;
 mod serving;
@@ -53,7 +62,8 @@ mod statuses;
 mod summing;
 mod words;
 
-pub use laws::lines_show_statuses;
+pub use forking::fork;
+pub use laws::{forks_are_judged_alike, lines_show_statuses, written_digits_are_read};
 pub use loading::load;
 pub use running::run;
 pub use script::generate;

@@ -12,6 +12,7 @@ ghost use Rattle.ivy_cli.specs.Runs.{Does, EndsWell, IsPlay};
 ghost use Rattle.ivy_cli.specs.Words.{asked_of, usage_line};
 
 use crate::crowding::tell_crowd;
+use crate::forking::fork;
 use crate::loading::load;
 use crate::serving::serve_participant;
 use crate::words::{Asked, read_words};
@@ -23,8 +24,8 @@ use std::sync::Wait;
 use std::thread::Threads;
 
 /// What is told where the words are of no form.
-const USAGE: &[u8; 81] =
-    b"usage: ivy play | load SEED CALLS | crowd T CALLS | serve PORT NAME ID SEED SETS\n";
+const USAGE: &[u8; 88] =
+    b"usage: ivy play | load SEED CALLS | crowd T CALLS | serve PORT NAME ID SEED SETS | fork\n";
 
 /// The status of a program that was called by other words.
 const STATUS_USAGE: Status = 2;
@@ -34,12 +35,13 @@ const STATUS_MEMORY: Status = 6;
 
 /// Does what the words behind the program's name ask for. `play` plays the script of the source, and `load SEED CALLS` a
 /// generated one. `crowd T CALLS` has threads of one participant create files. `serve PORT NAME ID SEED SETS` serves a
-/// participant until the ports end or fail. Status 2 comes exactly where the words are of no such form, and then the sink is
-/// told the usage line. Status 6 is want of memory.
+/// participant until the ports end or fail. `fork` checks the fork proof that the source has in digits, as [`fork`] does.
+/// Status 2 comes exactly where the words are of no such form, and then the sink is told the usage line. Status 6 is want of
+/// memory.
 ///
 /// The runtime is for `crowd` and `serve` alone, which start threads and wait for them. No clause says that these return. The
-/// clock is used by both, the ports and the keepers by `serve` alone, and the source by `play` alone: what isn't used stays as
-/// it was, what it holds and its counts.
+/// clock is used by both, the ports and the keepers by `serve` alone, and the source by `play` and `fork` alone: what isn't used
+/// stays as it was, what it holds and its counts.
 pub fn run<R: Threads + Wait + Sync, Q: Source, W: Sink, C: Clock, P: Ports + Send, K: Keepers>(
     rt: &R,
     alloc: Global,
@@ -88,6 +90,7 @@ pub fn run<R: Threads + Wait + Sync, Q: Source, W: Sink, C: Clock, P: Ports + Se
             ports,
             keepers,
         ),
+        Ok(Some(Asked::Fork)) => fork(alloc, source, sink),
         Ok(None) => tell_usage(sink),
         Err(Memory) => STATUS_MEMORY,
     }

@@ -4,7 +4,7 @@ ghost use Rattle.std.specs.Prelude.{◌≡◌, ◌^◌, ◌*◌, ◌&&◌, [], �
 ghost use Rattle.std.specs.Char.{is_ascii_digit};
 ghost use Rattle.std.specs.List.{list_all};
 ghost use Rattle.script_model.specs.Words.{is_decimal, number_below};
-ghost use Rattle.ivy_cli.specs.Words.{AskService, Fits, asked_of, crowd_of, load_of, participant_of, play_of, port_of, serve_of};
+ghost use Rattle.ivy_cli.specs.Words.{AskService, Fits, asked_of, crowd_of, fork_of, load_of, participant_of, play_of, port_of, serve_of};
 
 use command_lines::read_command;
 use ivy_base::{Bytes, Memory};
@@ -70,6 +70,8 @@ pub enum Asked {
         /// Who is served.
         participant: Participant,
     },
+    /// `fork`: the source has a fork proof in hexadecimal digits, and what it shows is told.
+    Fork,
 }
 
 /// What the words behind the program's name ask for, if they are of one of the forms. They are matched by their positions;
@@ -90,6 +92,8 @@ pub fn read_words(alloc: Global, words: &[String]) -> Result<Option<Asked>, Memo
         Ok(crowd(rest))
     } else if word.as_str() == "serve" {
         serve(alloc, rest)
+    } else if word.as_str() == "fork" {
+        Ok(fork(rest))
     } else {
         Ok(None)
     }
@@ -181,6 +185,16 @@ fn service(
     match participant_of(alloc, &command)? {
         Some(participant) => Ok(Some(Asked::Serve { port, participant })),
         None => Ok(None),
+    }
+}
+
+/// The check of a fork proof, of no further words.
+fn fork(words: &[String]) -> Option<Asked>
+    ensures { result ≡ fork_of (map (λ word. string_bytes word) words.now) }
+{
+    match words {
+        [] => Some(Asked::Fork),
+        _ => None,
     }
 }
 

@@ -1,4 +1,4 @@
-//! The words `crowd` and `serve`, and that sessions run beside each other.
+//! The words `crowd`, `serve` and `fork`, and that sessions run beside each other.
 //!
 //! Each line is a call of `run`: its words, or what is tried; the status; and what the sink was told, with a comma for the end of
 //! a line and only the length of the name of the newest record. `no answer` is want of memory.
@@ -6,6 +6,8 @@
 //! - By `serve` over two links of its own: the first one's last byte comes only once the second one has its reply, or where that
 //!   was looked for a thousand million times. On threads both links get their reply, and one loop over the links would leave the
 //!   first one without.
+//! - By `fork` over each line of standard input: a name, and behind a blank what `fork` reads, where `/` stands for the end of a
+//!   line. The answers are those of the rules, or of a model of the program in another language, which made the proofs.
 //! - By `crowd 2 1` over clocks of its own: each clock that a session is given gives its moment only once two of them were asked,
 //!   or where that was looked for as often. On threads no clock looks in vain, and on one thread the first one would.
 //!
@@ -44,8 +46,15 @@ fn main(rt: HostRuntime) -> io::Result<()> {
     plain(&rt, rt.alloc(), "serve 0 a 1 aa w4h5", 0)?;
     plain(&rt, rt.alloc(), SERVE, 0)?;
     plain(&rt, rt.alloc(), SERVE, 1)?;
+    plain(&rt, rt.alloc(), "fork", 0)?;
+    plain(&rt, rt.alloc(), "fork a", 0)?;
     two_links(&rt, rt.alloc())?;
-    two_clocks(&rt, rt.alloc())
+    two_clocks(&rt, rt.alloc())?;
+    for line in rt.lines(rt.alloc()) {
+        let line = line?;
+        check_proof(&rt, rt.alloc(), line.as_str())?;
+    }
+    Ok(())
 }
 
 /// What came of a call of `run`: the status, and what the sink was told.
@@ -55,12 +64,13 @@ struct Ran {
     told: String,
 }
 
-/// Calls `run` with these words, over nothing on standard input. The keepers' call of that number fails, from 1 on. The error is
-/// want of memory.
+/// Calls `run` with these words, over this input. The keepers' call of that number fails, from 1 on. The error is want of
+/// memory.
 fn obey<R: Threads + Wait + Sync, C: Clock, P: Ports + Send>(
     rt: &R,
     alloc: Global,
     line: &str,
+    input: Bytes,
     clock: &mut C,
     ports: &mut P,
     failing: u64,
@@ -69,7 +79,7 @@ fn obey<R: Threads + Wait + Sync, C: Clock, P: Ports + Send>(
     for word in line.split(' ') {
         words.push(String::from_str(alloc, word)?)?;
     }
-    let mut source = MemSource::new(Bytes::of(Vec::new(alloc)), Failing::of(Vec::new(alloc)));
+    let mut source = MemSource::new(input, Failing::of(Vec::new(alloc)));
     let mut sink = MemSink::new(alloc, Failing::of(Vec::new(alloc)));
     let mut fails = Vec::new(alloc);
     fails.push(failing)?;
@@ -91,7 +101,8 @@ fn obey<R: Threads + Wait + Sync, C: Clock, P: Ports + Send>(
     Ok(Ran { status, told })
 }
 
-/// Prints what came of these words, over ports in memory without a link. The keepers' call of that number fails, from 1 on.
+/// Prints what came of these words over nothing, over ports in memory without a link. The keepers' call of that number fails,
+/// from 1 on.
 fn plain<R: Print + Threads + Wait + Sync>(
     rt: &R,
     alloc: Global,
@@ -103,14 +114,38 @@ fn plain<R: Print + Threads + Wait + Sync>(
     let Ok(mut ports) = links else {
         return println!(rt; "no answer");
     };
-    match obey(rt, alloc, line, &mut clock, &mut ports, failing) {
-        Ok(ran) => {
-            print!(rt; "{line}: ")?;
-            show(rt, &ran)?;
-            println!(rt; "")
+    let nothing = Bytes::of(Vec::new(alloc));
+    let ran = obey(rt, alloc, line, nothing, &mut clock, &mut ports, failing);
+    show_named(rt, line, ran)
+}
+
+/// Prints what came of the word `fork`, over the input that stands in the line behind a name.
+fn check_proof<R: Print + Threads + Wait + Sync>(
+    rt: &R,
+    alloc: Global,
+    line: &str,
+) -> io::Result<()> {
+    let mut clock = FixedClock::new(SECOND, 0);
+    let links = MemPorts::new(alloc, Vec::new(alloc), Failing::of(Vec::new(alloc)));
+    let (Some((name, text)), Ok(mut ports)) = (line.split_once(' '), links) else {
+        return println!(rt; "no answer");
+    };
+    match input_of(alloc, text) {
+        Ok(input) => {
+            let ran = obey(rt, alloc, "fork", input, &mut clock, &mut ports, 0);
+            show_named(rt, name, ran)
         }
         Err(Memory) => println!(rt; "no answer"),
     }
+}
+
+/// The bytes of a text in which `/` stands for the end of a line. The error is want of memory.
+fn input_of(alloc: Global, text: &str) -> Result<Bytes, Memory> {
+    let mut bytes = Vec::new(alloc);
+    for byte in text.bytes() {
+        bytes.push(if byte == b'/' { b'\n' } else { byte })?;
+    }
+    Ok(Bytes::of(bytes))
 }
 
 /// Prints what came of two links that wait for each other.
@@ -122,7 +157,8 @@ fn two_links<R: Print + Threads + Wait + Sync>(rt: &R, alloc: Global) -> io::Res
     let Ok(mut ports) = TwoLinks::new(alloc, &board) else {
         return println!(rt; "no answer");
     };
-    match obey(rt, alloc, SERVE, &mut clock, &mut ports, 0) {
+    let nothing = Bytes::of(Vec::new(alloc));
+    match obey(rt, alloc, SERVE, nothing, &mut clock, &mut ports, 0) {
         Ok(ran) => {
             let (back, replied) = ports.counts();
             let in_vain = board.in_vain();
@@ -144,12 +180,25 @@ fn two_clocks<R: Print + Threads + Wait + Sync>(rt: &R, alloc: Global) -> io::Re
         return println!(rt; "no answer");
     };
     let mut clock = MeetingClock::first(shared);
-    match obey(rt, alloc, "crowd 2 1", &mut clock, &mut ports, 0) {
+    let nothing = Bytes::of(Vec::new(alloc));
+    match obey(rt, alloc, "crowd 2 1", nothing, &mut clock, &mut ports, 0) {
         Ok(ran) => {
             let (given, in_vain) = (board.given(), board.in_vain());
             print!(rt; "two clocks: ")?;
             show(rt, &ran)?;
             println!(rt; ", {given} clocks, {in_vain} looked in vain")
+        }
+        Err(Memory) => println!(rt; "no answer"),
+    }
+}
+
+/// Prints a line of what came, behind its name.
+fn show_named<R: Print>(rt: &R, name: &str, ran: Result<Ran, Memory>) -> io::Result<()> {
+    match ran {
+        Ok(ran) => {
+            print!(rt; "{name}: ")?;
+            show(rt, &ran)?;
+            println!(rt; "")
         }
         Err(Memory) => println!(rt; "no answer"),
     }

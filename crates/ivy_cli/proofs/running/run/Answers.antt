@@ -1,5 +1,5 @@
 use Rattle.std.proofs.Common.{refl}
-use Rattle.ivy_cli.proofs.RunLemmas.{does_crowd, does_lack, does_load, does_play, does_serve, does_usage, ends_well, none_asked}
+use Rattle.ivy_cli.proofs.RunLemmas.{does_crowd, does_fork, does_lack, does_load, does_play, does_serve, does_usage, ends_well, none_asked}
 use Rattle.ivy_cli.proofs.running.run.Goals as goal
 
 pub returns-in-Ok-Some-Play-clause-does : goal.returns-in-Ok-Some-Play-clause-does
@@ -23,6 +23,16 @@ returns-in-Ok-Some-Serve-clause-usage g c = none_asked _ _ _ _ _ (returns-in-Ok-
 
 pub returns-in-Ok-Some-Serve-clause-complete : goal.returns-in-Ok-Some-Serve-clause-complete
 returns-in-Ok-Some-Serve-clause-complete g c = ends_well _ _ _ _ _ (returns-in-Ok-Some-Serve-clause-does g c)
+
+pub returns-in-Ok-Some-Fork-clause-does : goal.returns-in-Ok-Some-Fork-clause-does
+returns-in-Ok-Some-Fork-clause-does g c = does_fork _ _ _ _ _ _ c.in-Ok-Some-Fork.ensures.is _ c.in-Ok-Some-Fork.field-0-is c.in-Ok-Some-Fork.field-0-0-is
+    c.fork.ensures refl refl refl
+
+pub returns-in-Ok-Some-Fork-clause-usage : goal.returns-in-Ok-Some-Fork-clause-usage
+returns-in-Ok-Some-Fork-clause-usage g c = none_asked _ _ _ _ _ (returns-in-Ok-Some-Fork-clause-does g c)
+
+pub returns-in-Ok-Some-Fork-clause-complete : goal.returns-in-Ok-Some-Fork-clause-complete
+returns-in-Ok-Some-Fork-clause-complete g c = ends_well _ _ _ _ _ (returns-in-Ok-Some-Fork-clause-does g c)
 
 pub returns-in-Ok-None-clause-does : goal.returns-in-Ok-None-clause-does
 returns-in-Ok-None-clause-does g c = does_usage _ _ _ _ _ _ c.in-Ok-None.ensures.is c.in-Ok-None.field-0-is
