@@ -11,6 +11,7 @@ pub mod Taking
 pub mod Stepping
 pub mod Nothing
 pub mod Falling
+pub mod Counting
 pub mod Fetching
 pub mod Places
 pub mod Further

@@ -11,12 +11,14 @@ use Rattle.log_fetch.specs.Trying.{Trying, EndsWith, GoesOnWith, trial_left}
 
 -- the next head is tried, of which there are fewer each time, or the log is through
 abbrev pub ConcludesAs : View → Option Edge → Trying → Batch → Batch → Concluded → Type 0
-ConcludesAs view edge t old new (concluded.Next next) = (new ≡ old) × (length next.rest < length t.rest) × (next.walk.owner ≡ t.walk.owner) × GoesOnWith view edge t old next
+ConcludesAs view edge t old new (concluded.Next next) =
+    (new ≡ old) × (length next.rest < length t.rest) × (next.walk.owner ≡ t.walk.owner) × GoesOnWith view edge t old next
 ConcludesAs view edge t old new (concluded.Over fault) = EndsWith view edge t old new fault
 
 -- a block is wanted, or the log is through
 abbrev pub SettlesAs : View → Option Edge → Trying → Batch → Batch → Settled → Type 0
-SettlesAs view edge t old new (settled.Waits next) = (new ≡ old) × (next.walk.left ≢ 0) × (next.walk.owner ≡ t.walk.owner) × GoesOnWith view edge t old next
+SettlesAs view edge t old new (settled.Waits next) =
+    (new ≡ old) × (next.walk.left ≢ 0) × (next.walk.owner ≡ t.walk.owner) × GoesOnWith view edge t old next
 SettlesAs view edge t old new (settled.Over fault) = EndsWith view edge t old new fault
 
 -- ---- how many blocks may still be wanted

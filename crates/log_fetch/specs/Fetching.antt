@@ -1,5 +1,6 @@
 -- The fetch of all members with its gets: how far it has come.
-use Rattle.std.specs.Prelude.{◌≡◌, ◌≢◌, ◌⊎◌, ℕ, ◌+◌, ◌-◌, ◌*◌, ◌^◌, Bool, true, false, List, [], ◌∷◌, ◌++◌, map, Contains, Option, Some, None, Ok, Err}
+use Rattle.std.specs.Prelude.{◌≡◌, ◌≢◌, ◌⊎◌, ℕ, ◌+◌, ◌-◌, ◌*◌, ◌^◌, ◌≤◌, min, Bool, true, false, List, [], ◌∷◌, ◌++◌, map, Contains, Option}
+use Rattle.std.specs.Prelude.{Some, None, Ok, Err, if◌then◌else◌}
 use Rattle.ivy_base.specs.declared.key.Key.{Key}
 use Rattle.ivy_base.specs.declared.key.PubKey.{PubKey}
 use Rattle.log_model.specs.Vector.{Vector}
@@ -28,19 +29,21 @@ use Rattle.log_fetch.specs.declared.gather.Known.{Known}
 use Rattle.log_fetch.specs.declared.gather.Stage.{Stage}
 use Rattle.log_fetch.specs.declared.get.Get.{Get}
 use Rattle.log_fetch.specs.declared.get.Get.TheVariants as get
+use Rattle.log_fetch.specs.Counting.{gets_of, most_gets}
 use Rattle.log_fetch.specs.Edges.{edge_in}
-use Rattle.log_fetch.specs.Gathering.{Gathers, heads_wanted, block_wanted, gets_in, seen}
+use Rattle.log_fetch.specs.Gathering.{Gathers, heads_wanted, block_wanted, gets_in, is_wanting, seen}
 use Rattle.log_fetch.specs.Gets.{GetIsAfter, get_awaited, gets_left}
 use Rattle.log_fetch.specs.Standings.{notes_of}
 
 -- ---- the state
 
--- by which judge, from how many owners and from which nodes on it gets, and how far it is
+-- by which judge, from how many owners and from which nodes on it gets, how far it is, and how many heads and records it began to get
 pub record Fetching (J : Type 0) : Type 0 where
   pub judge : J
   pub replicas : ℕ
   pub entries : List Peer
   pub state : State J
+  pub gets : ℕ
 
 abbrev pub IsSameFetch : {J : Type 0} → Fetching J → Fetching J → Type 0
 IsSameFetch old new = (new.judge ≡ old.judge) × (new.replicas ≡ old.replicas) × (new.entries ≡ old.entries)
@@ -90,6 +93,32 @@ failed_in state.Over = false
 abbrev pub is_failed : {J : Type 0} → Fetching J → Bool
 is_failed f = failed_in f.state
 
+-- the get on its way, as a count
+abbrev pub under_way : {J : Type 0} → State J → ℕ
+under_way (state.Free g) = 0
+under_way (state.Asking g x) = 1
+under_way (state.Ended fetched) = 0
+under_way state.Over = 0
+
+-- a get begins next: no other is on its way, and something is wanted
+abbrev pub begins_in : {J : Type 0} → State J → Bool
+begins_in (state.Free g) = is_wanting g.stage
+begins_in (state.Asking g x) = false
+begins_in (state.Ended fetched) = false
+begins_in state.Over = false
+
+-- a count of gets stays at the greatest number of 64 bits
+abbrev pub counted : ℕ → ℕ
+counted gets = min gets (2 ^ 64 - 1)
+
+-- so many gets were begun, with the one that begins next
+abbrev pub with_next : {J : Type 0} → ℕ → State J → ℕ
+with_next gets old = if begins_in old then counted (gets + 1) else gets
+
+-- It began to get these parts, but for those that were given, and the get on its way.
+abbrev pub HasBegun : {J : Type 0} → Fetching J → List Part → Type 0
+HasBegun f parts = f.gets ≡ counted (gets_of parts + under_way f.state)
+
 -- more asks than a get that begins may make
 unfoldable pub most_asks : ℕ
 most_asks = 2 ^ 64 + 513
@@ -126,14 +155,17 @@ IsSound judge replicas state.Over = Unit {0}
 module _ (judged : Key → List ℕ → Option Judged) (replicas : ℕ) (entries : List Peer) (s : agent.Standing) (start : Vector) where
   -- this is wanted next
   abbrev pub IsNeeded : List Part → Want → Type 0
-  IsNeeded parts want = (notes : List session.Note) × (chains : List agent.Chain) × FetchesAll (record { standing = s; start = start }) s.view.members (brought_in parts) notes chains (Needs want)
+  IsNeeded parts want = (notes : List session.Note) × (chains : List agent.Chain)
+      × FetchesAll (record { standing = s; start = start }) s.view.members (brought_in parts) notes chains (Needs want)
 
   -- each part came of what was wanted then: by the asks of a whole get, or by none, where it is a block that was at hand
   pub data AreParts : List Part → Type 0 where
     no_parts : AreParts []
-    was_got : (parts : List Part) (want : Want) (asks : List Heard) (brought : Brought) → AreParts parts → IsNeeded parts want → Gets judged replicas entries want asks brought
+    was_got : (parts : List Part) (want : Want) (asks : List Heard) (brought : Brought) → AreParts parts → IsNeeded parts want
+        → Gets judged replicas entries want asks brought
         → AreParts (parts ++ record { brought = brought; asks = asks } ∷ [])
-    was_given : (parts : List Part) (key : Key) (bytes : List ℕ) → AreParts parts → IsNeeded parts (Content key) → AreParts (parts ++ record { brought = BlockOf key (Ok bytes); asks = [] } ∷ [])
+    was_given : (parts : List Part) (key : Key) (bytes : List ℕ) → AreParts parts → IsNeeded parts (Content key)
+        → AreParts (parts ++ record { brought = BlockOf key (Ok bytes); asks = [] } ∷ [])
 
 -- as far as the fetch knows it, it is this standing
 abbrev pub IsSeen : agent.Standing → Known → Type 0
@@ -144,25 +176,32 @@ abbrev pub IsGiven : agent.Standing → Vector → Fetched → List session.Note
 IsGiven s start given notes chains (Needs want) = ⊥
 IsGiven s start given notes chains (FailsBy miss) = (given.result ≡ Err miss) × (given.notes ≡ notes_of notes (Some miss))
 IsGiven s start given notes chains Done =
-    (batch : Batch) × (given.result ≡ Ok batch) × (batch.held ≡ start) × (batch.floor ≡ s.floor) × (map chain_of batch.chains ≡ chains) × AreUnder s.view (edge_in s.edges) batch
+    (batch : Batch) × (given.result ≡ Ok batch) × (batch.held ≡ start) × (batch.floor ≡ s.floor) × (map chain_of batch.chains ≡ chains)
+    × AreUnder s.view (edge_in s.edges) batch
     × ((owner : PubKey) → Contains (owners_in batch.chains) owner → Contains s.view.members owner) × (given.notes ≡ notes_of notes None)
 
 -- what was brought came to this end, by which this is given
 abbrev pub EndsAs : agent.Standing → Vector → List Brought → Fetched → RefreshEnd → Type 0
-EndsAs s start brought given end = (notes : List session.Note) × (chains : List agent.Chain) × FetchesAll (record { standing = s; start = start }) s.view.members brought notes chains end × IsGiven s start given notes chains end
+EndsAs s start brought given end =
+    (notes : List session.Note) × (chains : List agent.Chain)
+    × FetchesAll (record { standing = s; start = start }) s.view.members brought notes chains end × IsGiven s start given notes chains end
 
 -- behind these asks of the get on its way, or none without one
 abbrev pub IsAsking : {J : Type 0} → Judges J → List Peer → agent.Standing → Vector → List Brought → List Heard → State J → Type 0
 IsAsking judges entries s start brought current (state.Free g) = IsSeen s g.known × Gathers start brought g × (current ≡ [])
-IsAsking judges entries s start brought current (state.Asking g x) = IsSeen s g.known × Gathers start brought g × GetIsAfter judges entries current x.get
-IsAsking judges entries s start brought current (state.Ended fetched) = (current ≡ []) × (miss : Miss) × EndsAs s start brought fetched (FailsBy miss)
+IsAsking judges entries s start brought current (state.Asking g x) =
+    IsSeen s g.known × Gathers start brought g × GetIsAfter judges entries current x.get
+IsAsking judges entries s start brought current (state.Ended fetched) =
+    (current ≡ []) × (miss : Miss) × EndsAs s start brought fetched (FailsBy miss)
 IsAsking judges entries s start brought current state.Over = ⊥
 
 -- It may be in this state, of a fetch for that standing over that start, behind these parts and the asks of the get on its way.
-pub record FetchIsAfter {J : Type 0} (judges : Judges J) (s : agent.Standing) (start : Vector) (parts : List Part) (current : List Heard) (f : Fetching J) : Type 0 where
+pub record FetchIsAfter {J : Type 0} (judges : Judges J) (s : agent.Standing) (start : Vector) (parts : List Part) (current : List Heard)
+    (f : Fetching J) : Type 0 where
   pub whole : AreParts (judges f.judge) f.replicas f.entries s start parts
   pub asking : IsAsking judges f.entries s start (brought_in parts) current f.state
   pub sound : IsSound f.judge f.replicas f.state
+  pub begun : HasBegun f parts
 
 -- ---- what it wants
 
@@ -170,25 +209,29 @@ pub record FetchIsAfter {J : Type 0} (judges : Judges J) (s : agent.Standing) (s
 abbrev pub Leads : {J : Type 0} → Judges J → Fetching J → Fetching J → Type 0
 Leads judges old new =
     (s : agent.Standing) (start : Vector) (parts : List Part) (current : List Heard) → FetchIsAfter judges s start parts current old
-    → FetchIsAfter judges s start parts current new × (want : Want) × (fetch_aim new ≡ Some want) × IsNeeded (judges new.judge) new.replicas new.entries s start parts want
+    → FetchIsAfter judges s start parts current new × (want : Want) × (fetch_aim new ≡ Some want)
+    × IsNeeded (judges new.judge) new.replicas new.entries s start parts want
 
 -- these are all parts: where nobody may be asked, one comes last that took no ask
 abbrev pub AreAll : (Key → List ℕ → Option Judged) → ℕ → List Peer → agent.Standing → Vector → List Part → List Part → Type 0
 AreAll judged replicas entries s start parts all =
-    (all ≡ parts) ⊎ ((entries ≡ []) × (want : Want) × IsNeeded judged replicas entries s start parts want × (brought : Brought) × Gets judged replicas entries want [] brought
+    (all ≡ parts) ⊎ ((entries ≡ []) × (want : Want) × IsNeeded judged replicas entries s start parts want × (brought : Brought)
+    × Gets judged replicas entries want [] brought
     × (all ≡ parts ++ record { brought = brought; asks = [] } ∷ []))
 
--- all that was wanted was brought, or something couldn't be had
-abbrev pub Ends : {J : Type 0} → Judges J → Fetching J → Fetched → Type 0
-Ends judges old given =
+-- all that was wanted was brought, or something couldn't be had; and so many gets it began
+abbrev pub Ends : {J : Type 0} → Judges J → Fetching J → Fetching J → Fetched → Type 0
+Ends judges old new given =
     (s : agent.Standing) (start : Vector) (parts : List Part) (current : List Heard) → FetchIsAfter judges s start parts current old
-    → (current ≡ []) × (all : List Part) × AreAll (judges old.judge) old.replicas old.entries s start parts all × AreParts (judges old.judge) old.replicas old.entries s start all
-    × (end : RefreshEnd) × EndsAs s start (brought_in all) given end
+    → (current ≡ []) × (all : List Part) × AreAll (judges old.judge) old.replicas old.entries s start parts all
+    × AreParts (judges old.judge) old.replicas old.entries s start all
+    × (end : RefreshEnd) × EndsAs s start (brought_in all) given end × HasBegun new all
 
 -- what it wants: to ask a node, which is then to be heard, or nothing more
 abbrev pub FetchIsWanted : {J : Type 0} → Judges J → Fetching J → Fetching J → Next Fetched → Type 0
-FetchIsWanted judges old new (next.Ask node question) = IsSameFetch old new × (fetch_awaited new ≡ Some (node, question)) × Leads judges old new
-FetchIsWanted judges old new (next.Done given) = Ends judges old given
+FetchIsWanted judges old new (next.Ask node question) =
+    IsSameFetch old new × (fetch_awaited new ≡ Some (node, question)) × Leads judges old new
+FetchIsWanted judges old new (next.Done given) = Ends judges old new given
 
 -- ---- it hears
 
@@ -199,11 +242,14 @@ block_in (BlockOf key (Ok bytes)) = Some (key, bytes)
 block_in (BlockOf key (Err miss)) = None
 
 -- the get goes on, behind these asks
-abbrev pub GetGoesOn : {J : Type 0} → Judges J → agent.Standing → Vector → List Part → List Heard → Want → Fetching J → Option (Key × List ℕ) → Type 0
-GetGoesOn judges s start parts asks want new given = (fetch_aim new ≡ Some want) × (fetch_awaited new ≢ None) × FetchIsAfter judges s start parts asks new × (given ≡ None)
+abbrev pub GetGoesOn : {J : Type 0} → Judges J → agent.Standing → Vector → List Part → List Heard → Want → Fetching J
+    → Option (Key × List ℕ) → Type 0
+GetGoesOn judges s start parts asks want new given =
+    (fetch_aim new ≡ Some want) × (fetch_awaited new ≢ None) × FetchIsAfter judges s start parts asks new × (given ≡ None)
 
 -- these asks are a whole get, which is the next part; the block that it brought is given back
-abbrev pub GetIsOver : {J : Type 0} → Judges J → agent.Standing → Vector → List Part → List Heard → Want → Fetching J → Fetching J → Option (Key × List ℕ) → Type 0
+abbrev pub GetIsOver : {J : Type 0} → Judges J → agent.Standing → Vector → List Part → List Heard → Want → Fetching J → Fetching J
+    → Option (Key × List ℕ) → Type 0
 GetIsOver judges s start parts asks want old new given =
     (brought : Brought) × Gets (judges old.judge) old.replicas old.entries want asks brought × (fetch_awaited new ≡ None)
     × FetchIsAfter judges s start (parts ++ record { brought = brought; asks = asks } ∷ []) [] new × (given ≡ block_in brought)
@@ -212,15 +258,18 @@ GetIsOver judges s start parts asks want old new given =
 abbrev pub FetchHasHeard : {J : Type 0} → Judges J → Fetching J → Fetching J → Answer → Option (Key × List ℕ) → Type 0
 FetchHasHeard judges old new answer given =
     IsSameFetch old new
-    × ((s : agent.Standing) (start : Vector) (parts : List Part) (current : List Heard) (node : Peer) (question : Ask) → fetch_awaited old ≡ Some (node, question) → FetchIsAfter judges s start parts current old
+    × ((s : agent.Standing) (start : Vector) (parts : List Part) (current : List Heard) (node : Peer) (question : Ask)
+    → fetch_awaited old ≡ Some (node, question) → FetchIsAfter judges s start parts current old
     → (want : Want) × (fetch_aim old ≡ Some want) × IsNeeded (judges old.judge) old.replicas old.entries s start parts want
-    × (GetGoesOn judges s start parts (current ++ told node question answer) want new given ⊎ GetIsOver judges s start parts (current ++ told node question answer) want old new given))
+    × (GetGoesOn judges s start parts (current ++ told node question answer) want new given
+    ⊎ GetIsOver judges s start parts (current ++ told node question answer) want old new given))
 
 -- the block that was wanted is a part, which took no ask
 abbrev pub FetchWasGiven : {J : Type 0} → Judges J → Fetching J → Fetching J → List ℕ → Type 0
 FetchWasGiven judges old new bytes =
     IsSameFetch old new
-    × ((s : agent.Standing) (start : Vector) (parts : List Part) (current : List Heard) (key : Key) → fetch_wanted old ≡ Some key → FetchIsAfter judges s start parts current old
+    × ((s : agent.Standing) (start : Vector) (parts : List Part) (current : List Heard) (key : Key) → fetch_wanted old ≡ Some key
+    → FetchIsAfter judges s start parts current old
     → (current ≡ []) × IsNeeded (judges old.judge) old.replicas old.entries s start parts (Content key)
     × FetchIsAfter judges s start (parts ++ record { brought = BlockOf key (Ok bytes); asks = [] } ∷ []) [] new)
 
@@ -234,13 +283,29 @@ is_miss Done = false
 -- without a node to be heard, what was brought came to a miss exactly where it failed, and else to what is wanted next, or to its end
 abbrev pub HasFailed : {J : Type 0} → Judges J → Fetching J → Bool → Type 0
 HasFailed judges f failed =
-    (s : agent.Standing) (start : Vector) (parts : List Part) (current : List Heard) → FetchIsAfter judges s start parts current f → fetch_awaited f ≡ None
-    → (current ≡ []) × (notes : List session.Note) × (chains : List agent.Chain) × (end : RefreshEnd) × FetchesAll (record { standing = s; start = start }) s.view.members (brought_in parts) notes chains end × (is_miss end ≡ failed)
+    (s : agent.Standing) (start : Vector) (parts : List Part) (current : List Heard) → FetchIsAfter judges s start parts current f
+    → fetch_awaited f ≡ None
+    → (current ≡ []) × (notes : List session.Note) × (chains : List agent.Chain) × (end : RefreshEnd)
+    × FetchesAll (record { standing = s; start = start }) s.view.members (brought_in parts) notes chains end × (is_miss end ≡ failed)
+
+-- ---- how many gets it began
+
+-- While a get is on its way, the end is that what it is for is wanted; so it is for whatever fetch this is (`FetchStands`).
+abbrev pub HasFewGets : {J : Type 0} → Fetching J → ℕ → Type 0
+HasFewGets f gets =
+    (s : agent.Standing) (start : Vector) (parts : List Part) → HasBegun f parts
+    → (notes : List session.Note) (chains : List agent.Chain) (end : RefreshEnd)
+    (fetches : FetchesAll (record { standing = s; start = start }) s.view.members (brought_in parts) notes chains end)
+    → ((want : Want) → fetch_aim f ≡ Some want → end ≡ Needs want)
+    → gets ≤ most_gets (record { standing = s; start = start }) s.view.members fetches
 
 -- ---- a law
 
 -- what was brought came to some end; while a get is on its way, to that what it is for is wanted
 abbrev pub FetchStands : {J : Type 0} → Judges J → Type 0
 FetchStands {J} judges =
-    (f : Fetching J) (s : agent.Standing) (start : Vector) (parts : List Part) (current : List Heard) → FetchIsAfter judges s start parts current f
-    → (notes : List session.Note) × (chains : List agent.Chain) × (end : RefreshEnd) × FetchesAll (record { standing = s; start = start }) s.view.members (brought_in parts) notes chains end × ((want : Want) → fetch_aim f ≡ Some want → end ≡ Needs want)
+    (f : Fetching J) (s : agent.Standing) (start : Vector) (parts : List Part) (current : List Heard)
+    → FetchIsAfter judges s start parts current f
+    → (notes : List session.Note) × (chains : List agent.Chain) × (end : RefreshEnd)
+    × FetchesAll (record { standing = s; start = start }) s.view.members (brought_in parts) notes chains end
+    × ((want : Want) → fetch_aim f ≡ Some want → end ≡ Needs want)

@@ -1,5 +1,6 @@
 -- How far the fetch of all members has come.
-use Rattle.std.specs.Prelude.{◌≡◌, ◌≢◌, ℕ, ◌+◌, ◌-◌, ◌*◌, ◌^◌, ◌<◌, ◌≤◌, List, [], ◌∷◌, ◌++◌, length, map, take, drop, Contains, Option, Some, None, Ok}
+use Rattle.std.specs.Prelude.{◌≡◌, ◌≢◌, ℕ, ◌+◌, ◌-◌, ◌*◌, ◌^◌, ◌<◌, ◌≤◌, Bool, true, false, List, [], ◌∷◌, ◌++◌, length, map, take, drop}
+use Rattle.std.specs.Prelude.{Contains, Option, Some, None, Ok}
 use Rattle.ivy_base.specs.declared.key.Key.{Key}
 use Rattle.ivy_base.specs.declared.key.PubKey.{PubKey}
 use Rattle.ivy_base.specs.Naming.{head_key_of}
@@ -65,6 +66,12 @@ block_wanted (stage.Heads owner) = None
 block_wanted (stage.Log t) = wanted_of t.walk
 block_wanted stage.Through = None
 
+-- something is wanted
+abbrev pub is_wanting : Stage → Bool
+is_wanting (stage.Heads owner) = true
+is_wanting (stage.Log t) = true
+is_wanting stage.Through = false
+
 -- ---- how much may still be wanted
 
 -- of the member under way: its heads, and fewer than `2 ^ 96` blocks
@@ -86,24 +93,31 @@ waits_left (Some t) = trial_left t
 
 -- the heads of the member that were brought, where it isn't the own one, and what there is to try by them
 pub data HeadsCame (s : agent.Standing) (start : Vector) (owner : PubKey) : List Brought → List Stamp → Type 0 where
-  of_own : (all : List Stamp) → owner ≡ s.own → AreToTry [] (stamp_at s.floor (head_key_of owner)) (seq_of start (head_key_of owner)) all → HeadsCame s start owner [] all
-  of_other : (heads : List Judged) (all : List Stamp) → owner ≢ s.own → AreToTry (map stamp_of heads) (stamp_at s.floor (head_key_of owner)) (seq_of start (head_key_of owner)) all
+  of_own : (all : List Stamp) → owner ≡ s.own → AreToTry [] (stamp_at s.floor (head_key_of owner)) (seq_of start (head_key_of owner)) all
+      → HeadsCame s start owner [] all
+  of_other : (heads : List Judged) (all : List Stamp) → owner ≢ s.own
+      → AreToTry (map stamp_of heads) (stamp_at s.floor (head_key_of owner)) (seq_of start (head_key_of owner)) all
       → HeadsCame s start owner (HeadsOf owner (Ok heads) ∷ []) all
 
 -- how the member under way stands, after this was brought for it, of the members that are left
 pub data StandsSo (s : agent.Standing) (start : Vector) : List PubKey → List Brought → Stage → Type 0 where
   wants_heads : (owner : PubKey) (owners : List PubKey) → owner ≢ s.own → StandsSo s start (owner ∷ owners) [] (stage.Heads owner)
-  wants_block : (owner : PubKey) (owners : List PubKey) (came walked : List Brought) (all : List Stamp) (t : Trying) → HeadsCame s start owner came all → t.walk.left ≢ 0 → t.walk.owner ≡ owner
-      → HasTried s.view owner start s.floor (edge_in s.edges (head_key_of owner)) all walked t → StandsSo s start (owner ∷ owners) (came ++ walked) (stage.Log t)
+  wants_block : (owner : PubKey) (owners : List PubKey) (came walked : List Brought) (all : List Stamp) (t : Trying)
+      → HeadsCame s start owner came all → t.walk.left ≢ 0 → t.walk.owner ≡ owner
+      → HasTried s.view owner start s.floor (edge_in s.edges (head_key_of owner)) all walked t
+      → StandsSo s start (owner ∷ owners) (came ++ walked) (stage.Log t)
   all_through : StandsSo s start [] [] stage.Through
 
--- So many of the members are through, with these chains and notes: whatever becomes of those that are left, it becomes of all behind what was brought for the ones before.
+-- So many of the members are through, with these chains and notes: whatever becomes of those that are left, it becomes of all behind what
+-- was brought for the ones before.
 pub record HasPassed (k : Known) (start : Vector) (brought : List Brought) (p : Passed) : Type 0 where
   pub started : p.batch.held ≡ start
   pub noted : List session.Note
   pub notes_are : p.notes ≡ map note_of noted
-  pub goes_on : {more : List Brought} {others : List session.Note} {chains : List agent.Chain} {end : RefreshEnd} → FetchesAll (record { standing = seen k; start = start }) (drop p.at k.view.members) more others chains end
-      → FetchesAll (record { standing = seen k; start = start }) k.view.members (brought ++ more) (noted ++ others) (map chain_of p.batch.chains ++ chains) end
+  pub goes_on : {more : List Brought} {others : List session.Note} {chains : List agent.Chain} {end : RefreshEnd}
+      → FetchesAll (record { standing = seen k; start = start }) (drop p.at k.view.members) more others chains end
+      → FetchesAll (record { standing = seen k; start = start }) k.view.members (brought ++ more) (noted ++ others)
+      (map chain_of p.batch.chains ++ chains) end
 
 -- the fetch has come this far, over that start, with what was brought
 pub record Gathers (start : Vector) (brought : List Brought) (g : Gathering) : Type 0 where
@@ -157,18 +171,28 @@ at_behind at (settled.Over fault) = at + 1
 -- of these heads of the owner's log, after this was brought for them, a block is wanted, or the log is through
 abbrev pub StandsWith : Known → Passed → Passed → PubKey → List Stamp → List Brought → Option Trying → Type 0
 StandsWith k old new owner all brought (Some t) =
-    (new ≡ old) × (t.walk.left ≢ 0) × (t.walk.owner ≡ owner) × HasTried k.view owner old.batch.held k.floor (edge_in k.edges (head_key_of owner)) all brought t
+    (new ≡ old) × (t.walk.left ≢ 0) × (t.walk.owner ≡ owner)
+    × HasTried k.view owner old.batch.held k.floor (edge_in k.edges (head_key_of owner)) all brought t
 StandsWith k old new owner all brought None =
-    (faults : List ChainFault) × (end : LogEnd) × Tries (record { view = k.view; owner = owner; start = old.batch.held; floor = k.floor; edge = edge_in k.edges (head_key_of owner) }) all brought faults end
+    (faults : List ChainFault) × (end : LogEnd)
+    × Tries (record {
+      view = k.view;
+      owner = owner;
+      start = old.batch.held;
+      floor = k.floor;
+      edge = edge_in k.edges (head_key_of owner);
+    }) all brought faults end
     × GivesTo old.batch new.batch end × (new ≡ one_more old new.batch (map note_of (session.note_of (head_key_of owner) faults)))
 
 abbrev pub BeginsLog : Known → Passed → Passed → PubKey → List Stamp → Option Trying → Type 0
 BeginsLog k old new owner heads waits =
-    (all : List Stamp) × AreToTry heads (stamp_at k.floor (head_key_of owner)) (seq_of old.batch.held (head_key_of owner)) all × StandsWith k old new owner all [] waits
+    (all : List Stamp) × AreToTry heads (stamp_at k.floor (head_key_of owner)) (seq_of old.batch.held (head_key_of owner)) all
+    × StandsWith k old new owner all [] waits
 
 abbrev pub GoesOnLog : Known → Passed → Passed → PubKey → Trying → List ℕ → Option Trying → Type 0
 GoesOnLog k old new owner t bytes waits =
-    (all : List Stamp) (brought : List Brought) → HasTried k.view owner old.batch.held k.floor (edge_in k.edges (head_key_of owner)) all brought t
+    (all : List Stamp) (brought : List Brought)
+    → HasTried k.view owner old.batch.held k.floor (edge_in k.edges (head_key_of owner)) all brought t
     → StandsWith k old new owner all (brought ++ BlockOf t.walk.next (Ok bytes) ∷ []) waits
 
 -- from the members that are through it went to the next one of which something is wanted
@@ -177,12 +201,14 @@ GathersFrom k p g = (start : Vector) (brought : List Brought) → HasPassed k st
 
 -- the heads that were wanted were brought
 abbrev pub HeadsGathered : Gathering → PubKey → List Judged → Gathering → Type 0
-HeadsGathered old owner heads new = (start : Vector) (brought : List Brought) → Gathers start brought old → Gathers start (brought ++ HeadsOf owner (Ok heads) ∷ []) new
+HeadsGathered old owner heads new =
+    (start : Vector) (brought : List Brought) → Gathers start brought old → Gathers start (brought ++ HeadsOf owner (Ok heads) ∷ []) new
 
 -- the block that was wanted was brought
 abbrev pub BlockGathered : Gathering → List ℕ → Gathering → Type 0
 BlockGathered old bytes new =
-    (start : Vector) (brought : List Brought) (key : Key) → block_wanted old.stage ≡ Some key → Gathers start brought old → Gathers start (brought ++ BlockOf key (Ok bytes) ∷ []) new
+    (start : Vector) (brought : List Brought) (key : Key) → block_wanted old.stage ≡ Some key → Gathers start brought old
+    → Gathers start (brought ++ BlockOf key (Ok bytes) ∷ []) new
 
 -- it went on so from the members that are through
 pub record Advances (k : Known) (old new : Passed) (at : Stage) : Type 0 where

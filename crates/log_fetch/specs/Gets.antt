@@ -56,21 +56,27 @@ IsSameGet _ _ = ⊥
 
 -- its trail is a whole get, which brings this
 abbrev pub HasCame : {J : Type 0} → Judges J → List Peer → List Heard → Get J → Came → Type 0
-HasCame judges entries trail (get.Heads owner s) (came.Heads heads) = Gets (judges s.judge) s.course.replicas entries (Heads owner) trail (HeadsOf owner heads)
-HasCame judges entries trail (get.Block s) (came.Block block) = (judged : Key → List ℕ → Option Judged) → Gets judged s.course.replicas entries (Content s.course.look.key) trail (BlockOf s.course.look.key block)
+HasCame judges entries trail (get.Heads owner s) (came.Heads heads) =
+    Gets (judges s.judge) s.course.replicas entries (Heads owner) trail (HeadsOf owner heads)
+HasCame judges entries trail (get.Block s) (came.Block block) =
+    (judged : Key → List ℕ → Option Judged)
+    → Gets judged s.course.replicas entries (Content s.course.look.key) trail (BlockOf s.course.look.key block)
 HasCame judges entries trail _ _ = ⊥
 
 -- what it wants: to ask a node, which is then to be heard, or nothing more, since its trail is a whole get
 abbrev pub GetIsWanted : {J : Type 0} → Judges J → Get J → Get J → Want Came → Type 0
 GetIsWanted judges old new (want.Ask node question) =
-    IsSameGet old new × (get_awaited new ≡ Some (node, question)) × ((entries : List Peer) (trail : List Heard) → GetIsAfter judges entries trail old → GetIsAfter judges entries trail new)
-GetIsWanted judges old new (want.Done given) = (entries : List Peer) (trail : List Heard) → GetIsAfter judges entries trail old → HasCame judges entries trail old given
+    IsSameGet old new × (get_awaited new ≡ Some (node, question))
+    × ((entries : List Peer) (trail : List Heard) → GetIsAfter judges entries trail old → GetIsAfter judges entries trail new)
+GetIsWanted judges old new (want.Done given) =
+    (entries : List Peer) (trail : List Heard) → GetIsAfter judges entries trail old → HasCame judges entries trail old given
 
 -- the node that was to be heard was heard: its ask and answer are the next of the trail
 abbrev pub GetHasHeard : {J : Type 0} → Judges J → Get J → Get J → Answer → Type 0
 GetHasHeard judges old new given =
     IsSameGet old new
-    × ((entries : List Peer) (trail : List Heard) (node : Peer) (question : Ask) → get_awaited old ≡ Some (node, question) → GetIsAfter judges entries trail old → GetIsAfter judges entries (trail ++ told node question given) new)
+    × ((entries : List Peer) (trail : List Heard) (node : Peer) (question : Ask) → get_awaited old ≡ Some (node, question)
+    → GetIsAfter judges entries trail old → GetIsAfter judges entries (trail ++ told node question given) new)
 
 -- it brings what it is a get of: heads or a block
 abbrev pub IsOfKind : {J : Type 0} → Get J → Want Came → Type 0
@@ -86,12 +92,17 @@ IsKept x = get_awaited x.get ≡ Some (x.node, x.question)
 
 -- it waits for its next ask to be heard, or is over
 abbrev pub GoesTo : {J : Type 0} → Judges J → Get J → Progress J → Type 0
-GoesTo judges old (progress.Waits x) = IsSameGet old x.get × IsKept x × (gets_left x.get ≤ gets_left old) × ((entries : List Peer) (trail : List Heard) → GetIsAfter judges entries trail old → GetIsAfter judges entries trail x.get)
-GoesTo judges old (progress.Comes given) = IsOfKind old (want.Done given) × ((entries : List Peer) (trail : List Heard) → GetIsAfter judges entries trail old → HasCame judges entries trail old given)
+GoesTo judges old (progress.Waits x) =
+    IsSameGet old x.get × IsKept x × (gets_left x.get ≤ gets_left old)
+    × ((entries : List Peer) (trail : List Heard) → GetIsAfter judges entries trail old → GetIsAfter judges entries trail x.get)
+GoesTo judges old (progress.Comes given) =
+    IsOfKind old (want.Done given)
+    × ((entries : List Peer) (trail : List Heard) → GetIsAfter judges entries trail old → HasCame judges entries trail old given)
 
 -- the ask was heard: it is the next of the trail
 abbrev pub HearsTo : {J : Type 0} → Judges J → Get J → Answer → Progress J → Type 0
 HearsTo judges old answer (progress.Waits x) = GetHasHeard judges old x.get answer × IsKept x × (gets_left x.get < gets_left old)
 HearsTo judges old answer (progress.Comes given) =
     IsOfKind old (want.Done given) × (0 < gets_left old)
-    × ((entries : List Peer) (trail : List Heard) (node : Peer) (question : Ask) → get_awaited old ≡ Some (node, question) → GetIsAfter judges entries trail old → HasCame judges entries (trail ++ told node question answer) old given)
+    × ((entries : List Peer) (trail : List Heard) (node : Peer) (question : Ask) → get_awaited old ≡ Some (node, question)
+    → GetIsAfter judges entries trail old → HasCame judges entries (trail ++ told node question answer) old given)

@@ -10,5 +10,6 @@ use Rattle.log_fetch.specs.declared.reading.Reading.TheVariants as reading
 
 abbrev pub Says : PubKey → List ℕ → Reading → Type 0
 Says owner bytes (reading.Good r) = IsRecordOf owner bytes (record_of r)
-Says owner bytes (reading.Misnumbered prev) = (r : Record) × IsRecordOf owner bytes r × (r.prev ≡ prev) × (HasMadeNumber r.owner r.seq r.op → ⊥)
+Says owner bytes (reading.Misnumbered prev) =
+    (r : Record) × IsRecordOf owner bytes r × (r.prev ≡ prev) × (HasMadeNumber r.owner r.seq r.op → ⊥)
 Says owner bytes reading.Garbled = (r : Record) → IsRecordOf owner bytes r → ⊥

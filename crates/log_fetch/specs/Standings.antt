@@ -18,7 +18,15 @@ abbrev pub asked_of : Asked → turn.Asked
 asked_of a = record { caller = identity_of a.caller; args = a.args }
 
 abbrev pub standing_of : Standing → agent.Standing
-standing_of s = record { view = s.view; own = s.own; floor = s.floor; held = s.held; edges = s.edges; to_load = s.basis; pending = s.pending }
+standing_of s = record {
+  view = s.view;
+  own = s.own;
+  floor = s.floor;
+  held = s.held;
+  edges = s.edges;
+  to_load = s.basis;
+  pending = s.pending;
+}
 
 abbrev pub refresh_of : Refresh → agent.Refresh
 refresh_of r = record { started = r.batch.held; chains = map chain_of r.batch.chains; basis = option_map basis_of r.basis }

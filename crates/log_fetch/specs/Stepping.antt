@@ -23,6 +23,7 @@ use Rattle.log_fetch.specs.declared.get.Get.{Get}
 use Rattle.log_fetch.specs.declared.get.Progress.{Progress}
 use Rattle.log_fetch.specs.declared.get.Progress.TheVariants as progress
 use Rattle.log_fetch.specs.Fetching.{Fetching, FetchHasHeard, FetchIsWanted, IsFor, IsSound, EndsAs, block_in, left_in, most_asks}
+use Rattle.log_fetch.specs.Fetching.{with_next}
 use Rattle.log_fetch.specs.Gathering.{Gathering, Gathers, heads_wanted, block_wanted, gets_in, noted_at, seen}
 use Rattle.log_fetch.specs.Gets.{GetIsAfter, HasCame, IsKept, gets_left}
 use Rattle.log_fetch.specs.Standings.{note_of_miss}
@@ -54,7 +55,8 @@ BroughtNothing (came.Block given) = HasNothing given
 abbrev pub GathersMore : Gathering → Came → Gathering → Option (Key × List ℕ) → Type 0
 GathersMore old given new back =
     (new.known ≡ old.known)
-    × ((start : Vector) (brought : List Brought) (what : Brought) → CameAs old.stage given what → Gathers start brought old → Gathers start (brought ++ what ∷ []) new × (back ≡ block_in what))
+    × ((start : Vector) (brought : List Brought) (what : Brought) → CameAs old.stage given what → Gathers start brought old
+    → Gathers start (brought ++ what ∷ []) new × (back ≡ block_in what))
 
 -- it was gathered, and a block is handed out; or it couldn't be had
 abbrev pub Takes : Gathering → Came → Gathering → Step → Type 0
@@ -80,13 +82,16 @@ LeavesNoMore g st = left_in st ≤ most_asks * (gets_in g - 1)
 
 -- the get of what is wanted, that has asked nothing yet; none where all members are through
 abbrev pub GetsFor : {J : Type 0} → Judges J → J → ℕ → List Peer → Stage → Option (Get J) → Type 0
-GetsFor judges judge replicas entries at (Some get) = IsFor judge replicas at get × GetIsAfter judges entries [] get × (gets_left get < most_asks)
+GetsFor judges judge replicas entries at (Some get) =
+    IsFor judge replicas at get × GetIsAfter judges entries [] get × (gets_left get < most_asks)
 GetsFor judges judge replicas entries at None = at ≡ stage.Through
 
 -- it waits for its first ask to be heard, or is over with none
 abbrev pub BeginsFor : {J : Type 0} → Judges J → J → ℕ → List Peer → Stage → Option (Progress J) → Type 0
-BeginsFor {J} judges judge replicas entries at (Some (progress.Waits x)) = IsFor judge replicas at x.get × GetIsAfter judges entries [] x.get × IsKept x × (gets_left x.get < most_asks)
-BeginsFor {J} judges judge replicas entries at (Some (progress.Comes given)) = BroughtNothing given × (get : Get J) × IsFor judge replicas at get × HasCame judges entries [] get given
+BeginsFor {J} judges judge replicas entries at (Some (progress.Waits x)) =
+    IsFor judge replicas at x.get × GetIsAfter judges entries [] x.get × IsKept x × (gets_left x.get < most_asks)
+BeginsFor {J} judges judge replicas entries at (Some (progress.Comes given)) =
+    BroughtNothing given × (get : Get J) × IsFor judge replicas at get × HasCame judges entries [] get given
 BeginsFor {J} judges judge replicas entries at None = at ≡ stage.Through
 
 -- all members are through
@@ -97,8 +102,12 @@ Finishes g given = (start : Vector) (brought : List Brought) → Gathers start b
 
 -- what it wants then
 abbrev pub WantsNext : {J : Type 0} → Judges J → Fetching J → State J → State J × Next Fetched → Type 0
-WantsNext judges f old given = FetchIsWanted judges (record f { state = old }) (record f { state = given.0 }) given.1 × IsSound f.judge f.replicas given.0 × (left_in given.0 ≤ left_in old)
+WantsNext judges f old given =
+    FetchIsWanted judges (record f { state = old }) (record f { state = given.0; gets = with_next f.gets old }) given.1
+    × IsSound f.judge f.replicas given.0 × (left_in given.0 ≤ left_in old)
 
 -- it heard this, and a block is handed out
 abbrev pub HearsNext : {J : Type 0} → Judges J → Fetching J → State J → Answer → State J × Option (Key × List ℕ) → Type 0
-HearsNext judges f old answer given = FetchHasHeard judges (record f { state = old }) (record f { state = given.0 }) answer given.1 × IsSound f.judge f.replicas given.0 × (left_in given.0 < left_in old)
+HearsNext judges f old answer given =
+    FetchHasHeard judges (record f { state = old }) (record f { state = given.0 }) answer given.1 × IsSound f.judge f.replicas given.0
+    × (left_in given.0 < left_in old)

@@ -13,8 +13,8 @@ use Rattle.session_model.specs.Brought.{Brought, BlockOf}
 use Rattle.session_model.specs.Walks.{Tries, LogEnd, Gives, GivesNone, Lacks, Stops}
 use Rattle.log_fetch.specs.Walking.{Walking, IsAfter, begun}
 
--- The head that is tried and its walk, the heads after it in the order in which they are tried, how far the log is held, and why the first head was passed over,
--- where one was.
+-- The head that is tried and its walk, the heads after it in the order in which they are tried, how far the log is held, and why the first
+-- head was passed over, where one was.
 pub record Trying : Type 0 where
   pub head : Stamp
   pub walk : Walking
@@ -36,14 +36,16 @@ abbrev pub or_fault : Option ChainFault → ChainFault → Option ChainFault
 or_fault None fault = Some fault
 or_fault (Some before) fault = Some before
 
--- Of these heads of the owner's log the first ones were passed over, and the present one's walk is on its way: whatever becomes of the heads that are left, it
--- becomes of all of them behind what was brought for the ones before.
-pub record HasTried (view : View) (owner : PubKey) (start floor : Vector) (edge : Option Edge) (all : List Stamp) (brought : List Brought) (t : Trying) : Type 0 where
+-- Of these heads of the owner's log the first ones were passed over, and the present one's walk is on its way: whatever becomes of the
+-- heads that are left, it becomes of all of them behind what was brought for the ones before.
+pub record HasTried (view : View) (owner : PubKey) (start floor : Vector) (edge : Option Edge) (all : List Stamp) (brought : List Brought)
+    (t : Trying) : Type 0 where
   pub passed : List Brought
   pub walked : List Brought
   pub faults : List ChainFault
   pub brought_is : brought ≡ passed ++ walked
-  pub goes_on : {more : List Brought} {others : List ChainFault} {end : LogEnd} → Tries (record { view = view; owner = owner; start = start; floor = floor; edge = edge }) (t.head ∷ t.rest) more others end
+  pub goes_on : {more : List Brought} {others : List ChainFault} {end : LogEnd}
+      → Tries (record { view = view; owner = owner; start = start; floor = floor; edge = edge }) (t.head ∷ t.rest) more others end
       → Tries (record { view = view; owner = owner; start = start; floor = floor; edge = edge }) all (passed ++ more) (faults ++ others) end
   pub fault_is : t.fault ≡ first_of faults
   pub owner_is : t.walk.owner ≡ owner
@@ -52,7 +54,8 @@ pub record HasTried (view : View) (owner : PubKey) (start floor : Vector) (edge 
 
 -- the walk of a head that begins
 abbrev pub IsBegunAt : PubKey → ℕ → List Stamp → Option ChainFault → Trying → Type 0
-IsBegunAt owner held heads fault t = (t.head ∷ t.rest ≡ heads) × (t.walk ≡ begun owner (t.head.seq - held) t.head.name) × (t.held ≡ held) × (t.fault ≡ fault)
+IsBegunAt owner held heads fault t =
+    (t.head ∷ t.rest ≡ heads) × (t.walk ≡ begun owner (t.head.seq - held) t.head.name) × (t.held ≡ held) × (t.fault ≡ fault)
 
 -- whether a chain was taken: into the batch, or why it was not. Where none was kept, one of its records is in no chain
 abbrev pub FailsFor : View → Batch → Stamp → Option Edge → Option (List Record) → ChainFault → Type 0
@@ -61,7 +64,8 @@ FailsFor view b head edge (Some chain) fault = ChainFails view b.held b.floor he
 
 abbrev pub IsTakenAs : View → Batch → Batch → Stamp → Option Edge → Option (List Record) → Option ChainFault → Type 0
 IsTakenAs view old new head edge chain None =
-    (records : List Record) × (chain ≡ Some records) × IsSound view old.held edge head records × IsOnward old.held old.floor records × (new ≡ record old { chains = old.chains ++ (head, records) ∷ [] })
+    (records : List Record) × (chain ≡ Some records) × IsSound view old.held edge head records × IsOnward old.held old.floor records
+    × (new ≡ record old { chains = old.chains ++ (head, records) ∷ [] })
 IsTakenAs view old new head edge chain (Some fault) = (new ≡ old) × (fault ≢ Memory) × FailsFor view old head edge chain fault
 
 -- what the batch has of the log's end
@@ -75,15 +79,19 @@ GivesTo old new (Stops miss) = ⊥
 abbrev pub EndsWith : View → Option Edge → Trying → Batch → Batch → Option ChainFault → Type 0
 EndsWith view edge t old new fault =
     (owner : PubKey) (all : List Stamp) (brought : List Brought) → HasTried view owner old.held old.floor edge all brought t
-    → (faults : List ChainFault) × (end : LogEnd) × Tries (record { view = view; owner = owner; start = old.held; floor = old.floor; edge = edge }) all brought faults end × (fault ≡ first_of faults) × GivesTo old new end
+    → (faults : List ChainFault) × (end : LogEnd)
+    × Tries (record { view = view; owner = owner; start = old.held; floor = old.floor; edge = edge }) all brought faults end
+    × (fault ≡ first_of faults) × GivesTo old new end
 
 -- the next head is tried, and nothing was brought for it yet
 abbrev pub GoesOnWith : View → Option Edge → Trying → Batch → Trying → Type 0
 GoesOnWith view edge t b next =
-    (owner : PubKey) (all : List Stamp) (brought : List Brought) → HasTried view owner b.held b.floor edge all brought t → HasTried view owner b.held b.floor edge all brought next
+    (owner : PubKey) (all : List Stamp) (brought : List Brought) → HasTried view owner b.held b.floor edge all brought t
+    → HasTried view owner b.held b.floor edge all brought next
 
 -- the block that was wanted was brought
 abbrev pub HasBeenTold : Trying → Trying → List ℕ → Type 0
 HasBeenTold old new bytes =
-    (view : View) (owner : PubKey) (start floor : Vector) (edge : Option Edge) (all : List Stamp) (brought : List Brought) → HasTried view owner start floor edge all brought old
+    (view : View) (owner : PubKey) (start floor : Vector) (edge : Option Edge) (all : List Stamp) (brought : List Brought)
+    → HasTried view owner start floor edge all brought old
     → HasTried view owner start floor edge all (brought ++ BlockOf old.walk.next (Ok bytes) ∷ []) new

@@ -12,8 +12,8 @@ use Rattle.log_records.specs.Records.{records_of}
 use Rattle.session_model.specs.Brought.{Brought, BlockOf}
 use Rattle.session_model.specs.Walks.{Walks, Wants, Garbled, Came}
 
--- A walk along the owner's log: how many records may still come, under which name the next one stands, and those that came, the newest first; or none, where one of
--- them can be in no chain.
+-- A walk along the owner's log: how many records may still come, under which name the next one stands, and those that came, the newest
+-- first; or none, where one of them can be in no chain.
 pub record Walking : Type 0 where
   pub owner : PubKey
   pub left : ℕ
@@ -37,19 +37,25 @@ abbrev pub Keeps : List Record → Option (List Record) → Type 0
 Keeps records (Some found) = found ≡ records
 Keeps records None = (r : Record) × Contains records r × (HasMadeNumber r.owner r.seq r.op → ⊥)
 
--- The walk from that name, so many records back, was brought this: it wants the next block; or a block wasn't of the grammar; or all records have come.
+-- The walk from that name, so many records back, was brought this: it wants the next block; or a block wasn't of the grammar; or all
+-- records have come.
 pub data HasCome (owner : PubKey) (count : ℕ) (newest : Key) (brought : List Brought) : ℕ → Key → Option (List Record) → Type 0 where
-  wants : {records : List Record} {left : ℕ} {next : Key} {found : Option (List Record)} → Walks owner count newest brought records (Wants next) → left ≢ 0 → left ≡ count - length records → Keeps records found
+  wants : {records : List Record} {left : ℕ} {next : Key} {found : Option (List Record)}
+      → Walks owner count newest brought records (Wants next) → left ≢ 0 → left ≡ count - length records → Keeps records found
       → HasCome owner count newest brought left next found
-  garbled : {records : List Record} {next : Key} → Walks owner count newest brought records Garbled → HasCome owner count newest brought 0 next None
-  came : {records : List Record} {next : Key} {found : Option (List Record)} → Walks owner count newest brought records Came → Keeps records found → HasCome owner count newest brought 0 next found
+  garbled : {records : List Record} {next : Key} → Walks owner count newest brought records Garbled
+      → HasCome owner count newest brought 0 next None
+  came : {records : List Record} {next : Key} {found : Option (List Record)} → Walks owner count newest brought records Came
+      → Keeps records found → HasCome owner count newest brought 0 next found
 
 abbrev pub IsAfter : ℕ → Key → List Brought → Walking → Type 0
 IsAfter count newest brought w = HasCome w.owner count newest brought w.left w.next w.found
 
 -- the block that was wanted was brought: whatever walk came as far as the old state, with it has come to the new one
 abbrev pub HasBeenGiven : Walking → Walking → List ℕ → Type 0
-HasBeenGiven old new bytes = (new.owner ≡ old.owner) × ((count : ℕ) (newest : Key) (brought : List Brought) → IsAfter count newest brought old → IsAfter count newest (brought ++ BlockOf old.next (Ok bytes) ∷ []) new)
+HasBeenGiven old new bytes = (new.owner ≡ old.owner)
+    × ((count : ℕ) (newest : Key) (brought : List Brought) → IsAfter count newest brought old
+    → IsAfter count newest (brought ++ BlockOf old.next (Ok bytes) ∷ []) new)
 
 -- ---- the records that a walk keeps
 

@@ -1,7 +1,8 @@
 //! The fetch of all logs of a view.
 
 ghost use Rattle.std.specs.Prelude.{◌≡◌, ◌≢◌, ◌<◌, ◌≤◌, [], Some, None, IfOk, false};
-ghost use Rattle.log_fetch.specs.Fetching.{awaited_in, fetch_awaited, fetch_left, fetch_wanted, is_failed, most_left, FetchIsAfter, FetchIsWanted, FetchHasHeard, FetchWasGiven, FetchStands, HasFailed, IsSound};
+ghost use Rattle.log_fetch.specs.Fetching.{awaited_in, fetch_awaited, fetch_left, fetch_wanted, is_failed, most_left, FetchIsAfter, FetchIsWanted, FetchHasHeard, FetchWasGiven, FetchStands, HasFailed, HasFewGets, IsSound, begins_in, with_next};
+ghost use Rattle.log_fetch.specs.Counting.{GetsAreFew};
 ghost use Rattle.log_fetch.specs.Standings.{standing_of};
 ghost use Rattle.log_fetch.specs.Gathering.{heads_wanted, block_wanted};
 ghost use Rattle.log_fetch.specs.Gets.{IsKept};
@@ -42,13 +43,14 @@ pub(crate) enum State<J: Judge> {
 }
 
 /// The fetch of all logs of a view: of each member in its order the heads before the blocks, of the own log blocks alone.
-/// Contracts see by which judge, from how many owners and from which nodes on it gets, and how far it is.
+/// Contracts see by which judge, from how many owners and from which nodes on it gets, how far it is, and how many gets it began.
 pub struct Fetch<J: Judge> {
     alloc: Global,
     judge: J,
     replicas: u32,
     entries: Peers,
     state: State<J>,
+    gets: u64,
 }
 
 /// One function, so that whatever drops a fetch calls it and isn't proved over all of its parts once more.
@@ -60,6 +62,7 @@ impl<J: Judge> Drop for Fetch<J> {
             replicas: _,
             entries: _,
             state: _,
+            gets: _,
         } = self;
     }
 }
@@ -69,7 +72,7 @@ impl<J: Judge> Model for Fetch<J> {
 
     ghost Value = { Fetching J };
 
-    ghost view = { λ f. record { judge = f.judge; replicas = f.replicas; entries = f.entries; state = f.state } };
+    ghost view = { λ f. record { judge = f.judge; replicas = f.replicas; entries = f.entries; state = f.state; gets = f.gets } };
 
     ghost invariant = { λ f. IsSound f.judge f.replicas f.state };
 }
@@ -103,6 +106,7 @@ impl<J: Judge> Fetch<J> {
             replicas,
             entries,
             state: State::Free(Gather::start(alloc, standing)?),
+            gets: 0,
         })
     }
 
@@ -123,6 +127,17 @@ impl<J: Judge> Fetch<J> {
         ensures ended { HasFailed J.judges self.now result }
     {
         matches!(self.state, State::Ended(_))
+    }
+
+    /// How many heads and records it began to get; a block that was given isn't counted. The count stays at `u64::MAX`.
+    ///
+    /// It never exceeds the sum of three numbers: the members other than the own log; over all members, the floor's number less
+    /// the one held; and over the heads that were tried, each head's number less the one held.
+    pub fn gets(&self) -> u64
+        ensures value { result ≡ self.now.gets }
+        ensures few { HasFewGets self.now result }
+    {
+        self.gets
     }
 
     /// Takes the block that is to be got next, which was at hand: its bytes are not tested here. The error is want of memory;
@@ -146,10 +161,33 @@ impl<J: Judge> Fetch<J> {
         ensures wanted { IfOk result (FetchIsWanted J.judges self.old self.new) }
         ensures left { IfOk result (λ _. fetch_left self.new ≤ fetch_left self.old) }
     {
+        let gets = self.gets_with_next();
         let state = mem::replace(&mut self.state, State::Over);
         let (state, want) = self.go_on(state)?;
         come_to(&mut self.state, state);
+        self.gets = gets;
         Ok(want)
+    }
+
+    /// Whether a get begins next: no other is on its way, and something is wanted.
+    fn begins(&self) -> bool
+        ensures { result ≡ begins_in self.now.state }
+    {
+        match &self.state {
+            State::Free(gather) => gather.is_wanting(),
+            _ => false,
+        }
+    }
+
+    /// How many gets were begun, with the one that begins next, where one does.
+    fn gets_with_next(&self) -> u64
+        ensures { result ≡ with_next self.now.gets self.now.state }
+    {
+        if self.begins() {
+            self.gets.saturating_add(1)
+        } else {
+            self.gets
+        }
     }
 
     /// Hears what the node answered that was asked last, and takes what the get brought, where it is over with that: a block
@@ -391,4 +429,10 @@ fn finish(gather: Gather) -> Result<Fetched, Memory>
 /// Whatever a fetch was brought is known to come to some end, and while a get is on its way to that what it is for is wanted.
 pub fn fetch_stands<J: Judge>()
     ensures { FetchStands J.judges }
+{}
+
+/// A law and no code: whatever the logs' fetch was brought, what was got of it, with the get that is to come, is within the bound
+/// of [`Fetch::gets`].
+pub fn gets_are_few()
+    ensures { GetsAreFew }
 {}

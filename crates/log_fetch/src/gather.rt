@@ -7,7 +7,7 @@ ghost use Rattle.log_model.specs.View.{most_members};
 ghost use Rattle.session_model.specs.Brought.{stamp_of};
 ghost use Rattle.log_fetch.specs.Trying.{trial_left};
 ghost use Rattle.log_fetch.specs.Logs.{settled_left};
-ghost use Rattle.log_fetch.specs.Gathering.{known_of, none_passed, IsNext, IsPassing, PassesAs, BeginsLog, GoesOnLog, Advances, HeadsTaken, BlockTaken, Gathers, HeadsGathered, BlockGathered, IsGathering, gathering_of, heads_wanted, block_wanted, GivesBack, noted_for, noted_at, at_behind, waits_left, gets_in};
+ghost use Rattle.log_fetch.specs.Gathering.{known_of, none_passed, IsNext, IsPassing, PassesAs, BeginsLog, GoesOnLog, Advances, HeadsTaken, BlockTaken, Gathers, HeadsGathered, BlockGathered, IsGathering, gathering_of, heads_wanted, block_wanted, is_wanting, GivesBack, noted_for, noted_at, at_behind, waits_left, gets_in};
 
 use crate::edges::Edges;
 use crate::note::{Note, Notes};
@@ -113,6 +113,16 @@ impl Gather {
         match &self.stage {
             Stage::Log(trial) => trial.wanted(),
             _ => None,
+        }
+    }
+
+    /// Whether something is wanted.
+    pub(crate) fn is_wanting(&self) -> bool
+        ensures { result ≡ is_wanting self.now.stage }
+    {
+        match &self.stage {
+            Stage::Through => false,
+            _ => true,
         }
     }
 

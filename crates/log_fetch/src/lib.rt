@@ -22,6 +22,12 @@
 //! - The chains were added under the view, with the floor and the edges, and are of its members.
 //! - Each answer, and each block that is given, leaves fewer asks to the whole fetch (`fetch_left`). The
 //!   fetch starts from what is held; a snapshot isn't loaded here.
+//! - [`Fetch::gets`] is exactly how many heads and records it began to get, up to `u64::MAX`. A block that
+//!   was given isn't counted. The count never exceeds the sum of three numbers. The first is the members other
+//!   than the own log. The second is, over all members, the floor's number less the one held. The third is,
+//!   over the heads that were tried, each head's number less the one held (`most_gets` in
+//!   `specs/Counting.antt`). That is a law of the definitions ([`gets_are_few`]). So a fetch ends in that many
+//!   gets, whatever the nodes answer.
 //! - A [`Get`] can be driven alone, too, as those of a snapshot's blocks are. [`Progress`] says whether it is
 //!   over. A [`Waiting`] keeps the ask that is to be heard, since asking the get for it again might find the
 //!   get over.
@@ -77,7 +83,7 @@ pub mod walk;
 
 pub use asked::Asked;
 pub use edges::{Edge, Edges};
-pub use fetch::{Fetch, Fetched};
+pub use fetch::{Fetch, Fetched, gets_are_few};
 pub use get::{Came, Get, Progress, Waiting};
 pub use note::{Note, Notes};
 pub use order::heads_to_try;

@@ -36,6 +36,7 @@
 //! - `start R N`: N nodes, numbered from 0, that own every key in this order, and hold nothing; as many answers as R are
 //!   enough for a get or a put; nobody writes a log, and nobody fetches
 //! - `owners N ..`: from now on every node says that these own every key, in this order
+//! - `nearer N ..`: from now on every node says that these are nearer to every key, in this order
 //! - `silent N ..`: these nodes alone answer nothing from now on
 //! - `lost KEY ..`: a put under these keys alone is answered nothing from now on
 //! - `at N KEY BYTES`: the node gives these bytes under the key, `-` for their name
@@ -53,7 +54,7 @@
 //!   by their logs' head keys
 //! - `edge LOG KEY NUMBER NAME ..`: what the held record of that log cites
 //! - `fetch`: the fetch: each ask, `given` for each block that was at hand, then the chains that came, with the number of the
-//!   first record and the number and the name of the last, then the notes, and how it ended
+//!   first record and the number and the name of the last, then the notes, how it ended, and how many gets it began
 //!
 //! A session tells each ask, with the node's number and what it answers: `route`, `get`, `put` and `head`, the put of a head,
 //! with the record's number and name; `turn`; `settle`, with the keys of what was

@@ -71,6 +71,7 @@ starts_for judges s t start then_start f same starts h = record {
   whole = no_parts;
   asking = asks_the_same judges f.entries s t start then_start same starts f.state h.asking;
   sound = h.sound;
+  begun = h.begun;
 }
 
 pub starts_unfailed : {J : Type 0} (judges : Judges J) (s : agent.Standing) (start : Vector) (f : Fetching J) → FetchIsAfter judges s start [] [] f → is_failed f ≡ false

@@ -25,7 +25,8 @@ pub record IsLoadingFor (s : Standing) (parts : List Part) (l : Loading) : Type 
   pub brought : brought_in parts ≡ brought_to l.load
 
 -- The logs are fetched behind what was loaded, over the basis that counts.
-pub record IsFetchingOver {J : Type 0} (judges : Judges J) (s : Standing) (parts : List Part) (current : List Heard) (basis : Option Kept) (f : Fetching J) : Type 0 where
+pub record IsFetchingOver {J : Type 0} (judges : Judges J) (s : Standing) (parts : List Part) (current : List Heard) (basis : Option Kept)
+    (f : Fetching J) : Type 0 where
   pub loaded : List Part
   pub fetched : List Part
   pub parts_are : parts ≡ loaded ++ fetched
@@ -41,7 +42,8 @@ IsAt judges entries s parts current (state.Fetching basis f) = IsFetchingOver ju
 IsAt judges entries s parts current state.Over = ⊥
 
 -- It may be so, of a refresh for that standing, behind these parts and the asks of the get on its way.
-pub record RefreshIsAfter {J : Type 0} (judges : Judges J) (s : Standing) (parts : List Part) (current : List Heard) (r : Refreshing J) : Type 0 where
+pub record RefreshIsAfter {J : Type 0} (judges : Judges J) (s : Standing) (parts : List Part) (current : List Heard)
+    (r : Refreshing J) : Type 0 where
   pub pending : r.pending ≡ s.pending
   pub at : IsAt judges r.entries s parts current r.state
   pub sound : IsSound r.judge r.replicas r.entries r.state

@@ -39,7 +39,8 @@ use Rattle.view_refresh.specs.Steps.{RefreshHasHeard, RefreshIsWanted, RefreshWa
 -- ---- it comes to a state
 
 -- In that state it waits for no node and hasn't failed, at most so much is left of it, and it may be behind such parts.
-pub record IsFree {J : Type 0} (judges : Judges J) (judge : J) (replicas : ℕ) (entries : List Peer) (most : ℕ) (AreBehind : agent.Standing → List Part → Type 0) (st : State J) : Type 0 where
+pub record IsFree {J : Type 0} (judges : Judges J) (judge : J) (replicas : ℕ) (entries : List Peer) (most : ℕ)
+    (AreBehind : agent.Standing → List Part → Type 0) (st : State J) : Type 0 where
   pub sound : IsSound judge replicas entries st
   pub free : awaited_in st ≡ None
   pub unfailed : failed_in st ≡ false
@@ -76,7 +77,8 @@ held_over held None = held
 held_over held (Some b) = b.front
 
 -- the fetch of all logs over what that standing holds, which was brought nothing
-pub record IsStarted {J : Type 0} (judges : Judges J) (judge : J) (replicas : ℕ) (entries : List Peer) (k : Standing) (basis : Option Kept) (st : State J) : Type 0 where
+pub record IsStarted {J : Type 0} (judges : Judges J) (judge : J) (replicas : ℕ) (entries : List Peer) (k : Standing) (basis : Option Kept)
+    (st : State J) : Type 0 where
   pub fetch : Fetching J
   pub state_is : st ≡ state.Fetching basis fetch
   pub judge_is : fetch.judge ≡ judge
@@ -90,7 +92,8 @@ pub record IsStarted {J : Type 0} (judges : Judges J) (judge : J) (replicas : �
 
 -- it waits for its first ask to be heard; or it is over with none, since nobody is known
 abbrev pub BeginsGet : {J : Type 0} → Judges J → ℕ → List Peer → Key → Progress J → Type 0
-BeginsGet judges replicas entries key (progress.Waits x) = IsGetOf replicas entries key x.get × GetIsAfter judges entries [] x.get × IsKept x × (gets_left x.get < most_asks)
+BeginsGet judges replicas entries key (progress.Waits x) =
+    IsGetOf replicas entries key x.get × GetIsAfter judges entries [] x.get × IsKept x × (gets_left x.get < most_asks)
 BeginsGet judges replicas entries key (progress.Comes given) = BroughtNothing given × (entries ≡ [])
 
 -- of the block that is wanted
@@ -123,19 +126,24 @@ KeepsSound r old new = IsSound r.judge r.replicas r.entries new × (loads_in new
 
 -- what it wants then
 abbrev pub WantsNext : {J : Type 0} → Judges J → Refreshing J → State J → State J × Next Refreshed → Type 0
-WantsNext judges r old given = RefreshIsWanted judges (in_state r old) (in_state r given.0) given.1 × KeepsSound r old given.0 × (left_in given.0 ≤ left_in old)
+WantsNext judges r old given = RefreshIsWanted judges (in_state r old) (in_state r given.0) given.1 × KeepsSound r old given.0
+    × (left_in given.0 ≤ left_in old)
 
 -- it heard this, and a block is handed out
 abbrev pub HearsNext : {J : Type 0} → Judges J → Refreshing J → State J → Answer → State J × Option (Key × List ℕ) → Type 0
-HearsNext judges r old answer given = RefreshHasHeard judges (in_state r old) (in_state r given.0) answer given.1 × KeepsSound r old given.0 × (left_in given.0 < left_in old)
+HearsNext judges r old answer given =
+    RefreshHasHeard judges (in_state r old) (in_state r given.0) answer given.1 × KeepsSound r old given.0 × (left_in given.0 < left_in old)
 
 -- it was given the block that it wanted
 abbrev pub GivesNext : {J : Type 0} → Judges J → Refreshing J → State J → List ℕ → State J → Type 0
-GivesNext judges r old bytes new = RefreshWasGiven judges (in_state r old) (in_state r new) bytes × KeepsSound r old new × (left_in new < left_in old)
+GivesNext judges r old bytes new =
+    RefreshWasGiven judges (in_state r old) (in_state r new) bytes × KeepsSound r old new × (left_in new < left_in old)
 
 -- it was given that of the posts, where it is among them
 abbrev pub TakesNext : {J : Type 0} → Judges J → Refreshing J → State J → State J × Bool → Type 0
-TakesNext judges r old (new, true) = (key : Key) × (bytes : List ℕ) × (wanted_in old ≡ Some key) × (pending_block key r.pending ≡ Some bytes) × GivesNext judges r old bytes new
+TakesNext judges r old (new, true) =
+    (key : Key) × (bytes : List ℕ) × (wanted_in old ≡ Some key) × (pending_block key r.pending ≡ Some bytes)
+    × GivesNext judges r old bytes new
 TakesNext judges r old (new, false) = (new ≡ old) × ((key : Key) → wanted_in old ≡ Some key → pending_block key r.pending ≡ None)
 
 -- each block among the posts has its name, while a snapshot is loaded
@@ -144,16 +152,22 @@ AreNamed st posts = loads_in st ≡ true → AllByRecursion HasItsName posts
 
 -- the same for whatever refresh has that state: of a fetch alone, which knows nothing of the refresh
 abbrev pub FetchWantsNext : {J : Type 0} → Judges J → Option Kept → Fetching J → State J × Next Refreshed → Type 0
-FetchWantsNext {J} judges basis f given = (r : Refreshing J) → IsSound r.judge r.replicas r.entries (state.Fetching basis f) → WantsNext judges r (state.Fetching basis f) given
+FetchWantsNext {J} judges basis f given =
+    (r : Refreshing J) → IsSound r.judge r.replicas r.entries (state.Fetching basis f) → WantsNext judges r (state.Fetching basis f) given
 
 abbrev pub FetchHearsNext : {J : Type 0} → Judges J → Option Kept → Fetching J → Answer → State J × Option (Key × List ℕ) → Type 0
-FetchHearsNext {J} judges basis f answer given = (r : Refreshing J) → IsSound r.judge r.replicas r.entries (state.Fetching basis f) → HearsNext judges r (state.Fetching basis f) answer given
+FetchHearsNext {J} judges basis f answer given =
+    (r : Refreshing J) → IsSound r.judge r.replicas r.entries (state.Fetching basis f)
+    → HearsNext judges r (state.Fetching basis f) answer given
 
 abbrev pub FetchGivesNext : {J : Type 0} → Judges J → Option Kept → Fetching J → List ℕ → State J → Type 0
-FetchGivesNext {J} judges basis f bytes new = (r : Refreshing J) → IsSound r.judge r.replicas r.entries (state.Fetching basis f) → GivesNext judges r (state.Fetching basis f) bytes new
+FetchGivesNext {J} judges basis f bytes new =
+    (r : Refreshing J) → IsSound r.judge r.replicas r.entries (state.Fetching basis f)
+    → GivesNext judges r (state.Fetching basis f) bytes new
 
 -- what came of the block that the snapshot wanted was taken, and a block is handed out
-abbrev pub LoadTakesNext : {J : Type 0} → Judges J → Refreshing J → Loading → Result (List ℕ) Miss → State J × Option (Key × List ℕ) → Type 0
+abbrev pub LoadTakesNext : {J : Type 0} → Judges J → Refreshing J → Loading → Result (List ℕ) Miss → State J × Option (Key × List ℕ)
+    → Type 0
 LoadTakesNext judges r l came given =
     IsFree judges r.judge r.replicas r.entries (most_left + most_asks * (load_left l.load - 1)) (AreOfOneMore l came) given.0
     × ((key : Key) → wanted_of l.load ≡ Some key → given.1 ≡ block_in (BlockOf key came))

@@ -94,7 +94,8 @@ most_refresh = most_left + most_asks * most_of Root + 1
 -- a get of that block, from so many owners, that has made some asks from these nodes on
 abbrev pub IsGetOf : {J : Type 0} → ℕ → List Peer → Key → Get J → Type 0
 IsGetOf replicas entries key (get.Heads owner s) = ⊥
-IsGetOf replicas entries key (get.Block s) = (s.course.look.key ≡ key) × (s.course.replicas ≡ replicas) × (trail : List Heard) × BlockIsAfter entries trail s
+IsGetOf replicas entries key (get.Block s) =
+    (s.course.look.key ≡ key) × (s.course.replicas ≡ replicas) × (trail : List Heard) × BlockIsAfter entries trail s
 
 -- the snapshot wants that block next, by what was brought of it
 pub record IsUnderWay (l : Loading) : Type 0 where

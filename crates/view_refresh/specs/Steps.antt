@@ -36,7 +36,8 @@ pub record Stands (s : agent.Standing) (parts : List Part) (end : RefreshEnd) : 
   pub refreshes : Refreshes s (brought_in parts) notes given end
 
 -- The refresh asks that node next, for what is wanted.
-pub record AsksFor (judged : Key → List ℕ → Option Judged) (replicas : ℕ) (entries : List Peer) (s : agent.Standing) (parts : List Part) (current : List Heard) (node : Peer) (question : Ask) : Type 0 where
+pub record AsksFor (judged : Key → List ℕ → Option Judged) (replicas : ℕ) (entries : List Peer) (s : agent.Standing) (parts : List Part)
+    (current : List Heard) (node : Peer) (question : Ask) : Type 0 where
   pub want : Want
   pub needed : Stands s parts (Needs want)
   pub next : AsksNext (wanted_key want) (ask.Get (wanted_key want)) (IsGet judged replicas entries want) current node question
@@ -87,12 +88,14 @@ RefreshIsWanted judges old new (next.Ask node question) =
     × ((s : agent.Standing) (parts : List Part) (current : List Heard) → RefreshIsAfter judges s parts current old
     → RefreshIsAfter judges s parts current new × AsksFor (judges old.judge) old.replicas old.entries s parts current node question)
 RefreshIsWanted judges old new (next.Done given) =
-    (s : agent.Standing) (parts : List Part) (current : List Heard) → RefreshIsAfter judges s parts current old → (refresh_awaited old ≡ None) × (current ≡ []) × Ends (has_failed old) old.entries s parts given
+    (s : agent.Standing) (parts : List Part) (current : List Heard) → RefreshIsAfter judges s parts current old
+    → (refresh_awaited old ≡ None) × (current ≡ []) × Ends (has_failed old) old.entries s parts given
 
 -- ---- it hears
 
 -- the get goes on, behind these asks, which are no whole one
-pub record GoesOn {J : Type 0} (judges : Judges J) (s : agent.Standing) (parts : List Part) (asks : List Heard) (want : Want) (new : Refreshing J) (given : Option (Key × List ℕ)) : Type 0 where
+pub record GoesOn {J : Type 0} (judges : Judges J) (s : agent.Standing) (parts : List Part) (asks : List Heard) (want : Want)
+    (new : Refreshing J) (given : Option (Key × List ℕ)) : Type 0 where
   pub waits : refresh_awaited new ≢ None
   pub unfailed : has_failed new ≡ false
   pub after : RefreshIsAfter judges s parts asks new
@@ -100,7 +103,8 @@ pub record GoesOn {J : Type 0} (judges : Judges J) (s : agent.Standing) (parts :
   pub none : given ≡ None
 
 -- these asks are a whole get, which is the next part; a block that it brought is given back
-pub record IsOver {J : Type 0} (judges : Judges J) (s : agent.Standing) (parts : List Part) (asks : List Heard) (want : Want) (new : Refreshing J) (given : Option (Key × List ℕ)) : Type 0 where
+pub record IsOver {J : Type 0} (judges : Judges J) (s : agent.Standing) (parts : List Part) (asks : List Heard) (want : Want)
+    (new : Refreshing J) (given : Option (Key × List ℕ)) : Type 0 where
   pub brought : Brought
   pub gets : Gets (judges new.judge) new.replicas new.entries want asks brought
   pub waits : refresh_awaited new ≡ None
@@ -111,20 +115,26 @@ pub record IsOver {J : Type 0} (judges : Judges J) (s : agent.Standing) (parts :
 abbrev pub RefreshHasHeard : {J : Type 0} → Judges J → Refreshing J → Refreshing J → Answer → Option (Key × List ℕ) → Type 0
 RefreshHasHeard judges old new answer given =
     IsSameRefresh old new
-    × ((s : agent.Standing) (parts : List Part) (current : List Heard) (node : Peer) (question : Ask) → refresh_awaited old ≡ Some (node, question) → RefreshIsAfter judges s parts current old
+    × ((s : agent.Standing) (parts : List Part) (current : List Heard) (node : Peer) (question : Ask)
+    → refresh_awaited old ≡ Some (node, question) → RefreshIsAfter judges s parts current old
     → (asks : AsksFor (judges old.judge) old.replicas old.entries s parts current node question)
-    × (GoesOn judges s parts (current ++ told node question answer) asks.want new given ⊎ IsOver judges s parts (current ++ told node question answer) asks.want new given))
+    × (GoesOn judges s parts (current ++ told node question answer) asks.want new given
+    ⊎ IsOver judges s parts (current ++ told node question answer) asks.want new given))
 
 -- the block that was wanted is a part, which took no ask
 abbrev pub RefreshWasGiven : {J : Type 0} → Judges J → Refreshing J → Refreshing J → List ℕ → Type 0
 RefreshWasGiven judges old new bytes =
     IsSameRefresh old new × (refresh_awaited new ≡ None) × (has_failed new ≡ false)
-    × ((s : agent.Standing) (parts : List Part) (current : List Heard) (key : Key) → refresh_wanted old ≡ Some key → RefreshIsAfter judges s parts current old
-    → (current ≡ []) × Stands s parts (Needs (Content key)) × RefreshIsAfter judges s (parts ++ record { brought = BlockOf key (Ok bytes); asks = [] } ∷ []) [] new)
+    × ((s : agent.Standing) (parts : List Part) (current : List Heard) (key : Key) → refresh_wanted old ≡ Some key
+    → RefreshIsAfter judges s parts current old
+    → (current ≡ []) × Stands s parts (Needs (Content key))
+    × RefreshIsAfter judges s (parts ++ record { brought = BlockOf key (Ok bytes); asks = [] } ∷ []) [] new)
 
 -- a block that is pending was wanted, and was taken; or none that is wanted is pending, and it is the same
 abbrev pub TakesPending : {J : Type 0} → Judges J → Refreshing J → Refreshing J → Bool → Type 0
-TakesPending judges old new true = (key : Key) × (bytes : List ℕ) × (refresh_wanted old ≡ Some key) × (pending_block key old.pending ≡ Some bytes) × RefreshWasGiven judges old new bytes
+TakesPending judges old new true =
+    (key : Key) × (bytes : List ℕ) × (refresh_wanted old ≡ Some key) × (pending_block key old.pending ≡ Some bytes)
+    × RefreshWasGiven judges old new bytes
 TakesPending judges old new false = (new ≡ old) × IfSome (refresh_wanted old) (λ key. pending_block key old.pending ≡ None)
 
 -- ---- laws
@@ -138,5 +148,6 @@ RefreshStands {J} judges =
 -- where no node is to be heard, a block that is wanted by what was brought is the one that is to be got next
 abbrev pub RefreshWants : {J : Type 0} → Judges J → Type 0
 RefreshWants {J} judges =
-    (r : Refreshing J) (s : agent.Standing) (parts : List Part) (current : List Heard) (key : Key) → RefreshIsAfter judges s parts current r → refresh_awaited r ≡ None → has_failed r ≡ false
+    (r : Refreshing J) (s : agent.Standing) (parts : List Part) (current : List Heard) (key : Key) → RefreshIsAfter judges s parts current r
+    → refresh_awaited r ≡ None → has_failed r ≡ false
     → Stands s parts (Needs (Content key)) → refresh_wanted r ≡ Some key

@@ -4,7 +4,7 @@ ghost use Rattle.std.specs.Prelude.{◌≢◌, None};
 ghost use Rattle.log_fetch.specs.Fetching.{fetch_awaited};
 
 use crate::sessions::reading::{owner_of, vector_of};
-use crate::sessions::showing::{show_fetched, show_question};
+use crate::sessions::showing::{show_fetched, show_gets, show_question};
 use crate::sessions::table::Table;
 use crate::text::Text;
 use crate::words::Words;
@@ -129,6 +129,7 @@ fn step(text: &mut Text, table: &mut Table, hand: &[Bytes], fetch: &mut Fetch<Pl
         }
         Ok(Want::Done(fetched)) => {
             show_fetched(text, fetched);
+            show_gets(text, fetch.gets());
             return true;
         }
         Err(Memory) => {

@@ -136,6 +136,12 @@ pub fn show_fetched(text: &mut Text, fetched: Fetched) {
     }
 }
 
+/// Adds how many heads and records a fetch began to get.
+pub fn show_gets(text: &mut Text, gets: u64) {
+    text.count("gets ", gets);
+    text.byte(b'\n');
+}
+
 /// Adds the lines of chains.
 fn show_chains(text: &mut Text, chains: &[Chain]) {
     for chain in chains {

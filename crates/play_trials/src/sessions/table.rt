@@ -22,6 +22,8 @@ pub struct Table {
     pub entries: Peers,
     /// The owners, in their order.
     pub owners: Peers,
+    /// Those that every node calls nearer, in their order.
+    pub nearer: Peers,
     /// The nodes that answer nothing.
     pub silent: Peers,
     /// The keys under which a put is answered nothing.
@@ -37,6 +39,7 @@ impl Drop for Table {
             replicas: _,
             entries: _,
             owners: _,
+            nearer: _,
             silent: _,
             lost: _,
             blocks: _,
@@ -45,12 +48,13 @@ impl Drop for Table {
 }
 
 impl Table {
-    /// Nodes of these numbers, told twice, which own every key and hold nothing.
+    /// Nodes of these numbers, told twice, which own every key and hold nothing. No other is nearer.
     pub fn of(alloc: Global, replicas: u32, entries: Peers, owners: Peers) -> Table {
         Table {
             replicas,
             entries,
             owners,
+            nearer: Peers::of(Vec::new(alloc)),
             silent: Peers::of(Vec::new(alloc)),
             lost: Vec::new(alloc),
             blocks: Vec::new(alloc),
@@ -93,11 +97,11 @@ impl Table {
         }
     }
 
-    /// The owners.
+    /// The owners, and those that are nearer.
     fn route(&self, alloc: Global) -> Result<Answer, Memory> {
         Ok(Answer::Route {
             owners: self.owners.copy(alloc)?,
-            nearer: Peers::of(Vec::new(alloc)),
+            nearer: self.nearer.copy(alloc)?,
         })
     }
 

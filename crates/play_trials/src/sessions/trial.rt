@@ -92,6 +92,7 @@ impl Trial {
     fn inform(&mut self, words: &mut Words<'_>, what: &str) {
         match what {
             "owners" => self.table.owners = peers_of(words),
+            "nearer" => self.table.nearer = peers_of(words),
             "silent" => self.table.silent = peers_of(words),
             "lost" => self.table.lost = keys_of(words),
             "at" => self.table.put(words),

@@ -12,4 +12,4 @@ pub returns-in_default-clause-ended : goal.returns-in_default-clause-ended
 returns-in_default-clause-ended g c =
     let i = c.self.inside in
     subst (HasFailed g.J.Judge.judges c.args.self.now) (not_failed g.J.Judge.judges i.judge i.replicas i.entries i.state c.in_default.not-Ended)
-    (subst (λ (f : Fetching g.row.J.Denot). HasFailed g.J.Judge.judges f (failed_in i.state)) c.self.view_is (has_failed g.J.Judge.judges i.judge i.replicas i.entries i.state c.self.invariant))
+    (subst (λ (f : Fetching g.row.J.Denot). HasFailed g.J.Judge.judges f (failed_in i.state)) c.self.view_is (has_failed g.J.Judge.judges i.judge i.replicas i.entries i.state i.gets c.self.invariant))

@@ -18,9 +18,9 @@ returns-in-Asking g c =
     let f = c.args.self.now in
     let sound = subst (IsSound f.judge f.replicas) c.in-Asking.is c.requires in
     subst (λ (st : State g.row.J.Denot). WantsNext g.J.Judge.judges f st c.ask.result) (sym c.in-Asking.is)
-    (subst (λ w. WantsNext g.J.Judge.judges f (state.Asking c.in-Asking.gather c.in-Asking.waiting) w) (sym c.ask.ensures) (wants_again g.J.Judge.judges f.judge f.replicas f.entries c.in-Asking.gather c.in-Asking.waiting sound))
+    (subst (λ w. WantsNext g.J.Judge.judges f (state.Asking c.in-Asking.gather c.in-Asking.waiting) w) (sym c.ask.ensures) (wants_again g.J.Judge.judges f.judge f.replicas f.entries c.in-Asking.gather c.in-Asking.waiting f.gets sound))
 
 pub returns-in-Ended : goal.returns-in-Ended
 returns-in-Ended g c =
     let f = c.args.self.now in
-    subst (λ (st : State g.row.J.Denot). WantsNext g.J.Judge.judges f st (state.Over, next.Done c.in-Ended.fetched)) (sym c.in-Ended.is) (wants_told g.J.Judge.judges f.judge f.replicas f.entries c.in-Ended.fetched)
+    subst (λ (st : State g.row.J.Denot). WantsNext g.J.Judge.judges f st (state.Over, next.Done c.in-Ended.fetched)) (sym c.in-Ended.is) (wants_told g.J.Judge.judges f.judge f.replicas f.entries c.in-Ended.fetched f.gets)

@@ -24,7 +24,7 @@ returns-in-Waits g c =
     let sound = subst (IsSound f.judge f.replicas) c.in-Asking.is c.requires.sound in
     let to = subst (HearsTo g.J.Judge.judges c.in-Asking.waiting.get c.args.answer) c.in-Waits.is c.in_ok-waiting.ensures in
     subst (λ (st : State g.row.J.Denot). HearsNext g.J.Judge.judges f st c.args.answer (state.Asking c.in-Asking.gather c.in-Waits.waiting, None)) (sym c.in-Asking.is)
-    (hears_waits g.J.Judge.judges f.judge f.replicas f.entries c.in-Asking.gather c.in-Asking.waiting c.in-Waits.waiting c.args.answer sound to)
+    (hears_waits g.J.Judge.judges f.judge f.replicas f.entries c.in-Asking.gather c.in-Asking.waiting c.in-Waits.waiting c.args.answer f.gets sound to)
 
 pub returns-in-Comes : goal.returns-in-Comes
 returns-in-Comes g c =
@@ -32,4 +32,4 @@ returns-in-Comes g c =
     let sound = subst (IsSound f.judge f.replicas) c.in-Asking.is c.requires.sound in
     let to = subst (HearsTo g.J.Judge.judges c.in-Asking.waiting.get c.args.answer) c.in-Comes.is c.in_ok-waiting.ensures in
     subst (λ (st : State g.row.J.Denot). IfOk c.stand.result (HearsNext g.J.Judge.judges f st c.args.answer)) (sym c.in-Asking.is)
-    (hears_comes g.J.Judge.judges f.judge f.replicas f.entries c.in-Asking.gather c.in-Asking.waiting c.args.answer c.in-Comes.came sound to c.stand.result c.stand.ensures.stands c.stand.ensures.left)
+    (hears_comes g.J.Judge.judges f.judge f.replicas f.entries c.in-Asking.gather c.in-Asking.waiting c.args.answer f.gets c.in-Comes.came sound to c.stand.result c.stand.ensures.stands c.stand.ensures.left)
