@@ -26,10 +26,10 @@ class Capture:
 
 
 class Ends:
-    """The two ends of a link, as their packets are written: the client's port, the server's, and how much each sent."""
+    """The two ends of a link, as their packets are written: the client's port, the server's, how much each sent, and what of it isn't whole yet."""
 
     def __init__(self, capture, client, server):
-        self.capture, self.ports, self.sent = capture, (client, server), [0, 0]
+        self.capture, self.ports, self.sent, self.waiting = capture, (client, server), [0, 0], [b"", b""]
         self.lock = threading.Lock()
         for end, flags in ((0, 0x02), (1, 0x12)):
             self.packet(end, flags, b"")
@@ -44,13 +44,23 @@ class Ends:
         self.capture.write(header + segment)
 
     def send(self, end, data):
+        """Writes what has come whole: a packet begins where a fragment of RPC does (RFC 5531, section 11), since Wireshark loses its way where the
+        header of a fragment is spread over two packets."""
         with self.lock:
-            for at in range(0, len(data), PIECE):
-                self.packet(end, 0x18, data[at : at + PIECE])
-                self.sent[end] += len(data[at : at + PIECE])
+            waiting = self.waiting[end] + data
+            while len(waiting) >= 4 and len(waiting) >= (length := 4 + (int.from_bytes(waiting[:4], "big") & 0x7FFF_FFFF)):
+                self.write(end, waiting[:length])
+                waiting = waiting[length:]
+            self.waiting[end] = waiting
+
+    def write(self, end, data):
+        for at in range(0, len(data), PIECE):
+            self.packet(end, 0x18, data[at : at + PIECE])
+            self.sent[end] += len(data[at : at + PIECE])
 
     def finish(self, end):
         with self.lock:
+            self.write(end, self.waiting[end])
             self.packet(end, 0x11, b"")
             self.sent[end] += 1
 

@@ -6,7 +6,7 @@ ghost use Rattle.value_gate.specs.Passes.{IsPassOf};
 ghost use Rattle.agent_gate.specs.Taking.{kind_of};
 ghost use Rattle.server_trials.specs.Gated.{HasServedBy};
 
-use crate::agents::agent;
+use crate::agents::{MemAgent, agent};
 use crate::link::{Link, link_of};
 use crate::served::{SECOND, Served, small_ring, told};
 use agent_gate::{Closed, Gate, Pass};
@@ -39,24 +39,46 @@ fn serve_pass<R: Wait, K: Keeper + Drop, S: Signs + Drop>(
     serve_session(rt, alloc, gate, pass, &mut mesh, source, sink, &mut clock)
 }
 
-/// Serves the link of a line with a gate's only pass, and closes the gate: what came of it, and how many turns the gate's
-/// history has. None is want of memory, or that the line is of another form.
-pub fn serve_gated<R: Wait>(rt: &R, alloc: Global, line: &str) -> Option<(Served, u64)> {
+/// What is left of a link that was served with a gate's only pass: how it ended, what was written, the agent behind the gate's
+/// whole history, and how many turns that has.
+#[derive(Drop)]
+pub struct Behind {
+    pub how: Ended,
+    pub sink: MemSink,
+    pub agent: MemAgent,
+    pub turns: u64,
+}
+
+/// Serves the link of a line over the ring with a gate's only pass, and closes the gate. None is want of memory, or that the line
+/// is of another form.
+pub fn serve_behind<R: Wait>(rt: &R, alloc: Global, ring: &LiveRing, line: &str) -> Option<Behind> {
     let Link {
         mut source,
         mut sink,
     } = link_of(alloc, line)?;
-    let ring = small_ring(rt, alloc)?;
     let agent = agent(alloc, 1, 0xaa)?;
     let Ok((gate, pass)) = Gate::make(alloc, agent) else {
         return None;
     };
-    let (how, pass) = serve_pass(rt, alloc, &ring, &gate, pass, &mut source, &mut sink);
+    let (how, pass) = serve_pass(rt, alloc, ring, &gate, pass, &mut source, &mut sink);
     let mut passes = Vec::new(alloc);
     passes.push(pass).ok()?;
-    let Ok(Closed { turns, .. }) = gate.close(passes) else {
+    let Ok(Closed { agent, turns }) = gate.close(passes) else {
         return None;
     };
-    let served = told(alloc, how, &sink)?;
-    Some((served, turns))
+    Some(Behind {
+        how,
+        sink,
+        agent,
+        turns,
+    })
+}
+
+/// Serves the link of a line behind a gate, over a small ring: what came of it, and how many turns the gate's history has. None is
+/// want of memory, or that the line is of another form.
+pub fn serve_gated<R: Wait>(rt: &R, alloc: Global, line: &str) -> Option<(Served, u64)> {
+    let ring = small_ring(rt, alloc)?;
+    let behind = serve_behind(rt, alloc, &ring, line)?;
+    let served = told(alloc, behind.how, &behind.sink)?;
+    Some((served, behind.turns))
 }

@@ -11,6 +11,9 @@
 //! 8,192 bytes, how many there are and their SHA-1.
 //! - `slow R W STREAM`: so is this, but a read gives one byte.
 //! - `gate R W STREAM`: so is this, but the agent is behind a gate; in front is how many turns the gate's history has then.
+//! - `live R W STREAM`: the agent is behind a gate, and the ring is that of `serve`: five nodes, of which three own a key. The answer
+//!   is how the link ended, the number of the log's head that a get over the ring gives then, whether a get of the record that
+//!   this head names finds it, and how many posts the agent has still to put.
 //!
 //! A world has nodes in memory and two agents, of which each has its own state from link to link:
 //! - `world N R`: the settled ring of N nodes, of which R own a key, and two agents, each alone in its view;
@@ -31,6 +34,7 @@ mod gated;
 mod link;
 mod served;
 mod slow;
+mod stored;
 mod world;
 
 use gated::serve_gated;
@@ -39,6 +43,7 @@ use served::{Served, serve_line, serve_slowly};
 use std::alloc::Global;
 use std::io;
 use std::sync::Wait;
+use stored::{Stored, serve_stored};
 use world::{Who, World};
 
 fn main(rt: HostRuntime) -> io::Result<()> {
@@ -95,6 +100,10 @@ fn serve_alone<R: Print + Wait>(
                 show(rt, Some(served))
             }
             None => show(rt, None),
+        },
+        "live" => match serve_stored(rt, alloc, rest) {
+            Some(stored) => show_stored(rt, &stored),
+            None => say(rt, false),
         },
         _ => show(rt, serve_line(rt, alloc, line)),
     }
@@ -167,6 +176,21 @@ fn show<R: Print>(rt: &R, served: Option<Served>) -> io::Result<()> {
     } else {
         println!(rt; "{how} {written}")
     }
+}
+
+/// Prints how a link ended, and what the ring and the agent hold then.
+fn show_stored<R: Print>(rt: &R, stored: &Stored) -> io::Result<()> {
+    let record = if stored.is_record_found {
+        "found"
+    } else {
+        "missing"
+    };
+    println!(rt;
+        "{}, head {}, record {record}, pending {}",
+        word_of(stored.how),
+        stored.head,
+        stored.pending
+    )
 }
 
 /// The word for how a link ended.
