@@ -18,8 +18,8 @@ use Rattle.dht_ids.specs.declared.post.PostKind.TheVariants as kind
 
 -- ---- agents
 
--- An agent: its signer, the view that it entered, its floor, what it holds, the snapshot still to be loaded and the newest one by their names,
--- the blocks that it has still to publish, and whether its keeper has failed since its start.
+-- An agent: its signer, the view that it entered, its floor, what it holds, the snapshot still to be loaded and the newest one by their
+-- names, the blocks that it has still to publish, and whether its keeper has failed since its start.
 pub record Agent (S : Type 0) : Type 0 where
   pub signer : S
   pub view : Option View

@@ -1,5 +1,5 @@
--- The candidates of a turn by the standing of its session, and what a refresh has to bring of them. One reading is settled here: fetching a log from a record
--- whose vector isn't known may take records that don't know all that this record does.
+-- The candidates of a turn by the standing of its session, and what a refresh has to bring of them. One reading is settled here: fetching a
+-- log from a record whose vector isn't known may take records that don't know all that this record does.
 use Rattle.std.specs.Prelude.{◌≡◌, ℕ, nat_lt, List, filter, map, Contains, IfSome, Some, None}
 use Rattle.std.specs.List.{AllByRecursion}
 use Rattle.ivy_base.specs.declared.key.Key.{Key}
@@ -19,7 +19,8 @@ use Rattle.agent_model.specs.Standing.{Standing, Chain, Refresh, edge_at}
 
 -- ---- candidates
 
--- What a turn's candidates are told by: the heads of each log and the blocks that were met, the standing with which the session began, and what the agent knew then.
+-- What a turn's candidates are told by: the heads of each log and the blocks that were met, the standing with which the session began, and
+-- what the agent knew then.
 pub record Grounds : Type 0 where
   pub heads : Key → List Stamp
   pub met : List (List ℕ)
@@ -34,14 +35,16 @@ reading_in g view = record { blocks = g.met; view = view; floor = g.standing.flo
 abbrev pub evidence_in : Grounds → View → Evidence
 evidence_in g view = record { heads = g.heads; blocks = g.met; view = view; own = g.standing.own; floor = g.standing.floor; known = g.knew }
 
--- the owner's records among the blocks that a refresh takes under the head, where it doesn't know the vector of the record from which it starts
+-- the owner's records among the blocks that a refresh takes under the head, where it doesn't know the vector of the record from which it
+-- starts
 pub record AreTaken (reading : Reading) (owner : PubKey) (started : Vector) (head : Stamp) (records : List Record) : Type 0 where
   pub owned : AllByRecursion (λ r. r.owner ≡ owner) records
   pub sound : IsSound reading.view started None head records
   pub onward : IsOnward started reading.floor records
   pub stand : Stand reading.blocks records
 
--- The refresh starts from a record of that log whose vector isn't known; and of the heads tried the first one under which it takes records has no chain.
+-- The refresh starts from a record of that log whose vector isn't known; and of the heads tried the first one under which it takes records
+-- has no chain.
 pub record IsMisled (g : Grounds) (view : View) (started : Vector) (owner : PubKey) (records : List Record) : Type 0 where
   pub of_other : owner ≡ g.standing.own → ⊥
   pub from : Stamp
@@ -50,7 +53,8 @@ pub record IsMisled (g : Grounds) (view : View) (started : Vector) (owner : PubK
   pub head : Stamp
   pub tried : IsTried g.heads g.standing.floor (head_key_of owner) head
   pub taken : AreTaken (reading_in g view) owner started head records
-  pub first : (other : Stamp) → IsTried g.heads g.standing.floor (head_key_of owner) other → IsTriedBefore other head → (others : List Record)
+  pub first : (other : Stamp) → IsTried g.heads g.standing.floor (head_key_of owner) other → IsTriedBefore other head
+      → (others : List Record)
       → AreTaken (reading_in g view) owner started other others → ⊥
   pub no_chain : IsPassedOver (reading_in g view) owner head
 
@@ -73,10 +77,13 @@ records_above started owner chain = filter (λ r. nat_lt (seq_of started (head_k
 
 -- of a member's log: the candidate's records above; or the records that mislead; or nothing, where the candidate is what is known
 pub data BringsOf (g : Grounds) (view : View) (brought : Refresh) (owner : PubKey) : Type 0 where
-  candidate : (c : Chain) (chain : List Record) → Contains brought.chains c → c.owner ≡ owner → IsCandidateOf g view brought.started owner chain
+  candidate : (c : Chain) (chain : List Record) → Contains brought.chains c → c.owner ≡ owner
+      → IsCandidateOf g view brought.started owner chain
       → c.records ≡ records_above brought.started owner chain → BringsOf g view brought owner
-  misleading : (c : Chain) → Contains brought.chains c → c.owner ≡ owner → IsMisled g view brought.started owner c.records → BringsOf g view brought owner
-  nothing : ((c : Chain) → Contains brought.chains c → c.owner ≡ owner → ⊥) → IsCandidateOf g view brought.started owner (log_of owner g.knew) → BringsOf g view brought owner
+  misleading : (c : Chain) → Contains brought.chains c → c.owner ≡ owner → IsMisled g view brought.started owner c.records
+      → BringsOf g view brought owner
+  nothing : ((c : Chain) → Contains brought.chains c → c.owner ≡ owner → ⊥)
+      → IsCandidateOf g view brought.started owner (log_of owner g.knew) → BringsOf g view brought owner
 
 -- What was brought is tied to the heads and the blocks: a turn is held to the definitions where it is.
 pub record Brings (g : Grounds) (view : View) (brought : Refresh) : Type 0 where
@@ -88,8 +95,9 @@ pub record Brings (g : Grounds) (view : View) (brought : Refresh) : Type 0 where
 abbrev pub StandsWithin : View → List Record → Basis → Type 0
 StandsWithin view known b = (below : List Record) × StandsFor view b below × ((r : Record) → Contains below r → Contains known r)
 
--- A turn is held to the definitions where the standing is the agent's own, and its floor names what the agent knew when the session began; what it knows now stands
--- among the blocks met and has all of that; the refresh brings what these heads name; and a basis that it loaded stands for a part of what is known.
+-- A turn is held to the definitions where the standing is the agent's own, and its floor names what the agent knew when the session began;
+-- what it knows now stands among the blocks met and has all of that; the refresh brings what these heads name; and a basis that it loaded
+-- stands for a part of what is known.
 pub record MayTurn (g : Grounds) (view : View) (own : PubKey) (known : List Record) (brought : Refresh) : Type 0 where
   pub same_own : g.standing.own ≡ own
   pub by_floor : IsKnown view g.standing.floor g.knew

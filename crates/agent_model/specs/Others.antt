@@ -43,10 +43,14 @@ is_pending_block pending bytes = list_any (λ p. bytes_eq p.bytes bytes && is_bl
 
 -- the agent with the blocks of a snapshot of that name to be published: those that aren't pending already
 abbrev pub snapped : {S : Type 0} → Agent S → Key → List (List ℕ) → Agent S
-snapped a root blocks = record a { snapshot = Some root; pending = a.pending ++ map block_post (filter (λ b. not (is_pending_block a.pending b)) blocks) }
+snapped a root blocks = record a {
+  snapshot = Some root;
+  pending = a.pending
+      ++ map block_post (filter (λ b. not (is_pending_block a.pending b)) blocks);
+}
 
--- The agent after a snapshot was made of it, whether there is one, by whether a save would fail, and what is to be saved. Where an earlier save failed none is
--- tried; after a save that fails the agent has no new snapshot.
+-- The agent after a snapshot was made of it, whether there is one, by whether a save would fail, and what is to be saved. Where an earlier
+-- save failed none is tried; after a save that fails the agent has no new snapshot.
 abbrev pub snapping : {S : Type 0} → Agent S → Key → List (List ℕ) → Bool → (Agent S × Bool) × Option (Kept S)
 snapping a root blocks fails =
     if a.has_failed then ((a, false), None)

@@ -32,7 +32,8 @@ view_bytes (Some view) = view_block view
 abbrev pub saved_tag : List ℕ
 saved_tag = 73 ∷ 86 ∷ 75 ∷ 49 ∷ []
 
--- the tag, the signer by its own saved bytes, the view, how far the own log goes, the floor, the pending posts, and the newest snapshot's name
+-- the tag, the signer by its own saved bytes, the view, how far the own log goes, the floor, the pending posts, and the newest snapshot's
+-- name
 abbrev pub kept_bytes : {S : Type 0} → Signing S → Kept S → List ℕ
 kept_bytes signs k =
     saved_tag ++ opaque (signs.saved k.signer) ++ opaque (view_bytes k.view) ++ word (seq_of k.floor (head_key_of (own_key signs k.signer)))
@@ -57,6 +58,7 @@ pub record IsKept {S : Type 0} (signs : Signing S) (IsWhole : S → Type 0) (k :
   pub some : 1 ≤ seq_of k.floor (head_key_of (own_key signs k.signer))
   pub few : seq_of k.floor (head_key_of (own_key signs k.signer)) ≤ most_records
   pub floor : IsVectorSpelled k.floor
-  pub view : IfSome k.view (λ v. IsView v × HasKeys v × Contains v.members (own_key signs k.signer) × AllByRecursion (λ e. IsTrue (is_named v e.0)) k.floor)
+  pub view : IfSome k.view (λ v. IsView v × HasKeys v × Contains v.members (own_key signs k.signer)
+      × AllByRecursion (λ e. IsTrue (is_named v e.0)) k.floor)
   pub posts : ArePostsSpelled k.pending
   pub snapshot : IfSome k.snapshot IsKey

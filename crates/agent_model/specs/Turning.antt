@@ -1,6 +1,7 @@
--- A turn of an agent: what it answers and how the agent is then. What is signed and saved is said in each case; what is answered is said where names tell
--- the blocks apart, for every set that the agent may know.
-use Rattle.std.specs.Prelude.{◌≡◌, ℕ, ◌+◌, nat_lt, ◌==◌, ◌≤◌, ◌<◌, Bool, true, false, ◌||◌, ◌&&◌, not, List, [], ◌∷◌, ◌++◌, length, IsTrue, Option, Some, None}
+-- A turn of an agent: what it answers and how the agent is then. What is signed and saved is said in each case; what is answered is said
+-- where names tell the blocks apart, for every set that the agent may know.
+use Rattle.std.specs.Prelude.{◌≡◌, ℕ, ◌+◌, nat_lt, ◌==◌, ◌≤◌, ◌<◌, Bool, true, false, ◌||◌, ◌&&◌, not, List, [], ◌∷◌, ◌++◌, length, IsTrue}
+use Rattle.std.specs.Prelude.{Option, Some, None}
 use Rattle.std.specs.Option.{option_map_or}
 use Rattle.std.specs.List.{AllByRecursion, list_any}
 use Rattle.ivy_base.specs.declared.operation.Moment.{Moment}
@@ -49,7 +50,8 @@ lacks floor front new log = option_map_or (λ t. nat_lt (seq_of front log) t.seq
 abbrev pub is_above : Basis → Record → Bool
 is_above b r = dominates (full_vector r) b.front && nat_lt (seq_of b.front (head_key_of r.owner)) r.seq
 
--- The refresh began with more than is held by now; or what is held and the new records lack the record of a member's log that the floor names.
+-- The refresh began with more than is held by now; or what is held and the new records lack the record of a member's log that the floor
+-- names.
 abbrev pub is_behind : View → PubKey → Vector → Holding → Refresh → Bool
 is_behind view own floor h brought = not (dominates (joined h) brought.started)
     || list_any (λ owner. lacks floor (joined h) (new_records own floor h brought) (head_key_of owner)) view.members
@@ -96,14 +98,17 @@ module _ {S : Type 0} (signs : Signing S) where
 
   -- it has signed a head over the last of the written records, and these and the head are to be published
   abbrev pub having_written : Agent S → List Record → Record → Agent S
-  having_written a before last = record a { signer = signs.next a.signer; pending = with_posts a.pending (before ++ last ∷ []) (head_post signs a.signer (own_entry last).1) }
+  having_written a before last = record a {
+    signer = signs.next a.signer;
+    pending = with_posts a.pending (before ++ last ∷ []) (head_post signs a.signer (own_entry last).1);
+  }
 
   -- what it would be with these records written
   abbrev pub written_by : Agent S → Holding → List Record → Record → Agent S
   written_by a h before last = having_written (taking a (with_held h (before ++ last ∷ []))) before last
 
-  -- These may be written, whether or not names tell apart: no save failed before, a signature is left, they are good records of its own, the next ones behind its
-  -- floor, and what is then to be published has a spelling.
+  -- These may be written, whether or not names tell apart: no save failed before, a signature is left, they are good records of its own,
+  -- the next ones behind its floor, and what is then to be published has a spelling.
   pub record MayWrite (view : View) (a : Agent S) (before : List Record) (last : Record) : Type 0 where
     pub unfailed : a.has_failed ≡ false
     pub is_left : 0 < signs.remaining a.signer
@@ -112,14 +117,15 @@ module _ {S : Type 0} (signs : Signing S) where
     pub few : own_reach signs a + length (before ++ last ∷ []) ≤ most_records
     pub posts : ArePostsSpelled (having_written a before last).pending
 
-  -- What a turn takes can be saved, names logs of the view alone, and of the own log no more than the floor, whether or not names tell apart.
+  -- What a turn takes can be saved, names logs of the view alone, and of the own log no more than the floor, whether or not names tell
+  -- apart.
   pub record MayTake (view : View) (a : Agent S) (h : Holding) : Type 0 where
     pub spelled : IsVectorSpelled (joined h)
     pub named : AllByRecursion (λ e. IsTrue (is_named view e.0)) (joined h)
     pub own_log : seq_of (joined h) (head_key_of (own signs a)) ≤ own_reach signs a
 
-  -- What becomes of the agent that takes this, by what is written, and what is to be saved: nothing; or records, which are saved; or records whose save fails,
-  -- and the agent stays without them.
+  -- What becomes of the agent that takes this, by what is written, and what is to be saved: nothing; or records, which are saved; or
+  -- records whose save fails, and the agent stays without them.
   pub data Becomes (view : View) (a : Agent S) (h : Holding) (fails : Bool) : List Record → Agent S → Option (Kept S) → Type 0 where
     reads : Becomes view a h fails [] (taking a h) None
     saves : (before : List Record) (last : Record) → MayWrite view a before last → fails ≡ false
@@ -151,7 +157,8 @@ module _ {S : Type 0} (signs : Signing S) where
   -- Whatever the agent may know, the turn is that of the definition.
   abbrev pub IsByDefinition : Refresh → Turning S → Asked → Holding → List Record → Reply → Type 0
   IsByDefinition brought turning asked h written reply =
-      (grounds : Grounds) (known : List Record) → NamesTellApart grounds.met → Knows turning.view turning.agent.floor turning.agent.holding known
+      (grounds : Grounds) (known : List Record) → NamesTellApart grounds.met
+      → Knows turning.view turning.agent.floor turning.agent.holding known
       → MayTurn grounds turning.view (own signs turning.agent) known brought
       → IsTurnOf (record { grounds = grounds; started = brought.started }) turning known asked h written reply
 
@@ -177,4 +184,5 @@ module _ {S : Type 0} (signs : Signing S) where
         → is_late brought turning ≡ false → is_below brought turning ≡ false → h.basis ≡ (begun_on brought turning).basis
         → MayTake turning.view turning.agent h → Becomes turning.view turning.agent h turning.fails written after saving
         → IsByDefinition brought turning asked h written reply
-        → Turns brought turning asked (Answered reply (applied_between (begun_on brought turning).held h.held + length written)) after saving
+        → Turns brought turning asked (Answered reply (applied_between (begun_on brought turning).held h.held + length written)) after
+        saving

@@ -27,8 +27,8 @@ is_refused_in before view log = not (is_named view log) || (is_member view log &
 abbrev pub not_named : {S : Type 0} → Agent S → View → Option Key
 not_named a view = option_map (λ e. e.0) (find (λ e. is_refused_in a.view view e.0) a.floor)
 
--- What comes of it, by whether a save would fail, and what is to be saved. Where an earlier save failed no further one is tried; after a save that fails
--- the agent stays in its view.
+-- What comes of it, by whether a save would fail, and what is to be saved. Where an earlier save failed no further one is tried; after a
+-- save that fails the agent stays in its view.
 abbrev pub entering_with : {S : Type 0} → Agent S → View → Bool → Option Key → Entering S × Option (Kept S)
 entering_with a view fails (Some log) = (NotNamed log, None)
 entering_with a view fails None =

@@ -48,11 +48,13 @@ Told = (((((Unit {0} × List ℕ) × Option View) × ℕ) × Vector) × List Pos
 
 abbrev pub told_bytes : Told → List ℕ
 told_bytes p =
-    constant_bytes saved_tag p.0.0.0.0.0.0 ++ opaque p.0.0.0.0.0.1 ++ view_part p.0.0.0.0.1 ++ word p.0.0.0.1 ++ array vector_entry p.0.0.1 ++ array post_bytes p.0.1 ++ optional key_bytes p.1
+    constant_bytes saved_tag p.0.0.0.0.0.0 ++ opaque p.0.0.0.0.0.1 ++ view_part p.0.0.0.0.1 ++ word p.0.0.0.1 ++ array vector_entry p.0.0.1
+    ++ array post_bytes p.0.1 ++ optional key_bytes p.1
 
 abbrev pub IsTold : Told → Type 0
 IsTold p =
-    (((((IsAny p.0.0.0.0.0.0 × IsUpTo most_counted p.0.0.0.0.0.1) × IsOptional IsLegal p.0.0.0.0.1) × IsWord p.0.0.0.1) × VectorFits most_counted p.0.0.1) × ArePosts p.0.1) × IsOptional IsKey p.1
+    (((((IsAny p.0.0.0.0.0.0 × IsUpTo most_counted p.0.0.0.0.0.1) × IsOptional IsLegal p.0.0.0.0.1) × IsWord p.0.0.0.1)
+    × VectorFits most_counted p.0.0.1) × ArePosts p.0.1) × IsOptional IsKey p.1
 
 abbrev pub told : read.Parts → Told
 told p = ((((((tt, p.signer.now), p.view), p.reach), p.floor), p.pending), p.snapshot)

@@ -38,13 +38,17 @@ AnswersAreFates = (r : ℕ) (lives : Peer → Bool) (nodes : Peer → State) (ke
 -- A look-up by what the nodes of a covered ring answer, whose entries have a live one, and in which at most 512 peers are
 -- named in all, ends with a list whose first r live peers are the key's owners, in their order.
 abbrev pub AnswersLeadToOwners : Type 0
-AnswersLeadToOwners = (r : ℕ) (live : List Peer) (lives : Peer → Bool) (nodes : Peer → State) (key : Key) (entries names : List Peer) (looks : List (Peer × Answer)) (found : Option (List Peer))
-    → AreNodes r lives nodes → IsCoveredRing place r live lives (links_of nodes) → AreNames live (links_of nodes) entries names → AllByRecursion (IsAnswered lives nodes key) looks
+AnswersLeadToOwners = (r : ℕ) (live : List Peer) (lives : Peer → Bool) (nodes : Peer → State) (key : Key) (entries names : List Peer)
+    (looks : List (Peer × Answer)) (found : Option (List Peer))
+    → AreNodes r lives nodes → IsCoveredRing place r live lives (links_of nodes) → AreNames live (links_of nodes) entries names
+    → AllByRecursion (IsAnswered lives nodes key) looks
     → (e : Peer) → lives e ≡ true → IsAmong e entries → IsLookup [] None entries (routes looks) found
     → (last : List Peer) × (found ≡ Some last) × (take r (filter lives last) ≡ owners place r live (number key))
 
 -- By what the nodes of a settled ring answer, a look-up hears at most one answer for each bit behind the first.
 abbrev pub FewNodesAnswer : Type 0
-FewNodesAnswer = (r : ℕ) (live : List Peer) (lives : Peer → Bool) (nodes : Peer → State) (key : Key) (entries : List Peer) (looks : List (Peer × Answer)) (found : Option (List Peer))
-    → AreNodes r lives nodes → IsSettledRing place r identifier_bits live lives (links_of nodes) → AllByRecursion (IsAnswered lives nodes key) looks
+FewNodesAnswer = (r : ℕ) (live : List Peer) (lives : Peer → Bool) (nodes : Peer → State) (key : Key) (entries : List Peer)
+    (looks : List (Peer × Answer)) (found : Option (List Peer))
+    → AreNodes r lives nodes → IsSettledRing place r identifier_bits live lives (links_of nodes)
+    → AllByRecursion (IsAnswered lives nodes key) looks
     → IsLookup [] None entries (routes looks) found → (x : Peer) → IsAmong x live → answers_in (routes looks) ≤ identifier_bits + 1

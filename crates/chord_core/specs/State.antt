@@ -11,7 +11,9 @@ use Rattle.dhash_model.specs.State.{State}
 
 -- what a node answers of the ring: to Route and to Near
 abbrev pub ring_answer : State → Ask → Option Answer
-ring_answer node (ask.Route key) = Some (answer.Route (nearer_part place node.me node.links (number key)) (owners_part place node.replicas node.me node.links.list (number key)))
+ring_answer node (ask.Route key) =
+    Some (answer.Route (nearer_part place node.me node.links (number key))
+    (owners_part place node.replicas node.me node.links.list (number key)))
 ring_answer node ask.Near = Some (answer.Near node.links.before node.links.list)
 ring_answer node (ask.Notify peer) = None
 ring_answer node (ask.Get key) = None

@@ -1,7 +1,10 @@
--- Completeness: in calm scripts no whole call fails for want of a block; and in tidy ones, while no session is open, its turn takes all that the members have written, and nothing else. Proved with any lines is
--- that no call misses a block, that of each log a head was put, that stores have room, that nodes that live take puts, and that whole puts are acknowledged; `PutsAreTaken` is proved of those with the same ring, and
--- isn't so with any lines. `CallsTakeAll` is proved of those with the same ring; with any lines its tidy run need not be its calm one, and it is proved of one run that is both (`CallsTakeAllInRuns` of `Takes`).
-use Rattle.std.specs.Prelude.{◌≡◌, ◌≢◌, ◌↔◌, ◌≤◌, true, false, ℕ, length, sum_by, List, [], ◌∷◌, ◌++◌, Contains, Option, Some, None, is_some, Result, Bool}
+-- Completeness: in calm scripts no whole call fails for want of a block; and in tidy ones, while no session is open, its turn takes all
+-- that the members have written, and nothing else. Proved with any lines is that no call misses a block, that of each log a head was put,
+-- that stores have room, that nodes that live take puts, and that whole puts are acknowledged; `PutsAreTaken` is proved of those with the
+-- same ring, and isn't so with any lines. `CallsTakeAll` is proved of those with the same ring; with any lines its tidy run need not be its
+-- calm one, and it is proved of one run that is both (`CallsTakeAllInRuns` of `Takes`).
+use Rattle.std.specs.Prelude.{◌≡◌, ◌≢◌, ◌↔◌, ◌≤◌, true, false, ℕ, length, sum_by, List, [], ◌∷◌, ◌++◌, Contains, Option, Some, None}
+use Rattle.std.specs.Prelude.{is_some, Result, Bool}
 use Rattle.std.specs.List.{AllByRecursion}
 use Rattle.ivy_base.specs.declared.key.Key.{Key}
 use Rattle.ivy_base.specs.Naming.{head_key_of, name}
@@ -36,23 +39,28 @@ use Rattle.world_laws.specs.Headline.{IsCaused, IsOnReplay}
 
 -- ---- no call fails for want of a block
 
--- What is shown is what a session of the line said, and its refresh missed nothing: so the reply says neither that the client is to try again later, nor an IO error of a block.
+-- What is shown is what a session of the line said, and its refresh missed nothing: so the reply says neither that the client is to try
+-- again later, nor an IO error of a block.
 pub record IsServed (w : Played) (c : Command) (next : Played) (output : List ℕ) : Type 0 where
   pub caused : IsCaused w c next output
   pub missed_nothing : caused.end.session.missed ≡ None
 
 -- of each log a put of a head was acknowledged
 abbrev pub HaveHeads : Played → Type 0
-HaveHeads w = (q : Participant) → Contains w.0.participants q → (p : Post) × Contains w.1.acked p × (is_head p.kind ≡ true) × (p.key ≡ head_key_of (own q.agent))
+HaveHeads w = (q : Participant) → Contains w.0.participants q
+    → (p : Post) × Contains w.1.acked p × (is_head p.kind ≡ true) × (p.key ≡ head_key_of (own q.agent))
 
 -- In a calm script so is each whole call, where that is so.
 abbrev pub CallsMissNothingBehindHeads : (List (List ℕ) → Type 0) → Type 0
-CallsMissNothingBehindHeads AreSo = (r : ℕ) (w next : Played) (count : ℕ) (lines : List (List ℕ)) (line name output : List ℕ) (pieces : List Piece) → AreSo lines → IsCalmAt r w (Stopped count) lines → HaveHeads w
+CallsMissNothingBehindHeads AreSo =
+    (r : ℕ) (w next : Played) (count : ℕ) (lines : List (List ℕ)) (line name output : List ℕ) (pieces : List Piece) → AreSo lines
+    → IsCalmAt r w (Stopped count) lines → HaveHeads w
     → command_of line ≡ Some (command.As name pieces) → IvyStep w line (Goes next output) → IsServed w (command.As name pieces) next output
 
 -- While what was met is within its limit no node's store is full: it has room for any block that was met.
 abbrev pub StoresHaveRoom : (List (List ℕ) → Type 0) → Type 0
-StoresHaveRoom AreSo = (r : ℕ) (w : Played) (count : ℕ) (lines : List (List ℕ)) (id : Key) (n : Node) (key : Key) (block : Block) → AreSo lines → IsCalmAt r w (Stopped count) lines → sum_by (λ b. length b) w.0.met ≤ most_bytes → node_at w.0 id ≡ Some n
+StoresHaveRoom AreSo = (r : ℕ) (w : Played) (count : ℕ) (lines : List (List ℕ)) (id : Key) (n : Node) (key : Key) (block : Block)
+    → AreSo lines → IsCalmAt r w (Stopped count) lines → sum_by (λ b. length b) w.0.met ≤ most_bytes → node_at w.0 id ≡ Some n
     → Contains w.0.met block.bytes → full key block n.blocks ≡ None
 
 -- the post is content under its name, or a head that is judged
@@ -60,28 +68,38 @@ pub record FitsItsKey (p : Post) : Type 0 where
   pub content : is_head p.kind ≡ false → name p.bytes ≡ p.key
   pub head : is_head p.kind ≡ true → is_some (hss_judged p.key p.bytes) ≡ true
 
--- So a node that is asked to hold such a post that was met holds it then, or a head that is newer. That isn't so where nodes stop: one that has stopped is silent, and takes nothing.
+-- So a node that is asked to hold such a post that was met holds it then, or a head that is newer. That isn't so where nodes stop: one that
+-- has stopped is silent, and takes nothing.
 abbrev pub PutsAreTaken : (List (List ℕ) → Type 0) → Type 0
-PutsAreTaken AreSo = (r : ℕ) (w : Played) (next : World) (count : ℕ) (lines : List (List ℕ)) (p : Post) (to : Peer) (given : Answer) → AreSo lines → IsCalmAt r w (Stopped count) lines → sum_by (λ b. length b) w.0.met ≤ most_bytes → Contains w.0.met p.bytes → FitsItsKey p
+PutsAreTaken AreSo = (r : ℕ) (w : Played) (next : World) (count : ℕ) (lines : List (List ℕ)) (p : Post) (to : Peer) (given : Answer)
+    → AreSo lines → IsCalmAt r w (Stopped count) lines → sum_by (λ b. length b) w.0.met ≤ most_bytes → Contains w.0.met p.bytes
+    → FitsItsKey p
     → FateOf hss_judged w.0 to (put_question p) given next → holds given ≡ true
 
 -- But so it is of a node that lives.
 abbrev pub LivePutsAreTaken : (List (List ℕ) → Type 0) → Type 0
-LivePutsAreTaken AreSo = (r : ℕ) (w : Played) (next : World) (count : ℕ) (lines : List (List ℕ)) (p : Post) (to : Peer) (n : Node) (given : Answer) → AreSo lines → IsCalmAt r w (Stopped count) lines → sum_by (λ b. length b) w.0.met ≤ most_bytes → Contains w.0.met p.bytes → FitsItsKey p
+LivePutsAreTaken AreSo = (r : ℕ) (w : Played) (next : World) (count : ℕ) (lines : List (List ℕ)) (p : Post) (to : Peer) (n : Node)
+    (given : Answer) → AreSo lines → IsCalmAt r w (Stopped count) lines → sum_by (λ b. length b) w.0.met ≤ most_bytes
+    → Contains w.0.met p.bytes → FitsItsKey p
     → node_at w.0 to.id ≡ Some n → n.is_live ≡ true → FateOf hss_judged w.0 to (put_question p) given next → holds given ≡ true
 
 -- So a whole put of it is acknowledged.
 abbrev pub PutsAreAcknowledged : (List (List ℕ) → Type 0) → Type 0
-PutsAreAcknowledged AreSo = (r : ℕ) (w : Played) (next : World) (count : ℕ) (lines : List (List ℕ)) (p : Post) (looks asks : Told) (came : Result Bool Miss) → AreSo lines → IsCalmAt r w (Stopped count) lines → sum_by (λ b. length b) w.0.met ≤ most_bytes
-    → Contains w.0.met p.bytes → FitsItsKey p → Fates hss_judged w.0 (asking (ask.Route p.key) looks ++ asking (put_question p) asks) next → IsPutOfPost r (entries w.0) p (told_all (ask.Route p.key) looks ++ told_all (put_question p) asks) came → acknowledged came ≡ true
+PutsAreAcknowledged AreSo = (r : ℕ) (w : Played) (next : World) (count : ℕ) (lines : List (List ℕ)) (p : Post) (looks asks : Told)
+    (came : Result Bool Miss) → AreSo lines → IsCalmAt r w (Stopped count) lines → sum_by (λ b. length b) w.0.met ≤ most_bytes
+    → Contains w.0.met p.bytes → FitsItsKey p → Fates hss_judged w.0 (asking (ask.Route p.key) looks ++ asking (put_question p) asks) next
+    → IsPutOfPost r (entries w.0) p (told_all (ask.Route p.key) looks ++ told_all (put_question p) asks) came → acknowledged came ≡ true
 
--- So each log has a head of which a put was acknowledged, in each world of a calm script in which a further line is within the limit of what may be met.
+-- So each log has a head of which a put was acknowledged, in each world of a calm script in which a further line is within the limit of
+-- what may be met.
 abbrev pub LogsHaveHeads : (List (List ℕ) → Type 0) → Type 0
-LogsHaveHeads AreSo = (r : ℕ) (w : Played) (count : ℕ) (lines : List (List ℕ)) → AreSo lines → IsCalmAt r w (Stopped count) lines → sum_by (λ b. length b) w.0.met ≤ most_bytes → HaveHeads w
+LogsHaveHeads AreSo = (r : ℕ) (w : Played) (count : ℕ) (lines : List (List ℕ)) → AreSo lines → IsCalmAt r w (Stopped count) lines
+    → sum_by (λ b. length b) w.0.met ≤ most_bytes → HaveHeads w
 
 -- So in a calm script each whole call is served, tidy or not.
 abbrev pub CallsMissNothing : (List (List ℕ) → Type 0) → Type 0
-CallsMissNothing AreSo = (r : ℕ) (w next : Played) (count : ℕ) (lines : List (List ℕ)) (line name output : List ℕ) (pieces : List Piece) → AreSo lines → IsCalmAt r w (Stopped count) lines
+CallsMissNothing AreSo = (r : ℕ) (w next : Played) (count : ℕ) (lines : List (List ℕ)) (line name output : List ℕ) (pieces : List Piece)
+    → AreSo lines → IsCalmAt r w (Stopped count) lines
     → command_of line ≡ Some (command.As name pieces) → IvyStep w line (Goes next output) → IsServed w (command.As name pieces) next output
 
 -- ---- tidy scripts
@@ -103,7 +121,8 @@ IsTidyAt w _ = Unit {0}
 -- so at each line between two worlds
 pub data Tidily : Played → List (List ℕ) → Played → Type 0 where
   none : {w : Played} → Tidily w [] w
-  more : {w mid next : Played} {line : List ℕ} {lines : List (List ℕ)} (c : Command) (output : List ℕ) → command_of line ≡ Some c → IsTidyAt w.0 c → IvyStep w line (Goes mid output) → Tidily mid lines next → Tidily w (line ∷ lines) next
+  more : {w mid next : Played} {line : List ℕ} {lines : List (List ℕ)} (c : Command) (output : List ℕ) → command_of line ≡ Some c
+      → IsTidyAt w.0 c → IvyStep w line (Goes mid output) → Tidily mid lines next → Tidily w (line ∷ lines) next
 
 -- each log has a key of its own
 abbrev pub HaveOwnKeys : World → Type 0
@@ -111,16 +130,22 @@ HaveOwnKeys w = (p q : Participant) → Contains w.participants p → Contains w
 
 -- all members of the caller's view have entered it
 abbrev pub HaveEntered : World → List ℕ → Type 0
-HaveEntered w caller = (p q : Participant) (view : View) → participant w caller ≡ Some p → p.agent.view ≡ Some view → Contains w.participants q → Contains view.members (own q.agent) → q.agent.view ≡ Some view
+HaveEntered w caller = (p q : Participant) (view : View) → participant w caller ≡ Some p → p.agent.view ≡ Some view
+    → Contains w.participants q → Contains view.members (own q.agent) → q.agent.view ≡ Some view
 
 -- ---- the turn takes everything
 
 -- a member of the view has written the record
 abbrev pub IsWritten : Played → View → Record → Type 0
-IsWritten w view one = (q : Participant) × Contains w.0.participants q × Contains view.members (own q.agent) × Contains (log_of (own q.agent) (known_of w.1 q.name)) one
+IsWritten w view one = (q : Participant) × Contains w.0.participants q × Contains view.members (own q.agent)
+    × Contains (log_of (own q.agent) (known_of w.1 q.name)) one
 
--- In a calm and tidy script the turn of a whole call, while no session is open, takes all records that the members have written before it, and nothing else.
+-- In a calm and tidy script the turn of a whole call, while no session is open, takes all records that the members have written before it,
+-- and nothing else.
 abbrev pub CallsTakeAll : (List (List ℕ) → Type 0) → Type 0
-CallsTakeAll AreSo = (r : ℕ) (w next : Played) (count : ℕ) (lines : List (List ℕ)) (line name output : List ℕ) (pieces : List Piece) → AreSo lines → (calm : IsCalmAt r w (Stopped count) lines)
-    → Tidily (calm.made, calm.before.1) lines w → HaveOwnKeys w.0 → HaveEntered w.0 name → w.0.sessions ≡ [] → command_of line ≡ Some (command.As name pieces) → IvyStep w line (Goes next output)
-    → (h : HadTurn) (turn : IsOnReplay h) (one : Record) → next.1.turns ≡ w.1.turns ++ h ∷ [] → Contains turn.taken one ↔ IsWritten w h.view one
+CallsTakeAll AreSo = (r : ℕ) (w next : Played) (count : ℕ) (lines : List (List ℕ)) (line name output : List ℕ) (pieces : List Piece)
+    → AreSo lines → (calm : IsCalmAt r w (Stopped count) lines)
+    → Tidily (calm.made, calm.before.1) lines w → HaveOwnKeys w.0 → HaveEntered w.0 name → w.0.sessions ≡ []
+    → command_of line ≡ Some (command.As name pieces) → IvyStep w line (Goes next output)
+    → (h : HadTurn) (turn : IsOnReplay h) (one : Record) → next.1.turns ≡ w.1.turns ++ h ∷ []
+    → Contains turn.taken one ↔ IsWritten w h.view one

@@ -1,5 +1,6 @@
--- Of which records puts were acknowledged: of each that a head names which a node holds (records go before the head: Ivy, OSDI 2002, section 3.3), and of each that an agent knows, but for its own that are
--- still to be published. Stated and proved of calm scripts with any lines.
+-- Of which records puts were acknowledged: of each that a head names which a node holds (records go before the head: Ivy, OSDI 2002,
+-- section 3.3), and of each that an agent knows, but for its own that are still to be published. Stated and proved of calm scripts with any
+-- lines.
 use Rattle.std.specs.Prelude.{◌≡◌, ◌⊎◌, ℕ, List, Contains, Some}
 use Rattle.std.specs.List.{AllByRecursion}
 use Rattle.std.specs.FinMap.Entries.{find as value_at}
@@ -46,10 +47,13 @@ IsHeadOver IsSo key head = (owner : PubKey) × (key ≡ head_key_of owner) × Al
 
 -- Of each record up to the one that a head names which a node holds a put was acknowledged.
 abbrev pub HeadsNameWhatWasPut : (List (List ℕ) → Type 0) → Type 0
-HeadsNameWhatWasPut AreSo = (r : ℕ) (w : Played) (count : ℕ) (lines : List (List ℕ)) (n : Node) (key : Key) (block : Block) (head : Judged) → AreSo lines → IsCalmAt r w (Stopped count) lines
-    → Contains w.0.nodes n → value_at key_cmp key n.blocks ≡ Some block → block.kind ≡ Head → hss_judged key block.bytes ≡ Some head → IsHeadOver (WasPut w.1.acked) key head
+HeadsNameWhatWasPut AreSo = (r : ℕ) (w : Played) (count : ℕ) (lines : List (List ℕ)) (n : Node) (key : Key) (block : Block) (head : Judged)
+    → AreSo lines → IsCalmAt r w (Stopped count) lines
+    → Contains w.0.nodes n → value_at key_cmp key n.blocks ≡ Some block → block.kind ≡ Head → hss_judged key block.bytes ≡ Some head
+    → IsHeadOver (WasPut w.1.acked) key head
 
 -- Of each record that a participant's agent knows a put was acknowledged, or it is its own and still to be published.
 abbrev pub KnownIsPutOrPending : (List (List ℕ) → Type 0) → Type 0
-KnownIsPutOrPending AreSo = (r : ℕ) (w : Played) (count : ℕ) (lines : List (List ℕ)) (p : Participant) (one : Record) → AreSo lines → IsCalmAt r w (Stopped count) lines → Contains w.0.participants p
+KnownIsPutOrPending AreSo = (r : ℕ) (w : Played) (count : ℕ) (lines : List (List ℕ)) (p : Participant) (one : Record) → AreSo lines
+    → IsCalmAt r w (Stopped count) lines → Contains w.0.participants p
     → Contains (known_of w.1 p.name) one → WasPut w.1.acked one ⊎ ((one.owner ≡ own p.agent) × Contains p.agent.pending (record_post one))

@@ -1,5 +1,5 @@
--- What a turn needs to take all that was written: of each log a put of its newest head was acknowledged, and the heads that are received were made by their logs' agents. And that it takes all, in one run that is calm and
--- tidy.
+-- What a turn needs to take all that was written: of each log a put of its newest head was acknowledged, and the heads that are received
+-- were made by their logs' agents. And that it takes all, in one run that is calm and tidy.
 use Rattle.std.specs.Prelude.{◌≡◌, ◌↔◌, ◌≤◌, ℕ, List, [], ◌∷◌, ◌++◌, length, sum_by, true, Contains, Some}
 use Rattle.ivy_base.specs.Naming.{head_key_of}
 use Rattle.log_model.specs.Record.{Record}
@@ -27,14 +27,19 @@ use Rattle.completeness_laws.specs.Completeness.{HaveEntered, HaveOwnKeys, IsTid
 abbrev pub IsLeftBy : Participant → Entry → Type 0
 IsLeftBy q e = (bytes : List ℕ) × (j : Judged) × Contains q.left bytes × (hss_judged e.0 bytes ≡ Some j) × (e.1 ≡ stamp_of j)
 
--- In calm scripts each head of a participant's log that somebody received left the log's agent: whatever else was met, a head is given as such only where it was put as such.
+-- In calm scripts each head of a participant's log that somebody received left the log's agent: whatever else was met, a head is given as
+-- such only where it was put as such.
 abbrev pub ReceivedHeadsLeft : (List (List ℕ) → Type 0) → Type 0
-ReceivedHeadsLeft AreSo = (r : ℕ) (w : Played) (count : ℕ) (lines : List (List ℕ)) (name : List ℕ) (e : Entry) (q : Participant) → AreSo lines → IsCalmAt r w (Stopped count) lines
-    → Contains (knowing_of w.1 name).received e → Contains w.0.participants q → e.0 ≡ head_key_of (own q.agent) → (p : Participant) × Contains w.0.participants p × (own p.agent ≡ own q.agent) × IsLeftBy p e
+ReceivedHeadsLeft AreSo = (r : ℕ) (w : Played) (count : ℕ) (lines : List (List ℕ)) (name : List ℕ) (e : Entry) (q : Participant)
+    → AreSo lines → IsCalmAt r w (Stopped count) lines
+    → Contains (knowing_of w.1 name).received e → Contains w.0.participants q → e.0 ≡ head_key_of (own q.agent)
+    → (p : Participant) × Contains w.0.participants p × (own p.agent ≡ own q.agent) × IsLeftBy p e
 
 -- of each log a put of a head was acknowledged that goes as far as its agent's floor
 abbrev pub HaveNewest : Played → Type 0
-HaveNewest w = (q : Participant) → Contains w.0.participants q → (p : Post) × (j : Judged) × Contains w.1.acked p × (is_head p.kind ≡ true) × (p.key ≡ head_key_of (own q.agent)) × (hss_judged p.key p.bytes ≡ Some j) × (own_reach q.agent ≤ j.seq)
+HaveNewest w = (q : Participant) → Contains w.0.participants q
+    → (p : Post) × (j : Judged) × Contains w.1.acked p × (is_head p.kind ≡ true) × (p.key ≡ head_key_of (own q.agent))
+    × (hss_judged p.key p.bytes ≡ Some j) × (own_reach q.agent ≤ j.seq)
 
 -- In calm and tidy scripts that is so while no session is open.
 abbrev pub NewestArePut : (List (List ℕ) → Type 0) → Type 0
@@ -46,16 +51,21 @@ NewestArePut AreSo = (r : ℕ) (w : Played) (count : ℕ) (lines : List (List �
 -- one run that is both calm and tidy at each line
 pub data CalmTidily (r : ℕ) : Played → Since → List (List ℕ) → Played → Since → Type 0 where
   none : {w : Played} {since : Since} → CalmTidily r w since [] w since
-  more : {w mid next : Played} {since between after : Since} {line : List ℕ} {lines : List (List ℕ)} (c : Command) (output : List ℕ) → command_of line ≡ Some c → IsCalm w.0 r since c between → IsTidyAt w.0 c → IvyStep w line (Goes mid output)
+  more : {w mid next : Played} {since between after : Since} {line : List ℕ} {lines : List (List ℕ)} (c : Command) (output : List ℕ)
+      → command_of line ≡ Some c → IsCalm w.0 r since c between → IsTidyAt w.0 c → IvyStep w line (Goes mid output)
       → CalmTidily r mid between lines next after → CalmTidily r w since (line ∷ lines) next after
 
 -- so it is after such a run, in which nodes may stop and join and rounds be made
 abbrev pub NewestArePutInRuns : Type 0
 NewestArePutInRuns = (r : ℕ) (w : Played) (count : ℕ) (lines : List (List ℕ)) → (calm : IsCalmAt r w (Stopped count) lines)
-    → CalmTidily r (calm.made, calm.before.1) (Stopped 0) lines w (Stopped count) → w.0.sessions ≡ [] → sum_by (λ b. length b) w.0.met ≤ most_bytes → HaveNewest w
+    → CalmTidily r (calm.made, calm.before.1) (Stopped 0) lines w (Stopped count) → w.0.sessions ≡ []
+    → sum_by (λ b. length b) w.0.met ≤ most_bytes → HaveNewest w
 
 -- and the turn of a whole call takes all then
 abbrev pub CallsTakeAllInRuns : Type 0
-CallsTakeAllInRuns = (r : ℕ) (w next : Played) (count : ℕ) (lines : List (List ℕ)) (line name output : List ℕ) (pieces : List Piece) → (calm : IsCalmAt r w (Stopped count) lines)
-    → CalmTidily r (calm.made, calm.before.1) (Stopped 0) lines w (Stopped count) → HaveOwnKeys w.0 → HaveEntered w.0 name → w.0.sessions ≡ [] → command_of line ≡ Some (command.As name pieces) → IvyStep w line (Goes next output)
-    → (h : HadTurn) (turn : IsOnReplay h) (one : Record) → next.1.turns ≡ w.1.turns ++ h ∷ [] → Contains turn.taken one ↔ IsWritten w h.view one
+CallsTakeAllInRuns = (r : ℕ) (w next : Played) (count : ℕ) (lines : List (List ℕ)) (line name output : List ℕ) (pieces : List Piece)
+    → (calm : IsCalmAt r w (Stopped count) lines)
+    → CalmTidily r (calm.made, calm.before.1) (Stopped 0) lines w (Stopped count) → HaveOwnKeys w.0 → HaveEntered w.0 name
+    → w.0.sessions ≡ [] → command_of line ≡ Some (command.As name pieces) → IvyStep w line (Goes next output)
+    → (h : HadTurn) (turn : IsOnReplay h) (one : Record) → next.1.turns ≡ w.1.turns ++ h ∷ []
+    → Contains turn.taken one ↔ IsWritten w h.view one

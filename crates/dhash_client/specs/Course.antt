@@ -1,5 +1,6 @@
 -- What the machines of gets and puts share: a look-up, and then asks of the owners that it found, in one trail.
-use Rattle.std.specs.Prelude.{◌≡◌, ℕ, ◌+◌, ◌-◌, ◌^◌, ◌<◌, ◌≤◌, nat_lt, Bool, if◌then◌else◌, List, [], ◌∷◌, ◌++◌, length, take, Option, Some, None, IfSome, Ok, Err, ◌⊎◌}
+use Rattle.std.specs.Prelude.{◌≡◌, ℕ, ◌+◌, ◌-◌, ◌^◌, ◌<◌, ◌≤◌, nat_lt, Bool, if◌then◌else◌, List, [], ◌∷◌, ◌++◌, length, take, Option, Some}
+use Rattle.std.specs.Prelude.{None, IfSome, Ok, Err, ◌⊎◌}
 use Rattle.std.specs.Option.{option_map}
 use Rattle.ivy_base.specs.declared.key.Key.{Key}
 use Rattle.dht_ids.specs.Asked.{told, routes}
@@ -60,7 +61,8 @@ abbrev pub awaited : Ask → CourseState → Option (Peer × Ask)
 awaited question c = awaited_at question c c.asking
 
 -- the owners that a look-up found, and what was heard of those that were asked
-pub record HasAsked (answers : Answer → Bool) (IsEnough : Told → Type 0) (key : Key) (entries : List Peer) (looks asks : Told) (a : Asking) : Type 0 where
+pub record HasAsked (answers : Answer → Bool) (IsEnough : Told → Type 0) (key : Key) (entries : List Peer) (looks asks : Told)
+    (a : Asking) : Type 0 where
   pub found : Option (List Peer)
   pub owners : List Peer
   pub looked : IsLookup [] None entries (routes looks) found
@@ -75,24 +77,29 @@ abbrev pub IsAskedOnce : State → Type 0
 IsAskedOnce look = IfSome look.waiting (λ node. (length look.asked < 512) × (IsAmong node look.asked → ⊥))
 
 abbrev pub IsStage : (Answer → Bool) → (Told → Type 0) → Key → List Peer → Told → Told → State → Option Asking → Type 0
-IsStage answers IsEnough key entries looks asks look None = (asks ≡ []) × FollowsAfter (routes looks) (fresh key entries) look × IsAskedOnce look
+IsStage answers IsEnough key entries looks asks look None =
+    (asks ≡ []) × FollowsAfter (routes looks) (fresh key entries) look × IsAskedOnce look
 IsStage answers IsEnough key entries looks asks look (Some a) = HasAsked answers IsEnough key entries looks asks a
 
 -- what a machine with this key, look-up and owners has come to behind a trail; `question` is what it asks owners, and
 -- `Sums` says what it keeps of their answers
-pub record IsBehind (question : Key → Ask) (answers : Answer → Bool) (IsEnough : Key → ℕ → Told → Type 0) (Sums : Key → Told → Type 0) (entries : List Peer) (trail : List Heard) (key : Key) (r : ℕ) (look : State) (asking : Option Asking) : Type 0 where
+pub record IsBehind (question : Key → Ask) (answers : Answer → Bool) (IsEnough : Key → ℕ → Told → Type 0) (Sums : Key → Told → Type 0)
+    (entries : List Peer) (trail : List Heard) (key : Key) (r : ℕ) (look : State) (asking : Option Asking) : Type 0 where
   pub looks : Told
   pub asks : Told
   pub told : trail ≡ told_all (ask.Route key) looks ++ told_all (question key) asks
   pub stage : IsStage answers (IsEnough key r) key entries looks asks look asking
   pub sums : Sums key asks
 
-abbrev pub IsOnCourse : (Key → Ask) → (Answer → Bool) → (Key → ℕ → Told → Type 0) → (Key → Told → Type 0) → List Peer → List Heard → CourseState → Type 0
-IsOnCourse question answers IsEnough Sums entries trail c = IsBehind question answers IsEnough Sums entries trail c.look.key c.replicas c.look c.asking
+abbrev pub IsOnCourse : (Key → Ask) → (Answer → Bool) → (Key → ℕ → Told → Type 0) → (Key → Told → Type 0) → List Peer → List Heard
+    → CourseState → Type 0
+IsOnCourse question answers IsEnough Sums entries trail c =
+    IsBehind question answers IsEnough Sums entries trail c.look.key c.replicas c.look c.asking
 
 -- the owners that a look-up found begin to be asked, or go on
 abbrev pub IsAskingOf : State → Option Asking → Asking → Type 0
-IsAskingOf look None a = (found : Option (List Peer)) × (owners : List Peer) × Follow look [] found × (outcome look.key found ≡ Ok owners) × AreFirsts [] owners a.rest × (a.asked ≡ []) × (a.answered ≡ 0)
+IsAskingOf look None a = (found : Option (List Peer)) × (owners : List Peer) × Follow look [] found × (outcome look.key found ≡ Ok owners)
+    × AreFirsts [] owners a.rest × (a.asked ≡ []) × (a.answered ≡ 0)
 IsAskingOf look (Some b) a = a ≡ b
 
 -- the look-up is over, and the owners are asked
@@ -116,7 +123,8 @@ pub record Looks (old new : CourseState) (node : Peer) : Type 0 where
 abbrev pub Goes : CourseState → CourseState → Step → Type 0
 Goes old new (step.Route node) = Looks old new node
 Goes old new (step.Owner node) = (a : Asking) × Reaches old new a × (next_owner old.replicas a ≡ Some node)
-Goes old new step.NoRoute = (old.asking ≡ None) × (found : Option (List Peer)) × Follow old.look [] found × (outcome old.look.key found ≡ Err (miss.NoRoute old.look.key)) × (new.look.key ≡ old.look.key)
+Goes old new step.NoRoute = (old.asking ≡ None) × (found : Option (List Peer)) × Follow old.look [] found
+    × (outcome old.look.key found ≡ Err (miss.NoRoute old.look.key)) × (new.look.key ≡ old.look.key)
 Goes old new step.Over = (a : Asking) × Reaches old new a × (next_owner old.replicas a ≡ None)
 
 -- an owner was heard: its turn is over, and it counts among those that answered, or doesn't
@@ -133,7 +141,8 @@ pub record HearsOwner (old new : CourseState) (node : Peer) (counts : Bool) : Ty
 
 -- what was heard: a route, or an owner's answer, which is given back
 abbrev pub Hears : CourseState → CourseState → Answer → Bool → Option (Peer × Answer) → Type 0
-Hears old new given counts None = (old.asking ≡ None) × (new.asking ≡ None) × (new.replicas ≡ old.replicas) × HasHeard old.look new.look given
+Hears old new given counts None = (old.asking ≡ None) × (new.asking ≡ None) × (new.replicas ≡ old.replicas)
+    × HasHeard old.look new.look given
 Hears old new given counts (Some (node, answer)) = (answer ≡ given) × HearsOwner old new node counts
 
 -- the owners that were asked

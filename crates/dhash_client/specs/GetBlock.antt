@@ -42,16 +42,23 @@ SumsBlock key (Some bytes) wrong asks = IsGiven block_in key asks bytes
 
 -- the machine may be in this state behind this trail
 abbrev pub BlockIsAfter : List Peer → List Heard → BlockState → Type 0
-BlockIsAfter entries trail s = IsOnCourse (λ key. ask.Get key) is_of_get IsEnoughBlock (λ key. SumsBlock key s.found s.wrong) entries trail s.course
+BlockIsAfter entries trail s = IsOnCourse (λ key. ask.Get key) is_of_get IsEnoughBlock
+    (λ key. SumsBlock key s.found s.wrong) entries trail s.course
 
 -- what the machine wants: to ask a node, which is then to be heard, or nothing more, since its trail is a whole get
 abbrev pub BlockIsWanted : BlockState → BlockState → Want (Result (List ℕ) Miss) → Type 0
-BlockIsWanted old new (want.Ask node question) = IsSameCourse old.course new.course × (block_awaited new ≡ Some (node, question)) × ((entries : List Peer) (trail : List Heard) → BlockIsAfter entries trail old → BlockIsAfter entries trail new)
-BlockIsWanted old new (want.Done result) = (entries : List Peer) (trail : List Heard) → BlockIsAfter entries trail old → IsGetOfBlock old.course.look.key old.course.replicas entries trail result
+BlockIsWanted old new (want.Ask node question) =
+    IsSameCourse old.course new.course × (block_awaited new ≡ Some (node, question))
+    × ((entries : List Peer) (trail : List Heard) → BlockIsAfter entries trail old → BlockIsAfter entries trail new)
+BlockIsWanted old new (want.Done result) =
+    (entries : List Peer) (trail : List Heard) → BlockIsAfter entries trail old
+    → IsGetOfBlock old.course.look.key old.course.replicas entries trail result
 
 -- the node that was to be heard was heard: its ask and answer are the next of the trail
 abbrev pub BlockHasHeard : BlockState → BlockState → Answer → Type 0
-BlockHasHeard old new given = IsSameCourse old.course new.course × ((entries : List Peer) (trail : List Heard) (node : Peer) (question : Ask) → block_awaited old ≡ Some (node, question) → BlockIsAfter entries trail old → BlockIsAfter entries (trail ++ told node question given) new)
+BlockHasHeard old new given = IsSameCourse old.course new.course
+    × ((entries : List Peer) (trail : List Heard) (node : Peer) (question : Ask) → block_awaited old ≡ Some (node, question)
+    → BlockIsAfter entries trail old → BlockIsAfter entries (trail ++ told node question given) new)
 
 -- the node is the first, where there was none
 abbrev pub or_node : Option Peer → Peer → Option Peer
@@ -61,4 +68,6 @@ or_node (Some before) node = Some before
 -- what an owner gave is the block, or other bytes, or nothing
 abbrev pub BlockTakes : Key → BlockState → BlockState → Peer → Option (List ℕ) → Type 0
 BlockTakes key old new node None = (new.found ≡ old.found) × (new.wrong ≡ old.wrong)
-BlockTakes key old new node (Some bytes) = ((name bytes ≡ key) × (new.found ≡ Some bytes)) ⊎ ((name bytes ≡ key → ⊥) × (new.found ≡ old.found) × (new.wrong ≡ or_node old.wrong node))
+BlockTakes key old new node (Some bytes) =
+    ((name bytes ≡ key) × (new.found ≡ Some bytes))
+    ⊎ ((name bytes ≡ key → ⊥) × (new.found ≡ old.found) × (new.wrong ≡ or_node old.wrong node))

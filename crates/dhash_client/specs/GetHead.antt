@@ -48,16 +48,24 @@ SumsHead judge heads wrong asks = (heads ≡ judged block_in judge asks) × (hea
 
 -- the machine may be in this state behind this trail
 abbrev pub HeadIsAfter : {J : Type 0} → Judges J → List Peer → List Heard → HeadState J → Type 0
-HeadIsAfter judges entries trail s = IsOnCourse (λ key. ask.Get key) is_of_get IsEnoughHead (λ key. SumsHead (judges s.judge key) s.heads s.wrong) entries trail s.course
+HeadIsAfter judges entries trail s =
+    IsOnCourse (λ key. ask.Get key) is_of_get IsEnoughHead (λ key. SumsHead (judges s.judge key) s.heads s.wrong) entries trail s.course
 
 -- what the machine wants: to ask a node, which is then to be heard, or nothing more, since its trail is a whole get
 abbrev pub HeadIsWanted : {J : Type 0} → Judges J → HeadState J → HeadState J → Want (Result (List Judged) Miss) → Type 0
-HeadIsWanted judges old new (want.Ask node question) = IsSameHead old new × (head_awaited new ≡ Some (node, question)) × ((entries : List Peer) (trail : List Heard) → HeadIsAfter judges entries trail old → HeadIsAfter judges entries trail new)
-HeadIsWanted judges old new (want.Done result) = (entries : List Peer) (trail : List Heard) → HeadIsAfter judges entries trail old → IsGetOfHead (judges old.judge old.course.look.key) old.course.look.key old.course.replicas entries trail result
+HeadIsWanted judges old new (want.Ask node question) =
+    IsSameHead old new × (head_awaited new ≡ Some (node, question))
+    × ((entries : List Peer) (trail : List Heard) → HeadIsAfter judges entries trail old → HeadIsAfter judges entries trail new)
+HeadIsWanted judges old new (want.Done result) =
+    (entries : List Peer) (trail : List Heard) → HeadIsAfter judges entries trail old
+    → IsGetOfHead (judges old.judge old.course.look.key) old.course.look.key old.course.replicas entries trail result
 
 -- the node that was to be heard was heard: its ask and answer are the next of the trail
 abbrev pub HeadHasHeard : {J : Type 0} → Judges J → HeadState J → HeadState J → Answer → Type 0
-HeadHasHeard judges old new given = IsSameHead old new × ((entries : List Peer) (trail : List Heard) (node : Peer) (question : Ask) → head_awaited old ≡ Some (node, question) → HeadIsAfter judges entries trail old → HeadIsAfter judges entries (trail ++ told node question given) new)
+HeadHasHeard judges old new given =
+    IsSameHead old new × ((entries : List Peer) (trail : List Heard) (node : Peer) (question : Ask)
+    → head_awaited old ≡ Some (node, question) → HeadIsAfter judges entries trail old
+    → HeadIsAfter judges entries (trail ++ told node question given) new)
 
 -- the judge takes the bytes for a head, or the node gave something else
 abbrev pub TakesJudged : {J : Type 0} → HeadState J → HeadState J → Peer → Option Judged → Type 0

@@ -49,13 +49,16 @@ FollowsAfter first old new = (trail : Trail) (found : Option (List Peer)) → Fo
 
 -- with qs to ask no other look-ups follow than with ps
 abbrev pub IsRest : List Peer → List Peer → List Peer → Type 0
-IsRest asked ps qs = (last : Option (List Peer)) (trail : Trail) (found : Option (List Peer)) → IsLookup asked last qs trail found → IsLookup asked last ps trail found
+IsRest asked ps qs = (last : Option (List Peer)) (trail : Trail) (found : Option (List Peer)) → IsLookup asked last qs trail found
+    → IsLookup asked last ps trail found
 
 -- what the machine wants: to ask a node for the route, that it didn't ask before, as one of 512, or nothing more,
 -- since no ask may follow
 abbrev pub IsWanted : State → State → Want (Result (List Peer) Miss) → Type 0
-IsWanted old new (want.Ask node question) = (question ≡ ask.Route old.key) × (new.waiting ≡ Some node) × (length old.asked < 512) × (IsAmong node old.asked → ⊥)
-IsWanted old new (want.Done result) = (new.waiting ≡ None) × (found : Option (List Peer)) × Follow old [] found × (result ≡ outcome old.key found)
+IsWanted old new (want.Ask node question) =
+    (question ≡ ask.Route old.key) × (new.waiting ≡ Some node) × (length old.asked < 512) × (IsAmong node old.asked → ⊥)
+IsWanted old new (want.Done result) =
+    (new.waiting ≡ None) × (found : Option (List Peer)) × Follow old [] found × (result ≡ outcome old.key found)
 
 -- the node that was to be heard was heard: it counts as asked, and its ask and answer are the next of the look-up
 pub record HasHeard (old new : State) (given : Answer) : Type 0 where

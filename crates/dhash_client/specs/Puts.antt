@@ -65,12 +65,18 @@ PutIsAfter entries trail s = IsOnCourse (question_of s.what s.bytes) is_of_put I
 
 -- what the machine wants: to ask a node, which is then to be heard, or nothing more, since its trail is a whole put
 abbrev pub PutIsWanted : PutState → PutState → Want (Result Bool Miss) → Type 0
-PutIsWanted old new (want.Ask node question) = IsSamePut old new × (put_awaited new ≡ Some (node, question)) × ((entries : List Peer) (trail : List Heard) → PutIsAfter entries trail old → PutIsAfter entries trail new)
-PutIsWanted old new (want.Done result) = (entries : List Peer) (trail : List Heard) → PutIsAfter entries trail old → IsPutOf old.what old.bytes old.course.look.key old.course.replicas entries trail result
+PutIsWanted old new (want.Ask node question) =
+    IsSamePut old new × (put_awaited new ≡ Some (node, question))
+    × ((entries : List Peer) (trail : List Heard) → PutIsAfter entries trail old → PutIsAfter entries trail new)
+PutIsWanted old new (want.Done result) =
+    (entries : List Peer) (trail : List Heard) → PutIsAfter entries trail old
+    → IsPutOf old.what old.bytes old.course.look.key old.course.replicas entries trail result
 
 -- the node that was to be heard was heard: its ask and answer are the next of the trail
 abbrev pub PutHasHeard : PutState → PutState → Answer → Type 0
-PutHasHeard old new given = IsSamePut old new × ((entries : List Peer) (trail : List Heard) (node : Peer) (question : Ask) → put_awaited old ≡ Some (node, question) → PutIsAfter entries trail old → PutIsAfter entries (trail ++ told node question given) new)
+PutHasHeard old new given = IsSamePut old new
+    × ((entries : List Peer) (trail : List Heard) (node : Peer) (question : Ask) → put_awaited old ≡ Some (node, question)
+    → PutIsAfter entries trail old → PutIsAfter entries (trail ++ told node question given) new)
 
 -- one owner more holds the block, or not
 abbrev pub one_more : Bool → ℕ → ℕ

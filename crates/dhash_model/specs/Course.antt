@@ -28,10 +28,13 @@ told_all question asks = flat_map (λ s. told s.0 question s.1) asks
 
 -- A trail of a get or a put: the asks of a look-up and then, where it found owners, those asks of them that the last
 -- relation describes.
-pub data IsCourse {T : Type 0} (key : Key) (question : Ask) (entries : List Peer) (Ends : List Peer → Told → Result T Miss → Type 0) (trail : List Heard) (result : Result T Miss) : Type 0 where
-  no_route : (looks : Told) (found : Option (List Peer)) → trail ≡ told_all (ask.Route key) looks → IsLookup [] None entries (routes looks) found
+pub data IsCourse {T : Type 0} (key : Key) (question : Ask) (entries : List Peer) (Ends : List Peer → Told → Result T Miss → Type 0)
+    (trail : List Heard) (result : Result T Miss) : Type 0 where
+  no_route : (looks : Told) (found : Option (List Peer)) → trail ≡ told_all (ask.Route key) looks
+      → IsLookup [] None entries (routes looks) found
       → outcome key found ≡ Err (miss.NoRoute key) → result ≡ Err (miss.NoRoute key) → IsCourse key question entries Ends trail result
-  of_owners : (looks asks : Told) (found : Option (List Peer)) (owners : List Peer) → trail ≡ told_all (ask.Route key) looks ++ told_all question asks → IsLookup [] None entries (routes looks) found
+  of_owners : (looks asks : Told) (found : Option (List Peer)) (owners : List Peer)
+      → trail ≡ told_all (ask.Route key) looks ++ told_all question asks → IsLookup [] None entries (routes looks) found
       → outcome key found ≡ Ok owners → Ends owners asks result → IsCourse key question entries Ends trail result
 
 -- the result of a get that ended so

@@ -34,7 +34,8 @@ block_in answer.Silent = None
 
 -- the asks of the owners are a get of the content block of that name, which ends with this result
 abbrev pub EndsGet : Key → ℕ → List Peer → Told → Result (List ℕ) Miss → Type 0
-EndsGet key r owners asks result = (got : Got Peer (List ℕ)) × IsBlockGet is_of_get block_in key r owners asks got × (result ≡ result_of key got)
+EndsGet key r owners asks result =
+    (got : Got Peer (List ℕ)) × IsBlockGet is_of_get block_in key r owners asks got × (result ≡ result_of key got)
 
 -- A get of the content block of that name, over a whole trail.
 abbrev pub IsGetOfBlock : Key → ℕ → List Peer → List Heard → Result (List ℕ) Miss → Type 0

@@ -12,7 +12,8 @@ use Rattle.dhash_model.specs.declared.miss.Miss.{Miss}
 
 -- the asks of the owners are a get of the head under that key, which ends with this result
 abbrev pub EndsHeadGet : (List ℕ → Option Judged) → Key → ℕ → List Peer → Told → Result (List Judged) Miss → Type 0
-EndsHeadGet judge key r owners asks result = (got : Got Peer (List Judged)) × IsHeadGet is_of_get block_in judge r owners asks got × (result ≡ result_of key got)
+EndsHeadGet judge key r owners asks result =
+    (got : Got Peer (List Judged)) × IsHeadGet is_of_get block_in judge r owners asks got × (result ≡ result_of key got)
 
 -- A get of the head under that key, over a whole trail.
 abbrev pub IsGetOfHead : (List ℕ → Option Judged) → Key → ℕ → List Peer → List Heard → Result (List Judged) Miss → Type 0

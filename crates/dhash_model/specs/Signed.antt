@@ -1,5 +1,6 @@
 -- Which heads of logs the judge of signed heads takes. What a head's signature signs is `head_message`, the first 88 bytes of its block.
-use Rattle.std.specs.Prelude.{ℕ, Bool, true, false, ◌&&◌, List, length, take, drop, Option, Some, None, Result, Ok, Err, if◌then◌else◌, nat_lt, nat_le}
+use Rattle.std.specs.Prelude.{ℕ, Bool, true, false, ◌&&◌, List, length, take, drop, Option, Some, None, Result, Ok, Err, if◌then◌else◌}
+use Rattle.std.specs.Prelude.{nat_lt, nat_le}
 use Rattle.std.specs.Int.{w32, from_be_bytes}
 use Rattle.std.specs.List.{list_all}
 use Rattle.std.specs.Str.{bytes_eq}
@@ -23,7 +24,8 @@ signature_in bytes = take (from_be_bytes w32 (take 4 (drop 88 bytes))) (drop 92 
 -- the bytes are a head with that owner, number, name and signature
 abbrev pub is_head : List ℕ → PubKey → ℕ → Key → List ℕ → Bool
 is_head bytes owner seq name signature =
-    is_block 60 owner.0 && nat_le 1 seq && nat_le seq most_records && is_block 20 name.0 && nat_le (length signature) 16000 && are_bytes bytes
+    is_block 60 owner.0 && nat_le 1 seq && nat_le seq most_records && is_block 20 name.0 && nat_le (length signature) 16000
+    && are_bytes bytes
     && bytes_eq bytes (head_block owner (stamp seq name) signature)
 
 -- nothing was wrong with the signature
@@ -34,7 +36,8 @@ is_yes (Err fault) = false
 -- and it is under the key, and signed
 abbrev pub is_signed : Key → List ℕ → PubKey → ℕ → Key → List ℕ → Bool
 is_signed key bytes owner seq name signature =
-    is_head bytes owner seq name signature && bytes_eq key.0 (head_key_of owner).0 && is_yes (hss_verdict owner.0 (head_message owner (stamp seq name)) signature)
+    is_head bytes owner seq name signature && bytes_eq key.0 (head_key_of owner).0
+    && is_yes (hss_verdict owner.0 (head_message owner (stamp seq name)) signature)
 
 -- the bytes are a signed head under the key, by what stands in their places
 abbrev pub is_signed_head : Key → List ℕ → Bool

@@ -25,7 +25,11 @@ with_list node list = record node { links = record node.links { list = list } }
 
 -- a node that knows of nobody: each of its fingers is itself
 abbrev pub alone_node : Peer → ℕ → State
-alone_node me replicas = record { me = me; replicas = replicas; links = record { list = []; before = None; fingers = replicate identifier_bits me } }
+alone_node me replicas = record {
+  me = me;
+  replicas = replicas;
+  links = record { list = []; before = None; fingers = replicate identifier_bits me };
+}
 
 -- the first list of a joining node: the entries that stand elsewhere, at most 2r
 abbrev pub adopted : State → List Peer → List Peer

@@ -1,6 +1,7 @@
 -- What a node's store of blocks holds, and what it takes: content blocks under their names (CFS, SOSP 2001, section 3), and heads
 -- of logs under the digests of the logs' public keys, a newer one for an older (Ivy, OSDI 2002, section 3).
-use Rattle.std.specs.Prelude.{ℕ, nat_le, nat_lt, not, List, length, sum_by, Option, Some, None, option_map, option_and_then, slice_set, if◌then◌else◌}
+use Rattle.std.specs.Prelude.{ℕ, nat_le, nat_lt, not, List, length, sum_by, Option, Some, None, option_map, option_and_then, slice_set}
+use Rattle.std.specs.Prelude.{if◌then◌else◌}
 use Rattle.std.specs.FinMap.Entries.{find as value_at, put, where_key}
 use Rattle.std.specs.Map.{values_of}
 use Rattle.std.specs.Option.{option_or}
@@ -87,7 +88,8 @@ content_fault key bytes blocks = option_or (wrong_name key bytes) (full key (con
 -- the first fault that a head has
 abbrev pub head_fault : (Key → List ℕ → Option Judged) → Key → List ℕ → Blocks → Option StoreFault
 head_fault judges key bytes blocks =
-    option_or (not_judged (judges key bytes)) (option_or (older (number_at judges key blocks) (judges key bytes)) (full key (head bytes) blocks))
+    option_or (not_judged (judges key bytes))
+    (option_or (older (number_at judges key blocks) (judges key bytes)) (full key (head bytes) blocks))
 
 -- ---- damage, and what is listed
 
@@ -98,4 +100,5 @@ spoiled offset byte block = record { kind = block.kind; bytes = slice_set block.
 -- the blocks with that byte of that one changed, where such a byte is held
 abbrev pub with_byte : Key → ℕ → ℕ → Blocks → Option Blocks
 with_byte key offset byte blocks =
-    option_and_then (λ block. if nat_lt offset (length block.bytes) then Some (put key_cmp key (spoiled offset byte block) blocks) else None) (value_at key_cmp key blocks)
+    option_and_then (λ block. if nat_lt offset (length block.bytes) then Some
+    (put key_cmp key (spoiled offset byte block) blocks) else None) (value_at key_cmp key blocks)

@@ -1,5 +1,6 @@
 -- The put of one block by a node that holds it, on its way.
-use Rattle.std.specs.Prelude.{◌≡◌, ◌⊎◌, ℕ, ◌<◌, ◌≤◌, Bool, true, false, ◌&&◌, not, List, [], ◌∷◌, ◌++◌, filter, Option, Some, None, Result, Ok, Err}
+use Rattle.std.specs.Prelude.{◌≡◌, ◌⊎◌, ℕ, ◌<◌, ◌≤◌, Bool, true, false, ◌&&◌, not, List, [], ◌∷◌, ◌++◌, filter, Option, Some, None, Result}
+use Rattle.std.specs.Prelude.{Ok, Err}
 use Rattle.std.specs.List.{AllByRecursion, flat_map, list_any}
 use Rattle.dht_ids.specs.Asked.{told}
 use Rattle.dht_ids.specs.declared.ask.Answer.{Answer}
@@ -18,7 +19,8 @@ use Rattle.dhash_client.specs.Course.{asks_left}
 use Rattle.dhash_client.specs.Puts.{PutState, PutHasHeard, PutIsAfter, IsSamePut, put_begun, put_awaited, put_kind}
 use Rattle.dhash_repair.specs.Repairs.{Asked, IsPutFrom, ack_of, is_node, put_question}
 
--- a put on its way: the node that makes it, what its block is and what is said of the block, the put so far, and whether the node counted among the owners
+-- a put on its way: the node that makes it, what its block is and what is said of the block, the put so far, and whether the node counted
+-- among the owners
 pub record Putting : Type 0 where
   pub node : Peer
   pub kind : PostKind
@@ -31,7 +33,13 @@ post_of s = record { key = s.put.course.look.key; bytes = s.put.bytes; kind = s.
 
 -- one that begins
 abbrev pub putting : Peer → Post → ℕ → Putting
-putting node p r = record { node = node; kind = p.kind; ack = ack_of p; put = put_begun (put_kind p.kind) p.bytes p.key r (node ∷ []); counts = false }
+putting node p r = record {
+  node = node;
+  kind = p.kind;
+  ack = ack_of p;
+  put = put_begun (put_kind p.kind) p.bytes p.key r (node ∷ []);
+  counts = false;
+}
 
 -- ---- asks of the node itself
 
@@ -79,16 +87,20 @@ IsSamePutting old new = (new.node ≡ old.node) × (new.kind ≡ old.kind) × (n
 abbrev pub PuttingGoesOn : Putting → Putting → Type 0
 PuttingGoesOn old new = IsSamePutting old new × ((r : ℕ) (trail : List Asked) → PuttingIsAfter r trail old → PuttingIsAfter r trail new)
 
--- what it wants: to ask another node, or itself for the route; or nothing more, since these asks are a whole put of its block, which may go or not
+-- what it wants: to ask another node, or itself for the route; or nothing more, since these asks are a whole put of its block, which may go
+-- or not
 abbrev pub PuttingIsWanted : Putting → Putting → Want Bool → Type 0
-PuttingIsWanted old new (want.Ask node question) = PuttingGoesOn old new × (put_awaited new.put ≡ Some (node, question)) × (is_own old.node node question ≡ false)
-PuttingIsWanted old new (want.Done goes) = (r : ℕ) (trail : List Asked) → PuttingIsAfter r trail old → IsPutFrom old.node r (post_of old) trail goes
+PuttingIsWanted old new (want.Ask node question) =
+    PuttingGoesOn old new × (put_awaited new.put ≡ Some (node, question)) × (is_own old.node node question ≡ false)
+PuttingIsWanted old new (want.Done goes) =
+    (r : ℕ) (trail : List Asked) → PuttingIsAfter r trail old → IsPutFrom old.node r (post_of old) trail goes
 
 -- the node that was to be heard was heard: its ask and answer are the next
 abbrev pub PuttingHasHeard : Putting → Putting → Answer → Type 0
 PuttingHasHeard old new given =
     IsSamePutting old new
-    × ((r : ℕ) (trail : List Asked) (node : Peer) (question : Ask) → put_awaited old.put ≡ Some (node, question) → is_own old.node node question ≡ false → PuttingIsAfter r trail old
+    × ((r : ℕ) (trail : List Asked) (node : Peer) (question : Ask) → put_awaited old.put ≡ Some (node, question)
+    → is_own old.node node question ≡ false → PuttingIsAfter r trail old
     → PuttingIsAfter r (trail ++ (node, (question, given)) ∷ []) new)
 
 -- ---- steps
@@ -103,7 +115,8 @@ acknowledged (Err miss) = false
 
 -- the node counts as having answered that it holds the block
 abbrev pub PuttingCounts : Putting → Putting → Type 0
-PuttingCounts old new = (new.node ≡ old.node) × (new.kind ≡ old.kind) × (new.ack ≡ old.ack) × (new.counts ≡ true) × PutHasHeard old.put new.put answer.Stored × (left_of new < left_of old)
+PuttingCounts old new = (new.node ≡ old.node) × (new.kind ≡ old.kind) × (new.ack ≡ old.ack) × (new.counts ≡ true)
+    × PutHasHeard old.put new.put answer.Stored × (left_of new < left_of old)
 
 -- that node is asked so, or it is the node itself, which counts
 abbrev pub PuttingAsks : Putting → Putting → Peer → Ask → Option (Want Bool) → Type 0

@@ -11,7 +11,8 @@ use Rattle.dhash_client.specs.Puts.{put_awaited}
 use Rattle.dhash_repair.specs.Putting.{Putting, PuttingIsAfter, is_own, left_of, post_of}
 use Rattle.dhash_repair.specs.Repairs.{Asked, IsRepair}
 
--- whose blocks are put, with how many answers each put is content, the put on its way, the blocks behind it, and what is said of those so far that may go
+-- whose blocks are put, with how many answers each put is content, the put on its way, the blocks behind it, and what is said of those so
+-- far that may go
 pub record RepairState : Type 0 where
   pub node : Peer
   pub replicas : ℕ
@@ -61,19 +62,24 @@ IsSameRepair old new = (new.node ≡ old.node) × (new.replicas ≡ old.replicas
 
 -- it goes on, and no ask was made
 abbrev pub RepairGoesOn : RepairState → RepairState → Type 0
-RepairGoesOn old new = IsSameRepair old new × ((posts : List Post) (trail : List Asked) → RepairIsAfter posts trail old → RepairIsAfter posts trail new)
+RepairGoesOn old new = IsSameRepair old new
+    × ((posts : List Post) (trail : List Asked) → RepairIsAfter posts trail old → RepairIsAfter posts trail new)
 
--- What is wanted: to ask a node, which is then to be heard, and isn't the node itself where a block is put; or nothing more, since these asks are a whole repair, and these blocks may go.
+-- What is wanted: to ask a node, which is then to be heard, and isn't the node itself where a block is put; or nothing more, since these
+-- asks are a whole repair, and these blocks may go.
 abbrev pub RepairIsWanted : RepairState → RepairState → Want (List Ack) → Type 0
 RepairIsWanted old new (want.Ask node question) =
-    RepairGoesOn old new × (repair_awaited new ≡ Some (node, question)) × ((posts : List Post) (trail : List Asked) → RepairIsAfter posts trail old → is_own old.node node question ≡ false)
-RepairIsWanted old new (want.Done acks) = (posts : List Post) (trail : List Asked) → RepairIsAfter posts trail old → IsRepair old.node old.replicas posts trail acks
+    RepairGoesOn old new × (repair_awaited new ≡ Some (node, question))
+    × ((posts : List Post) (trail : List Asked) → RepairIsAfter posts trail old → is_own old.node node question ≡ false)
+RepairIsWanted old new (want.Done acks) =
+    (posts : List Post) (trail : List Asked) → RepairIsAfter posts trail old → IsRepair old.node old.replicas posts trail acks
 
 -- the node that was to be heard was heard: its ask and answer are the next
 abbrev pub RepairHasHeard : RepairState → RepairState → Answer → Type 0
 RepairHasHeard old new given =
     IsSameRepair old new
-    × ((posts : List Post) (trail : List Asked) (node : Peer) (question : Ask) → repair_awaited old ≡ Some (node, question) → is_own old.node node question ≡ false → RepairIsAfter posts trail old
+    × ((posts : List Post) (trail : List Asked) (node : Peer) (question : Ask) → repair_awaited old ≡ Some (node, question)
+    → is_own old.node node question ≡ false → RepairIsAfter posts trail old
     → RepairIsAfter posts (trail ++ (node, (question, given)) ∷ []) new)
 
 -- ---- how many asks are left

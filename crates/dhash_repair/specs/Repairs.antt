@@ -1,5 +1,6 @@
--- What a node does so that its blocks lie with their owners: it puts each at the owners of its key, and may drop those that others hold now (DHash moves blocks to the nodes that own them: CFS, SOSP 2001,
--- section 5.1; that it does so by puts, and when a block may go, are this project's rules).
+-- What a node does so that its blocks lie with their owners: it puts each at the owners of its key, and may drop those that others hold now
+-- (DHash moves blocks to the nodes that own them: CFS, SOSP 2001, section 5.1; that it does so by puts, and when a block may go, are this
+-- project's rules).
 use Rattle.std.specs.Prelude.{◌≡◌, ℕ, Bool, true, false, ◌&&◌, not, List, [], ◌∷◌, ◌++◌, map, filter, Option, None, Ok, Err}
 use Rattle.std.specs.List.{AllByRecursion, list_any}
 use Rattle.std.specs.Ordering.{eq_by_cmp}
@@ -51,12 +52,16 @@ OwnIsStored node asks = AllByRecursion (λ s. is_node node s.0 ≡ true → s.1 
 abbrev pub may_go : Peer → Told → Bool → Bool
 may_go node asks acknowledged = acknowledged && not (list_any (λ s. is_node node s.0) asks)
 
--- A put of the block by the node, which begins its look-up at itself, and counts, at its place among the owners, as having answered Stored: these asks are made, and it is said whether the block may go.
+-- A put of the block by the node, which begins its look-up at itself, and counts, at its place among the owners, as having answered Stored:
+-- these asks are made, and it is said whether the block may go.
 pub data IsPutFrom (node : Peer) (r : ℕ) (p : Post) (trail : List Asked) (goes : Bool) : Type 0 where
-  no_route : (looks : Told) (found : Option (List Peer)) → trail ≡ asking (ask.Route p.key) looks → IsLookup [] None (node ∷ []) (routes looks) found → outcome p.key found ≡ Err (miss.NoRoute p.key) → goes ≡ false
+  no_route : (looks : Told) (found : Option (List Peer)) → trail ≡ asking (ask.Route p.key) looks
+      → IsLookup [] None (node ∷ []) (routes looks) found → outcome p.key found ≡ Err (miss.NoRoute p.key) → goes ≡ false
       → IsPutFrom node r p trail goes
-  of_owners : (looks asks : Told) (found : Option (List Peer)) (owners : List Peer) (acknowledged : Bool) → trail ≡ asking (ask.Route p.key) looks ++ asking (put_question p) (of_others node asks)
-      → IsLookup [] None (node ∷ []) (routes looks) found → outcome p.key found ≡ Ok owners → IsPut is_of_put holds r owners asks acknowledged → OwnIsStored node asks → goes ≡ may_go node asks acknowledged
+  of_owners : (looks asks : Told) (found : Option (List Peer)) (owners : List Peer) (acknowledged : Bool)
+      → trail ≡ asking (ask.Route p.key) looks ++ asking (put_question p) (of_others node asks)
+      → IsLookup [] None (node ∷ []) (routes looks) found → outcome p.key found ≡ Ok owners
+      → IsPut is_of_put holds r owners asks acknowledged → OwnIsStored node asks → goes ≡ may_go node asks acknowledged
       → IsPutFrom node r p trail goes
 
 -- ---- all blocks
@@ -68,5 +73,7 @@ ack_of p = record { key = p.key; name = name p.bytes }
 -- The blocks are put one after the other by these asks, and these of them may go.
 pub data IsRepair (node : Peer) (r : ℕ) : List Post → List Asked → List Ack → Type 0 where
   none : IsRepair node r [] [] []
-  keeps : {p : Post} {posts : List Post} {asks trail : List Asked} {acks : List Ack} → IsPutFrom node r p asks false → IsRepair node r posts trail acks → IsRepair node r (p ∷ posts) (asks ++ trail) acks
-  drops : {p : Post} {posts : List Post} {asks trail : List Asked} {acks : List Ack} → IsPutFrom node r p asks true → IsRepair node r posts trail acks → IsRepair node r (p ∷ posts) (asks ++ trail) (ack_of p ∷ acks)
+  keeps : {p : Post} {posts : List Post} {asks trail : List Asked} {acks : List Ack} → IsPutFrom node r p asks false
+      → IsRepair node r posts trail acks → IsRepair node r (p ∷ posts) (asks ++ trail) acks
+  drops : {p : Post} {posts : List Post} {asks trail : List Asked} {acks : List Ack} → IsPutFrom node r p asks true
+      → IsRepair node r posts trail acks → IsRepair node r (p ∷ posts) (asks ++ trail) (ack_of p ∷ acks)

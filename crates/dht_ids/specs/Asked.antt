@@ -54,7 +54,8 @@ told node (ask.Route key) given = record { node = node; kind = kind.Route; key =
 told node ask.Near given = []
 told node (ask.Notify peer) given = []
 told node (ask.Get key) given = record { node = node; kind = kind.Get; key = key; put = None; got = given } ∷ []
-told node (ask.PutBlock key bytes) given = record { node = node; kind = kind.PutBlock; key = key; put = Some (name bytes); got = given } ∷ []
+told node (ask.PutBlock key bytes) given =
+    record { node = node; kind = kind.PutBlock; key = key; put = Some (name bytes); got = given } ∷ []
 told node (ask.PutHead key bytes) given = record { node = node; kind = kind.PutHead; key = key; put = Some (name bytes); got = given } ∷ []
 
 -- a trail that is told has these at its end

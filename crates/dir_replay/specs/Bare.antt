@@ -5,7 +5,14 @@ use Rattle.tree_model.specs.Tree.{Tree, Inode, Attributes}
 
 -- mode and owners 0, and the three times 0
 abbrev pub blank : Attributes
-blank = record { mode = 0; uid = 0; gid = 0; atime = record { sec = 0; nsec = 0 }; mtime = record { sec = 0; nsec = 0 }; ctime = record { sec = 0; nsec = 0 } }
+blank = record {
+  mode = 0;
+  uid = 0;
+  gid = 0;
+  atime = record { sec = 0; nsec = 0 };
+  mtime = record { sec = 0; nsec = 0 };
+  ctime = record { sec = 0; nsec = 0 };
+}
 
 -- an inode of that kind, with nothing in it
 abbrev pub bare_inode : Kind → Inode

@@ -34,7 +34,8 @@ touched_by t o = if is_effective t o then directories o else none_touched
 abbrev pub with_names_changed : Tree → Op → Tree
 with_names_changed t (op.Link dir name number) = with_name t dir name number
 with_names_changed t (op.Unlink dir name) = without_name t dir name
-with_names_changed t (op.Rename dir name to_dir to_name) = option_map_or (λ moved. with_name (without_name t dir name) to_dir to_name moved) (entry t dir name) t
+with_names_changed t (op.Rename dir name to_dir to_name) =
+    option_map_or (λ moved. with_name (without_name t dir name) to_dir to_name moved) (entry t dir name) t
 with_names_changed t _ = t
 
 -- the same, where the operation may be done

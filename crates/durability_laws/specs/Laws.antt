@@ -1,5 +1,5 @@
--- How many copies there are, and what a round leaves where (CFS, SOSP 2001, section 5.1: a block's copies stand at the r nodes that follow its key, and move to them). The other
--- laws of this crate are statements of `world_laws` (`Calm`), of calm scripts with any lines.
+-- How many copies there are, and what a round leaves where (CFS, SOSP 2001, section 5.1: a block's copies stand at the r nodes that follow
+-- its key, and move to them). The other laws of this crate are statements of `world_laws` (`Calm`), of calm scripts with any lines.
 use Rattle.std.specs.Prelude.{◌≡◌, ℕ, ◌≤◌, ◌↔◌, true, List, length, sum_by, is_some, Contains}
 use Rattle.ivy_base.specs.declared.key.Key.{Key}
 use Rattle.ring_model.specs.Blocks.{IsAtLeast}
@@ -17,17 +17,23 @@ use Rattle.world_model.specs.World.{World}
 use Rattle.world_model.specs.RingOf.{lives_in}
 use Rattle.world_laws.specs.Calm.{IsCalmAt, Since, Stopped, post_rank, rank_in}
 
--- What was met is within the limit of a script. So it is before each line that goes on; how much one line meets, as by a snapshot, is bounded by no definition, and stores may be full.
+-- What was met is within the limit of a script. So it is before each line that goes on; how much one line meets, as by a snapshot, is
+-- bounded by no definition, and stores may be full.
 abbrev pub IsWithinLimit : World → Type 0
 IsWithinLimit w = sum_by (λ b. length b) w.met ≤ most_bytes
 
--- Right after a round, be it that of a join, a live node holds something under a key exactly where it is an owner of the key and a live node held something under it
--- before the round.
+-- Right after a round, be it that of a join, a live node holds something under a key exactly where it is an owner of the key and a live
+-- node held something under it before the round.
 abbrev pub RoundMovesBlocks : Type 0
-RoundMovesBlocks = (r : ℕ) (w : Played) (next : World) (since : Since) (lines : List (List ℕ)) (m : Peer) (key : Key) → IsCalmAt r w since lines → IsWithinLimit w.0 → IsRoundOf hss_judged r w.0 next → lives_in next m ≡ true
-    → (is_some (rank_in next key m) ≡ true) ↔ (IsAmong m (owners place r (live_in_order w.0) (number key)) × (p : Peer) × (lives_in w.0 p ≡ true) × (is_some (rank_in w.0 key p) ≡ true))
+RoundMovesBlocks = (r : ℕ) (w : Played) (next : World) (since : Since) (lines : List (List ℕ)) (m : Peer) (key : Key)
+    → IsCalmAt r w since lines → IsWithinLimit w.0 → IsRoundOf hss_judged r w.0 next → lives_in next m ≡ true
+    → (is_some (rank_in next key m) ≡ true) ↔
+    (IsAmong m (owners place r (live_in_order w.0) (number key)) × (p : Peer) × (lives_in w.0 p ≡ true)
+    × (is_some (rank_in w.0 key p) ≡ true))
 
--- While no node has stopped since the ring was made or the last round, each owner of its key holds each post of which a put was acknowledged, or a newer head.
+-- While no node has stopped since the ring was made or the last round, each owner of its key holds each post of which a put was
+-- acknowledged, or a newer head.
 abbrev pub AckedHasCopies : Type 0
-AckedHasCopies = (r : ℕ) (w : Played) (lines : List (List ℕ)) (p : Post) (m : Peer) → IsCalmAt r w (Stopped 0) lines → IsWithinLimit w.0 → Contains w.1.acked p → IsAmong m (owners place r (live_in_order w.0) (number p.key))
+AckedHasCopies = (r : ℕ) (w : Played) (lines : List (List ℕ)) (p : Post) (m : Peer) → IsCalmAt r w (Stopped 0) lines → IsWithinLimit w.0
+    → Contains w.1.acked p → IsAmong m (owners place r (live_in_order w.0) (number p.key))
     → IsAtLeast (post_rank p) (rank_in w.0 p.key m)

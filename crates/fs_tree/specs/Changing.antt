@@ -13,4 +13,5 @@ AreNamesChanged s t = (t.names.ghost_name ≡ s.names.ghost_name) × ((now : Mom
 
 -- and the content of the directory is touched, where its entries change
 abbrev pub IsDirectoryChanged : NamesChange → Kept → NamesChange → Kept → Type 0
-IsDirectoryChanged s k t l = AreNamesChanged s t × (l ≡ (if is_some (touched_by s.names.now s.op.now).first then touched_kept s.moment k else k))
+IsDirectoryChanged s k t l = AreNamesChanged s t
+    × (l ≡ (if is_some (touched_by s.names.now s.op.now).first then touched_kept s.moment k else k))

@@ -30,7 +30,8 @@ content_after (Some i) (o ∷ ops) = content_after (Some (changed o.0 o.1 i)) op
 
 -- An inode that is no directory is what the operations on it make, from nothing. (A directory's times also hang on the names in it.)
 abbrev pub FilesHangOnTheirOwn : Type 0
-FilesHangOnTheirOwn = (ops : List (Moment × Op)) (n : Key) (i : Inode) → inode_at (apply_all empty_tree ops) n ≡ Some i → directory_kind i.kind ≡ false → content_after None (own_of n ops) ≡ Some i
+FilesHangOnTheirOwn = (ops : List (Moment × Op)) (n : Key) (i : Inode) → inode_at (apply_all empty_tree ops) n ≡ Some i
+    → directory_kind i.kind ≡ false → content_after None (own_of n ops) ≡ Some i
 
 -- ---- names
 
@@ -42,4 +43,5 @@ is_of_content _ = false
 
 -- Names, and the kinds of inodes, are what the operations make of them without those that change contents.
 abbrev pub NamesHangOnNames : Type 0
-NamesHangOnNames = (ops : List (Moment × Op)) → bare (apply_all empty_tree ops) ≡ bare (apply_all empty_tree (filter (λ o. not (is_of_content o.1)) ops))
+NamesHangOnNames = (ops : List (Moment × Op))
+    → bare (apply_all empty_tree ops) ≡ bare (apply_all empty_tree (filter (λ o. not (is_of_content o.1)) ops))

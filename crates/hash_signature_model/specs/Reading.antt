@@ -29,11 +29,13 @@ number_at bytes = if nat_lt (length bytes) 4 then Err Malformed else Ok (from_be
 
 -- the one-time types: 3 and 4 are of the profile, 1 and 2 of RFC 8554
 unfoldable pub width_of : ℕ → Result Width LmsFault
-width_of n = if n == 3 then Ok W4 else if n == 4 then Ok W8 else if n == 1 then Err Unsupported else if n == 2 then Err Unsupported else Err Malformed
+width_of n = if n == 3 then Ok W4 else if n == 4 then Ok W8 else if n == 1 then Err Unsupported else if n == 2 then Err Unsupported else Err
+    Malformed
 
 -- the tree types: 5 and 6 are of the profile, 7 to 9 of RFC 8554
 unfoldable pub height_of : ℕ → Result Height LmsFault
-height_of n = if n == 5 then Ok H5 else if n == 6 then Ok H10 else if n == 7 then Err Unsupported else if n == 8 then Err Unsupported else if n == 9 then Err Unsupported else Err Malformed
+height_of n = if n == 5 then Ok H5 else if n == 6 then Ok H10 else if n == 7 then Err Unsupported else if n == 8 then Err Unsupported else
+    if n == 9 then Err Unsupported else Err Malformed
 
 abbrev pub same_width : Width → Width → Bool
 same_width W4 W4 = true

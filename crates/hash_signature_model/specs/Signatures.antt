@@ -36,7 +36,8 @@ pub record IsSignature (set : Set) (s : Signature) : Type 0 where
 
 -- the root that a signature gives (4.6 and 5.4.2)
 abbrev pub root_from : Set → List ℕ → List ℕ → Signature → List ℕ
-root_from set id message s = root_by_path set.h id s.leaf (candidate_key set.w id s.leaf (checked set.w (digest_of id s.leaf s.randomizer message)) s.values) s.path
+root_from set id message s = root_by_path set.h id s.leaf
+    (candidate_key set.w id s.leaf (checked set.w (digest_of id s.leaf s.randomizer message)) s.values) s.path
 
 -- the bytes are a public key and a signature, and the root that the signature gives is the key's (5.4.2)
 pub record Accepts (public message bytes : List ℕ) : Type 0 where

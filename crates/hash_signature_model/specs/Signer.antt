@@ -48,7 +48,9 @@ signed_lower upper leaf set = leaf_signature upper leaf (tree_public (lower_key 
 -- the signature of the message (6.2)
 unfoldable pub signed_by : PrivateKey → List Set → ℕ → List ℕ → List ℕ
 signed_by key [] n message = leaf_signature key (leaf_used key.set [] n) message
-signed_by key (set ∷ lower) n message = signed_lower key (leaf_used key.set (set ∷ lower) n) set ++ signed_by (lower_key key (leaf_used key.set (set ∷ lower) n) set) lower n message
+signed_by key (set ∷ lower) n message =
+    signed_lower key (leaf_used key.set (set ∷ lower) n) set
+    ++ signed_by (lower_key key (leaf_used key.set (set ∷ lower) n) set) lower n message
 
 -- the public key: L, and the top tree's (6.1)
 abbrev pub hss_key_of : List ℕ → List ℕ → List Set → List ℕ
@@ -58,7 +60,8 @@ hss_key_of id seed (set ∷ lower) = word (length lower + 1) ++ tree_public (rec
 -- signature n: L - 1, and what the levels sign (6.2)
 abbrev pub hss_signature_of : List ℕ → List ℕ → List Set → ℕ → List ℕ → List ℕ
 hss_signature_of id seed [] n message = []
-hss_signature_of id seed (set ∷ lower) n message = word (length lower) ++ signed_by (record { set = set; id = id; seed = seed }) lower n message
+hss_signature_of id seed (set ∷ lower) n message =
+    word (length lower) ++ signed_by (record { set = set; id = id; seed = seed }) lower n message
 
 -- a signer's public key
 abbrev pub owner_of : Signer → List ℕ

@@ -8,7 +8,9 @@ use Rattle.hash_signature_model.specs.Signatures.{Accepts}
 -- the message under that key (6.2 and 6.3).
 abbrev pub IsSigned : ℕ → List ℕ → List ℕ → List ℕ → Type 0
 IsSigned zero key message bytes = Accepts key message bytes
-IsSigned (suc between) key message bytes = (upper : List ℕ) × (next : List ℕ) × (rest : List ℕ) × (bytes ≡ upper ++ next ++ rest) × Accepts key next upper × IsSigned between next message rest
+IsSigned (suc between) key message bytes =
+    (upper : List ℕ) × (next : List ℕ) × (rest : List ℕ) × (bytes ≡ upper ++ next ++ rest) × Accepts key next upper
+    × IsSigned between next message rest
 
 -- The key is L and the top LMS public key, and the signature is L - 1 and a signature under that key with L - 1 keys
 -- between (6.1 to 6.3). In this profile L is 1 to 3.

@@ -21,6 +21,7 @@ pub record LowerPlace : Type 0 where
 
 -- two signatures that use one leaf of a level above others begin with the same signed key there
 abbrev pub UpperLeafSignsOneKey : Type 0
-UpperLeafSignsOneKey = (key : PrivateKey) (set : Set) (lower : List Set) (n m : ℕ) (first second : List ℕ) → leaf_used key.set (set ∷ lower) n ≡ leaf_used key.set (set ∷ lower) m
+UpperLeafSignsOneKey = (key : PrivateKey) (set : Set) (lower : List Set) (n m : ℕ) (first second : List ℕ)
+    → leaf_used key.set (set ∷ lower) n ≡ leaf_used key.set (set ∷ lower) m
     → (rest other : List ℕ) × (signed_by key (set ∷ lower) n first ≡ signed_lower key (leaf_used key.set (set ∷ lower) n) set ++ rest)
     × (signed_by key (set ∷ lower) m second ≡ signed_lower key (leaf_used key.set (set ∷ lower) n) set ++ other)

@@ -42,7 +42,8 @@ at_most_two (set ∷ lower) le = mul-le (leaves set.h) (capacity lower) 1024 102
 pub at_most_three : (sets : List Set) → length sets ≤ 3 → capacity sets ≤ 1073741824
 unfolding capacity
 at_most_three [] le = omega arith
-at_most_three (set ∷ lower) le = mul-le (leaves set.h) (capacity lower) 1024 1048576 (few_leaves set.h) (at_most_two lower (omega (arith, le)))
+at_most_three (set ∷ lower) le = mul-le (leaves set.h) (capacity lower) 1024 1048576 (few_leaves set.h)
+    (at_most_two lower (omega (arith, le)))
 
 -- ---- each part reads one way
 
@@ -95,11 +96,14 @@ fits_parts : (signer : Signer) → IsSigner signer → AreParts (((signer.id, si
 fits_parts signer f = (((f.id, f.seed), f.sets), omega (arith, f.made, at_most_three signer.sets f.sets.few))
 
 -- nothing is behind
-pub all_of : (bytes : List ℕ) (signer : Signer) → IsSigner signer → bytes ≡ saved_bytes signer → IsFront AreParts parts_bytes bytes (((signer.id, signer.seed), signer.sets), signer.made) []
+pub all_of : (bytes : List ℕ) (signer : Signer) → IsSigner signer → bytes ≡ saved_bytes signer
+    → IsFront AreParts parts_bytes bytes (((signer.id, signer.seed), signer.sets), signer.made) []
 all_of bytes signer f e = record { fits = fits_parts signer f; spelled = e ∙ sym (append-nil (saved_bytes signer)) }
 
 pub signers_told_apart : SavedOnce
 signers_told_apart a b f g e =
     let h = all_of (saved_bytes a) a f refl in
     let k = all_of (saved_bytes a) b g e in
-    ap (λ (p : ((List ℕ × List ℕ) × List Set) × ℕ). signer_of p) (one_parts.one (((a.id, a.seed), a.sets), a.made) (((b.id, b.seed), b.sets), b.made) [] [] h.fits k.fits (sym h.spelled ∙ k.spelled)).0
+    ap (λ (p : ((List ℕ × List ℕ) × List Set) × ℕ). signer_of p)
+    (one_parts.one (((a.id, a.seed), a.sets), a.made) (((b.id, b.seed), b.sets), b.made) [] [] h.fits k.fits
+    (sym h.spelled ∙ k.spelled)).0

@@ -1,5 +1,6 @@
 -- An inode with the places of it that are stored, and what operations make of the two.
-use Rattle.std.specs.Prelude.{ℕ, ◌+◌, ◌-◌, Bool, true, false, List, ◌++◌, length, take, drop, replicate, Option, Some, None, option_map, if◌then◌else◌}
+use Rattle.std.specs.Prelude.{ℕ, ◌+◌, ◌-◌, Bool, true, false, List, ◌++◌, length, take, drop, replicate, Option, Some, None, option_map}
+use Rattle.std.specs.Prelude.{if◌then◌else◌}
 use Rattle.ivy_base.specs.declared.operation.Moment.{Moment}
 use Rattle.ivy_base.specs.declared.operation.Op.{Op}
 use Rattle.ivy_base.specs.declared.operation.Op.TheVariants as op
@@ -15,7 +16,8 @@ pub record Kept : Type 0 where
 
 -- so many places written from the offset on, a gap left unwritten
 abbrev pub places_written : ℕ → ℕ → List Bool → List Bool
-places_written offset n places = take offset places ++ replicate (offset - length places) false ++ replicate n true ++ drop (offset + n) places
+places_written offset n places = take offset places ++ replicate (offset - length places) false ++ replicate n true
+    ++ drop (offset + n) places
 
 -- the places below that size, unwritten where there were none; all where no size is given
 abbrev pub places_below : Option ℕ → List Bool → List Bool

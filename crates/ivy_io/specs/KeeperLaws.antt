@@ -3,16 +3,19 @@ use Rattle.std.proofs.Common.{◌≡◌, ◌⊎◌, ℕ, Bool, true, false, List
 use Rattle.ivy_io.specs.Causes.{counted}
 use Rattle.ivy_io.specs.Keepers.{KeeperState, KeepsAfter, after_planned, after_save, after_try, fails_next, planned_next}
 
-planned_counts : (plan : Option Bool) (k : KeeperState) (bytes : List ℕ) → (after_planned plan k bytes).faults ≡ after_try (is_some plan) k.faults
+planned_counts : (plan : Option Bool) (k : KeeperState) (bytes : List ℕ)
+    → (after_planned plan k bytes).faults ≡ after_try (is_some plan) k.faults
 planned_counts None k bytes = refl
 planned_counts (Some new) k bytes = refl
 
-planned_keeps : (plan : Option Bool) (k : KeeperState) (bytes : List ℕ) → KeepsAfter (Some k.kept) bytes (is_some plan) (Some (after_planned plan k bytes).kept)
+planned_keeps : (plan : Option Bool) (k : KeeperState) (bytes : List ℕ)
+    → KeepsAfter (Some k.kept) bytes (is_some plan) (Some (after_planned plan k bytes).kept)
 planned_keeps None k bytes = refl
 planned_keeps (Some true) k bytes = inl refl
 planned_keeps (Some false) k bytes = inr refl
 
-module _ (before after : KeeperState) (bytes : List ℕ) (fails : Bool) (saved : (fails ≡ fails_next before) × (after ≡ after_save before bytes)) where
+module _ (before after : KeeperState) (bytes : List ℕ) (fails : Bool)
+    (saved : (fails ≡ fails_next before) × (after ≡ after_save before bytes)) where
   pub memory_counts : after.faults ≡ after_try fails before.faults
   memory_counts = rw (saved.0, saved.1) (planned_counts (planned_next before) before bytes)
 

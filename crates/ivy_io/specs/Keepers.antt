@@ -1,5 +1,6 @@
 -- Keepers: what is kept, and which saves fail.
-use Rattle.std.specs.Prelude.{◌≡◌, ◌⊎◌, ◌+◌, ◌==◌, ℕ, Bool, true, false, List, [], ◌∷◌, find, MatchResult, Result, Ok, Err, Some, None, is_some, if◌then◌else◌}
+use Rattle.std.specs.Prelude.{◌≡◌, ◌⊎◌, ◌+◌, ◌==◌, ℕ, Bool, true, false, List, [], ◌∷◌, find, MatchResult, Result, Ok, Err, Some, None}
+use Rattle.std.specs.Prelude.{is_some, if◌then◌else◌}
 use Rattle.std.specs.Option.{option_map, option_map_or}
 use Rattle.std.specs.declared.option.Option.{Option}
 use Rattle.ivy_io.specs.Causes.{counted}
@@ -16,7 +17,8 @@ SaveIs leaves new result = MatchResult result (λ _. leaves false new) (λ _. le
 -- where it is known what is kept: the new bytes are, or, after a fault, the old ones may be
 abbrev pub SaveReplaces : {E : Type 0} → Option (Option (List ℕ)) → Option (Option (List ℕ)) → List ℕ → Result Unit E → Type 0
 SaveReplaces None new bytes result = new ≡ None
-SaveReplaces (Some old) new bytes result = MatchResult result (λ _. new ≡ Some (Some bytes)) (λ _. (new ≡ Some (Some bytes)) ⊎ (new ≡ Some old))
+SaveReplaces (Some old) new bytes result =
+    MatchResult result (λ _. new ≡ Some (Some bytes)) (λ _. (new ≡ Some (Some bytes)) ⊎ (new ≡ Some old))
 
 -- the count rises exactly where the save fails
 abbrev pub SaveCounts : {E : Type 0} → ℕ → ℕ → Result Unit E → Type 0
@@ -50,8 +52,8 @@ LoadCounts old new _ = new ≡ old
 
 -- ---- keepers in memory
 
--- What a keeper in memory keeps; how many saves there were (a count that reached 2^64 - 1 stays there); which of them fail, by their numbers, and whether each of
--- these leaves the new bytes, the newest plan first; and how many have failed.
+-- What a keeper in memory keeps; how many saves there were (a count that reached 2^64 - 1 stays there); which of them fail, by their
+-- numbers, and whether each of these leaves the new bytes, the newest plan first; and how many have failed.
 pub record KeeperState : Type 0 where
   pub kept : Option (List ℕ)
   pub saves : ℕ
@@ -75,7 +77,8 @@ fails_next k = is_some (planned_next k)
 -- the keeper after a save, by what was planned for it
 abbrev pub after_planned : Option Bool → KeeperState → List ℕ → KeeperState
 after_planned None k bytes = record { kept = Some bytes; saves = counted k.saves; failing = k.failing; faults = k.faults }
-after_planned (Some new) k bytes = record { kept = (if new then Some bytes else k.kept); saves = counted k.saves; failing = k.failing; faults = counted k.faults }
+after_planned (Some new) k bytes =
+    record { kept = (if new then Some bytes else k.kept); saves = counted k.saves; failing = k.failing; faults = counted k.faults }
 
 abbrev pub after_save : KeeperState → List ℕ → KeeperState
 after_save k bytes = after_planned (planned_next k) k bytes

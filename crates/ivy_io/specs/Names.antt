@@ -30,11 +30,13 @@ kept_under name places = option_and_then (λ keeper. keeper.kept) (lying name pl
 -- the places, where this lies at the name, if the name has a place
 abbrev pub laid : List ℕ → Option KeeperState → List Place → List Place
 laid name keeper [] = []
-laid name keeper (place ∷ places) = if is_at name place then record { name = place.name; keeper = keeper } ∷ places else place ∷ laid name keeper places
+laid name keeper (place ∷ places) =
+    if is_at name place then record { name = place.name; keeper = keeper } ∷ places else place ∷ laid name keeper places
 
 -- the places after the keeper of the name was given: from then on the name has one, and nothing lies there
 abbrev pub given : List ℕ → List Place → List Place
-given name places = if is_some (find (is_at name) places) then laid name None places else places ++ record { name = name; keeper = None } ∷ []
+given name places = if is_some (find (is_at name) places) then laid name None places else places
+    ++ record { name = name; keeper = None } ∷ []
 
 -- The places; which calls of `keeper` fail, by their numbers; how many there were, and how often a call failed or a keeper came
 -- back that had failed (counts that reached 2^64 - 1 stay there).

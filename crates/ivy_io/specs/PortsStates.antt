@@ -25,7 +25,11 @@ listening port p = record p { calls = counted p.calls; port = Some port }
 
 -- after a link was given, or none was left
 abbrev pub after_accept : PortsState → PortsState
-after_accept p = record p { calls = counted p.calls; links = after_next p.links; ends = (if is_none (next_link p.links) then counted p.ends else p.ends) }
+after_accept p = record p {
+  calls = counted p.calls;
+  links = after_next p.links;
+  ends = (if is_none (next_link p.links) then counted p.ends else p.ends);
+}
 
 abbrev pub with_returned : SourceState × SinkState → PortsState → PortsState
 with_returned link p = record p { links = taken_back link p.links }

@@ -29,8 +29,10 @@ RunsFully script = HasOneFullRun beginning 1 (script_lines script)
 
 -- memory was always there in the run, which so is that one; or it comes to a line where memory was wanting for a call, or names clash
 abbrev pub IsFullOrTells : List ℕ → Ran → Type 0
-IsFullOrTells script ran = HasMemoryAlong beginning 1 (script_lines script) ran ⊎ RunComesTo LacksOrClashes beginning 1 (script_lines script) ran
+IsFullOrTells script ran = HasMemoryAlong beginning 1 (script_lines script) ran
+    ⊎ RunComesTo LacksOrClashes beginning 1 (script_lines script) ran
 
 -- The status and what was written are those of such a run; or memory was wanting to the player.
 abbrev pub IsPlayed : List ℕ → ℕ → Option (List ℕ) → Option (List ℕ) → Type 0
-IsPlayed script status held holds = ((ran : Ran) × IsFullOrTells script ran × (status ≡ status_of ran.ending) × (holds ≡ then held ran.text)) ⊎ (status ≡ 6)
+IsPlayed script status held holds =
+    ((ran : Ran) × IsFullOrTells script ran × (status ≡ status_of ran.ending) × (holds ≡ then held ran.text)) ⊎ (status ≡ 6)

@@ -21,9 +21,10 @@ pub type Status = u8;
 
 /// Plays the script of a source, and writes what its lines show to a sink.
 ///
-/// The script is the first 2^40 bytes of the source. Each line is obeyed as it is read, and what it shows is
-/// written before the next line is looked at. A line that is refused shows `refused N`, with its number from 1. A
-/// line that meets a limit shows `limit N`. Either ends the run. What follows the line `end` is not looked at.
+/// The script is the first 2^40 bytes of the source. Lines are obeyed in their order, and what they show is written
+/// in that order: where a read fails, all that the whole lines before it show has been written (`waits` below). A
+/// line that is refused shows `refused N`, with its number from 1. A line that meets a limit shows `limit N`. Either
+/// ends the run. What follows the line `end` is not obeyed.
 ///
 /// A run is defined line by line, by the step of `world_model` together with what is promised of each line
 /// (`PromisedStep` of `stage_laws`). Three things are promised.

@@ -1,5 +1,6 @@
 -- A link on its way: the messages of a stream, and what was written for them.
-use Rattle.std.specs.Prelude.{◌≡◌, ◌≢◌, ◌<◌, ◌≤◌, ℕ, Bool, true, false, List, [], ◌++◌, length, take, Option, Some, None, Result, Ok, Err, IsErrOf, OnErr, OnOk}
+use Rattle.std.specs.Prelude.{◌≡◌, ◌≢◌, ◌<◌, ◌≤◌, ℕ, Bool, true, false, List, [], ◌++◌, length, take, Option, Some, None, Result, Ok, Err}
+use Rattle.std.specs.Prelude.{IsErrOf, OnErr, OnOk}
 use Rattle.ivy_io.specs.Causes.{Rose}
 use Rattle.ivy_io.specs.Known.{IsAtEnd, onto, then}
 use Rattle.ivy_io.specs.declared.fault.SinkFault.{SinkFault}

@@ -54,7 +54,8 @@ pub record Base (K S : Type 0) : Type 0 where
 
 -- A link that is to be served over that base: with a pass of one part that came of the first one and made no call, and with a clock of
 -- its own.
-pub record IsFresh {K S Q W C : Type 0} (moment : C → Option (ℕ × ℕ)) (base : Base K S) (first : Pass K S) (job : Job K S Q W C) : Type 0 where
+pub record IsFresh {K S Q W C : Type 0} (moment : C → Option (ℕ × ℕ)) (base : Base K S) (first : Pass K S)
+    (job : Job K S Q W C) : Type 0 where
   pub gate : job.gate ≡ base.gate
   pub ring : job.ring ≡ base.ring
   pub clock : moment job.link.clock ≡ base.moment

@@ -22,5 +22,6 @@ pub record IsAdmitted (given : Call) (caller : Caller) : Type 0 where
 pub data IsRefused (given : Call) : ReplyHead → Type 0 where
   no_program : procedures_of given.program ≡ None → IsRefused given ProgUnavail
   no_version : (count : ℕ) → procedures_of given.program ≡ Some count → given.version ≢ 3 → IsRefused given (ProgMismatch 3 3)
-  no_procedure : (count : ℕ) → procedures_of given.program ≡ Some count → given.version ≡ 3 → count ≤ given.procedure → IsRefused given ProcUnavail
+  no_procedure : (count : ℕ) → procedures_of given.program ≡ Some count → given.version ≡ 3 → count ≤ given.procedure
+      → IsRefused given ProcUnavail
   no_caller : IsHere given → given.caller ≡ None → IsRefused given BadCred

@@ -41,21 +41,25 @@ TellsMiss old new c miss notes told = ((told ≡ missing c miss) × (new ≡ rec
 
 -- its agent's turn is wanted with what was brought, or the refresh failed
 abbrev pub ConcludesAs : {J : Type 0} → SessionState J → SessionState J → Call → Refreshed → Next → Type 0
-ConcludesAs old new c given (next.Turn refresh) = (given.result ≡ Ok refresh) × (new ≡ record old { notes = given.notes; stage = stage.Turning c })
+ConcludesAs old new c given (next.Turn refresh) =
+    (given.result ≡ Ok refresh) × (new ≡ record old { notes = given.notes; stage = stage.Turning c })
 ConcludesAs old new c given (next.Done told) = (miss : Miss) × (given.result ≡ Err miss) × TellsMiss old new c miss given.notes told
 ConcludesAs old new c given _ = ⊥
 
 -- it is told why its refresh failed; or that memory is wanting, and nothing is noted
 abbrev pub EndsAs : {J : Type 0} → Judges J → SessionState J → SessionState J → Call → RefreshState J → Served → Type 0
 EndsAs judges old new c r told =
-    ((told ≡ lacking c) × (new ≡ old)) ⊎ ((miss : Miss) × (notes : List Noted) × IsFailure judges r (miss, notes) × (told ≡ missing c miss) × (new ≡ record old { notes = notes }))
+    ((told ≡ lacking c) × (new ≡ old))
+    ⊎ ((miss : Miss) × (notes : List Noted) × IsFailure judges r (miss, notes) × (told ≡ missing c miss)
+    × (new ≡ record old { notes = notes }))
 
 -- the answer was heard by what publishes
 abbrev pub PutHears : PublishingState → PublishingState → Result Answer Memory → Result (Unit {0}) Memory → Type 0
 PutHears old new given (Ok done) = (answer : Answer) × (given ≡ Ok answer) × PublishingHasHeard old new answer
 PutHears old new given (Err lacks) = Unit {0}
 
--- the refresh is for that standing, by the same judge, from as many owners and the same nodes on, waits for no node yet, and asks only so much
+-- the refresh is for that standing, by the same judge, from as many owners and the same nodes on, waits for no node yet, and asks only so
+-- much
 pub record IsRefreshFor {J : Type 0} (judges : Judges J) (st : SessionState J) (standing : Standing) (r : RefreshState J) : Type 0 where
   pub judge : r.judge ≡ st.judge
   pub replicas : r.replicas ≡ st.replicas

@@ -65,12 +65,14 @@ PutHeard _ now given result = ⊥
 
 -- the refresh takes what is at hand, and says what it wants then
 abbrev pub RefreshWants : {J : Type 0} → Judges J → Stage J → Stage J → Cache → Cache → Result (Want Refreshed) Memory → Type 0
-RefreshWants {J} judges (stage.Refreshing c r) now before after result = (q : RefreshState J) × (now ≡ stage.Refreshing c q) × Advances judges r q before after result
+RefreshWants {J} judges (stage.Refreshing c r) now before after result =
+    (q : RefreshState J) × (now ≡ stage.Refreshing c q) × Advances judges r q before after result
 RefreshWants judges _ now before after result = ⊥
 
 -- the refresh hears an answer
 abbrev pub RefreshHeard : {J : Type 0} → Judges J → Stage J → Stage J → Cache → Cache → Result Answer Memory → Result Bool Memory → Type 0
-RefreshHeard {J} judges (stage.Refreshing c r) now before after given result = (q : RefreshState J) × (now ≡ stage.Refreshing c q) × RefreshHears judges r q before after given result
+RefreshHeard {J} judges (stage.Refreshing c r) now before after given result =
+    (q : RefreshState J) × (now ≡ stage.Refreshing c q) × RefreshHears judges r q before after given result
 RefreshHeard judges _ now before after given result = ⊥
 
 -- the refresh says why it failed
@@ -85,4 +87,6 @@ TellsWhy old new c (Some why) told = TellsMiss old new c why.0 why.1 told
 
 -- its refresh has failed, and it is over: it is told why
 abbrev pub EndsRefresh : {J : Type 0} → Judges J → SessionState J → SessionState J → Type 0
-EndsRefresh {J} judges old new = ((c : Call) (r : RefreshState J) → old.stage ≡ stage.Refreshing c r → (mid : SessionState J) × (told : Served) × EndsAs judges (record old { stage = stage.Told }) mid c r told × (new ≡ record mid { stage = stage.Over told }))
+EndsRefresh {J} judges old new = ((c : Call) (r : RefreshState J) → old.stage ≡ stage.Refreshing c r
+    → (mid : SessionState J) × (told : Served) × EndsAs judges (record old { stage = stage.Told }) mid c r told
+    × (new ≡ record mid { stage = stage.Over told }))

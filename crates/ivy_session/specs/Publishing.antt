@@ -1,5 +1,6 @@
 -- Posts that are put one after the other.
-use Rattle.std.specs.Prelude.{◌≡◌, ◌≢◌, ◌⊎◌, ℕ, ◌+◌, ◌*◌, ◌^◌, ◌≤◌, Bool, true, false, not, List, [], ◌∷◌, ◌++◌, length, filter, Option, Some, None, Result, if◌then◌else◌}
+use Rattle.std.specs.Prelude.{◌≡◌, ◌≢◌, ◌⊎◌, ℕ, ◌+◌, ◌*◌, ◌^◌, ◌≤◌, Bool, true, false, not, List, [], ◌∷◌, ◌++◌, length, filter, Option}
+use Rattle.std.specs.Prelude.{Some, None, Result, if◌then◌else◌}
 use Rattle.dht_ids.specs.Asked.{told}
 use Rattle.dht_ids.specs.declared.ask.Answer.{Answer}
 use Rattle.dht_ids.specs.declared.ask.Ask.{Ask}
@@ -17,8 +18,8 @@ use Rattle.agent_model.specs.Agent.{is_head}
 use Rattle.session_model.specs.Sessions.{Said, Stage, Publishing, IsPutOfPost, in_publishing_order, is_log, after_put, acknowledged}
 use Rattle.ivy_session.specs.Putting.{Putting, PuttingIsAfter, IsSamePutting, post_of}
 
--- posts that are put: with how many answers each put is content, at which nodes it begins its look-up, the put on its way, the posts behind it in their order, and
--- the acknowledgements so far
+-- posts that are put: with how many answers each put is content, at which nodes it begins its look-up, the put on its way, the posts behind
+-- it in their order, and the acknowledgements so far
 pub record PublishingState : Type 0 where
   pub replicas : ℕ
   pub entries : List Peer
@@ -66,45 +67,54 @@ publishing_awaited s = awaited_in s.put
 
 -- ---- what is heard
 
--- These are the asks of the put on its way, the last of which was heard now: the put goes on, and a node is to be heard again; or it is over, and the session is in the stage after it.
+-- These are the asks of the put on its way, the last of which was heard now: the put goes on, and a node is to be heard again; or it is
+-- over, and the session is in the stage after it.
 pub data PutHears (said : Option Said) (asks : List Heard) (old new : PublishingState) : Type 0 where
   puts_on : stage_of said new ≡ stage_of said old → PublishingIsAfter asks new → publishing_awaited new ≢ None → PutHears said asks old new
-  puts : (p : Post) (posts : List Post) (came : Result Bool Miss) → stage_of said old ≡ Publishing said (p ∷ posts) old.acks → IsPutOfPost old.replicas old.entries p asks came
-      → stage_of said new ≡ after_put said p posts old.acks (acknowledged came) → PublishingIsAfter [] new → publishing_awaited new ≡ None → PutHears said asks old new
+  puts : (p : Post) (posts : List Post) (came : Result Bool Miss) → stage_of said old ≡ Publishing said (p ∷ posts) old.acks
+      → IsPutOfPost old.replicas old.entries p asks came
+      → stage_of said new ≡ after_put said p posts old.acks (acknowledged came) → PublishingIsAfter [] new → publishing_awaited new ≡ None
+      → PutHears said asks old new
 
 -- the node that was to be heard was heard: its ask and answer are the next of the trail of the put on its way
 abbrev pub PublishingHasHeard : PublishingState → PublishingState → Answer → Type 0
 PublishingHasHeard old new given =
     IsSameWay old new
-    × ((said : Option Said) (trail : List Heard) (node : Peer) (question : Ask) → publishing_awaited old ≡ Some (node, question) → PublishingIsAfter trail old
+    × ((said : Option Said) (trail : List Heard) (node : Peer) (question : Ask) → publishing_awaited old ≡ Some (node, question)
+    → PublishingIsAfter trail old
     → PutHears said (trail ++ told node question given) old new)
 
 -- ---- what is wanted
 
 -- the stage is the same, and the trail of the put on its way
 abbrev pub IsSameStage : PublishingState → PublishingState → Type 0
-IsSameStage old new = ((said : Option Said) → stage_of said new ≡ stage_of said old) × ((trail : List Heard) → PublishingIsAfter trail old → PublishingIsAfter trail new)
+IsSameStage old new = ((said : Option Said) → stage_of said new ≡ stage_of said old)
+    × ((trail : List Heard) → PublishingIsAfter trail old → PublishingIsAfter trail new)
 
 -- Puts that are over with no ask, since no node is known: from a stage to that after them. Each is of the first post that is left.
 pub data Passes (r : ℕ) : Stage → Stage → Type 0 where
   none : {stage : Stage} → Passes r stage stage
-  over : {said : Option Said} {p : Post} {posts : List Post} {acks : List Ack} {end : Stage} (came : Result Bool Miss) → IsPutOfPost r [] p [] came
+  over : {said : Option Said} {p : Post} {posts : List Post} {acks : List Ack} {end : Stage} (came : Result Bool Miss)
+      → IsPutOfPost r [] p [] came
       → Passes r (after_put said p posts acks (acknowledged came)) end → Passes r (Publishing said (p ∷ posts) acks) end
 
 -- no node is known, and nothing was asked: puts are over with no ask
 abbrev pub GoesOn : PublishingState → PublishingState → Type 0
-GoesOn old new = (old.entries ≡ []) × ((trail : List Heard) → PublishingIsAfter trail old → trail ≡ []) × PublishingIsAfter [] new × ((said : Option Said) → Passes old.replicas (stage_of said old) (stage_of said new))
+GoesOn old new = (old.entries ≡ []) × ((trail : List Heard) → PublishingIsAfter trail old → trail ≡ []) × PublishingIsAfter [] new
+    × ((said : Option Said) → Passes old.replicas (stage_of said old) (stage_of said new))
 
 -- a post is left, which is the first
 abbrev pub HasFirst : PublishingState → Type 0
 HasFirst s = (p : Post) × (posts : List Post) × ((said : Option Said) → stage_of said s ≡ Publishing said (p ∷ posts) s.acks)
 
--- What is wanted: to ask a node, which is then to be heard, for the first post that is left; or nothing more, since all posts were put and these were acknowledged. Where a node is known, no
--- put was over meanwhile.
+-- What is wanted: to ask a node, which is then to be heard, for the first post that is left; or nothing more, since all posts were put and
+-- these were acknowledged. Where a node is known, no put was over meanwhile.
 abbrev pub PublishingIsWanted : PublishingState → PublishingState → Want (List Ack) → Type 0
-PublishingIsWanted old new (want.Ask node question) = IsSameWay old new × (publishing_awaited new ≡ Some (node, question)) × HasFirst new × (IsSameStage old new ⊎ GoesOn old new)
+PublishingIsWanted old new (want.Ask node question) =
+    IsSameWay old new × (publishing_awaited new ≡ Some (node, question)) × HasFirst new × (IsSameStage old new ⊎ GoesOn old new)
 PublishingIsWanted old new (want.Done acks) = (said : Option Said) (trail : List Heard) → PublishingIsAfter trail old
-    → (trail ≡ []) × ((stage_of said old ≡ Publishing said [] acks) ⊎ ((old.entries ≡ []) × Passes old.replicas (stage_of said old) (Publishing said [] acks)))
+    → (trail ≡ []) × ((stage_of said old ≡ Publishing said [] acks)
+    ⊎ ((old.entries ≡ []) × Passes old.replicas (stage_of said old) (Publishing said [] acks)))
 
 -- ---- how many asks are left
 
@@ -156,7 +166,8 @@ pub record PutAsks (old : Putting) (before now : PublishingState) : Type 0 where
 pub record PutIsOver (old : Putting) (before now : PublishingState) : Type 0 where
   pub came : Result Bool Miss
   pub now_is : now ≡ concluded old.kind old.ack (acknowledged came) before
-  pub whole : (r : ℕ) (entries : List Peer) (trail : List Heard) → PuttingIsAfter r entries trail old → IsPutOfPost r entries (post_of old) trail came
+  pub whole : (r : ℕ) (entries : List Peer) (trail : List Heard) → PuttingIsAfter r entries trail old
+      → IsPutOfPost r entries (post_of old) trail came
 
 abbrev pub PutGoesOn : Putting → PublishingState → PublishingState → Type 0
 PutGoesOn old before now = PutAsks old before now ⊎ PutIsOver old before now

@@ -43,11 +43,13 @@ abbrev pub PuttingIsWanted : Putting → Putting → Want (Result Bool Miss) →
 PuttingIsWanted old new (want.Ask node question) =
     IsSamePutting old new × (put_awaited new.put ≡ Some (node, question))
     × ((r : ℕ) (entries : List Peer) (trail : List Heard) → PuttingIsAfter r entries trail old → PuttingIsAfter r entries trail new)
-PuttingIsWanted old new (want.Done came) = (r : ℕ) (entries : List Peer) (trail : List Heard) → PuttingIsAfter r entries trail old → IsPutOfPost r entries (post_of old) trail came
+PuttingIsWanted old new (want.Done came) =
+    (r : ℕ) (entries : List Peer) (trail : List Heard) → PuttingIsAfter r entries trail old → IsPutOfPost r entries (post_of old) trail came
 
 -- the node that was to be heard was heard: its ask and answer are the next of the trail
 abbrev pub PuttingHasHeard : Putting → Putting → Answer → Type 0
 PuttingHasHeard old new given =
     IsSamePutting old new
-    × ((r : ℕ) (entries : List Peer) (trail : List Heard) (node : Peer) (question : Ask) → put_awaited old.put ≡ Some (node, question) → PuttingIsAfter r entries trail old
+    × ((r : ℕ) (entries : List Peer) (trail : List Heard) (node : Peer) (question : Ask) → put_awaited old.put ≡ Some (node, question)
+    → PuttingIsAfter r entries trail old
     → PuttingIsAfter r entries (trail ++ told node question given) new)

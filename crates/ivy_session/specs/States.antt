@@ -23,8 +23,8 @@ use Rattle.ivy_session.specs.declared.session.Stage.TheVariants as stage
 use Rattle.ivy_session.specs.declared.served.Served.{Served}
 use Rattle.ivy_session.specs.declared.served.Served.TheVariants as served
 
--- by which judge, from how many owners and at which nodes it asks; how often it began anew, what is noted, whether its publishing ended before
--- all puts were made, and how far it has come
+-- by which judge, from how many owners and at which nodes it asks; how often it began anew, what is noted, whether its publishing ended
+-- before all puts were made, and how far it has come
 pub record SessionState (J : Type 0) : Type 0 where
   pub judge : J
   pub replicas : ℕ
@@ -149,7 +149,15 @@ module _ {J : Type 0} (judges : Judges J) (s : Session) (st : SessionState J) wh
 
 -- that far, it has just begun
 abbrev pub begun : {J : Type 0} → J → ℕ → List Peer → Stage J → SessionState J
-begun judge replicas entries at = record { judge = judge; replicas = replicas; entries = entries; starts = 0; notes = []; is_cut = false; stage = at }
+begun judge replicas entries at = record {
+  judge = judge;
+  replicas = replicas;
+  entries = entries;
+  starts = 0;
+  notes = [];
+  is_cut = false;
+  stage = at;
+}
 
 -- whosever it is, it begins as a session of the definitions does
 abbrev pub BeginsAs : {J : Type 0} → Judges J → List ℕ → Standing → SessionState J → Type 0

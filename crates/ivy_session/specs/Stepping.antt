@@ -22,7 +22,8 @@ use Rattle.session_model.specs.Asking.{AsksNext}
 use Rattle.session_model.specs.Brought.{Want}
 use Rattle.session_model.specs.Refreshing.{Note}
 use Rattle.session_model.specs.Replies.{Asks, missed_reply, said_no_memory, said_of}
-use Rattle.session_model.specs.Sessions.{Said, Session, Cache, Publishing, Over, Hears, IsGet, IsPut, TakesAll, TakesSome, Wants, put_question, wanted_key}
+use Rattle.session_model.specs.Sessions.{Said, Session, Cache, Publishing, Over, Hears, IsGet, IsPut, TakesAll, TakesSome, Wants}
+use Rattle.session_model.specs.Sessions.{put_question, wanted_key}
 use Rattle.session_model.specs.Courses.{Fails, HasRefreshed, LacksMemory, anew, answered, ended}
 use Rattle.log_fetch.specs.declared.refresh.Refresh.{Refresh}
 use Rattle.log_fetch.specs.declared.turned.Turned.{Turned}
@@ -44,7 +45,8 @@ IsSameSession old new = (new.judge ≡ old.judge) × (new.replicas ≡ old.repli
 module _ (judged : Key → List ℕ → Option Judged) (replicas : ℕ) (s : Session) (node : Peer) (question : Ask) where
   -- The session asks that node next: for what its refresh wants, or for the first post that it has still to put.
   pub data AsksOf : Type 0 where
-    gets : (want : Want) → Wants judged replicas s want → AsksNext (wanted_key want) (ask.Get (wanted_key want)) (IsGet judged replicas s.entries want) s.current node question → AsksOf
+    gets : (want : Want) → Wants judged replicas s want
+        → AsksNext (wanted_key want) (ask.Get (wanted_key want)) (IsGet judged replicas s.entries want) s.current node question → AsksOf
     puts : (said : Option Said) (p : Post) (posts : List Post) (acks : List Ack) → s.stage ≡ Publishing said (p ∷ posts) acks
         → AsksNext p.key (put_question p) (IsPut judged replicas s p) s.current node question → AsksOf
 
@@ -67,34 +69,47 @@ module _ {J : Type 0} (judges : Judges J) (old new : SessionState J) (s : Sessio
   -- What is wanted next, of a session of these definitions and its participant's cache.
   pub data NextIs (before after : Cache) : Next → Type 0 where
     asks : (t : Session) (node : Peer) (question : Ask) → TakesAll (judges old.judge) old.replicas s before t after → IsSession judges t new
-        → session_awaited new ≡ Some (node, question) → AsksOf (judges old.judge) old.replicas t node question → NextIs before after (next.Ask node question)
-    asks_again : (node : Peer) (question : Ask) → session_awaited old ≢ None → session_awaited new ≡ Some (node, question) → IsSession judges s new
+        → session_awaited new ≡ Some (node, question) → AsksOf (judges old.judge) old.replicas t node question
+        → NextIs before after (next.Ask node question)
+    asks_again : (node : Peer) (question : Ask) → session_awaited old ≢ None → session_awaited new ≡ Some (node, question)
+        → IsSession judges s new
         → AsksOf (judges old.judge) old.replicas s node question → after ≡ before → NextIs before after (next.Ask node question)
-    turns : (t : Session) (notes : List Note) (refresh : Refresh) → TakesAll (judges old.judge) old.replicas s before t after → IsSession judges t new
-        → is_turning new.stage ≡ true → HasRefreshed t notes (refresh_of refresh) → IsBatchOf t.standing refresh.batch → NextIs before after (next.Turn refresh)
+    turns : (t : Session) (notes : List Note) (refresh : Refresh) → TakesAll (judges old.judge) old.replicas s before t after
+        → IsSession judges t new
+        → is_turning new.stage ≡ true → HasRefreshed t notes (refresh_of refresh) → IsBatchOf t.standing refresh.batch
+        → NextIs before after (next.Turn refresh)
     settles : (said : Option Said) (acks : List Ack)
         → (s.stage ≡ Publishing said [] acks) ⊎ ((s.entries ≡ []) × Passes old.replicas s.stage (Publishing said [] acks)) → s.current ≡ []
         → after ≡ before → IsSession judges (record s { stage = Over said }) new → NextIs before after (next.Settle acks)
-    is_over : (said : Option Said) → s.stage ≡ Over said → after ≡ before → new.notes ≡ notes_of s.notes s.missed → NextIs before after (next.Done (served_of said))
-    lacks_memory : (t u : Session) (said : Said) → TakesSome (judges old.judge) old.replicas s before t after → LacksMemory t u → u.stage ≡ Over (Some said) → new.notes ≡ notes_of u.notes u.missed
-        → NextIs before after (next.Done (served_of (Some said)))
-    is_cut : (said : Option Said) (posts : List Post) (acks : List Ack) → s.stage ≡ Publishing said posts acks → new.is_cut ≡ true → new.notes ≡ notes_of s.notes s.missed → after ≡ before
+    is_over : (said : Option Said) → s.stage ≡ Over said → after ≡ before → new.notes ≡ notes_of s.notes s.missed
         → NextIs before after (next.Done (served_of said))
-    is_unrouted : (t : Session) (told : Served) → TakesAll (judges old.judge) old.replicas s before t after → IsUnrouted t told → NextIs before after (next.Done told)
+    lacks_memory : (t u : Session) (said : Said) → TakesSome (judges old.judge) old.replicas s before t after → LacksMemory t u
+        → u.stage ≡ Over (Some said) → new.notes ≡ notes_of u.notes u.missed
+        → NextIs before after (next.Done (served_of (Some said)))
+    is_cut : (said : Option Said) (posts : List Post) (acks : List Ack) → s.stage ≡ Publishing said posts acks → new.is_cut ≡ true
+        → new.notes ≡ notes_of s.notes s.missed → after ≡ before
+        → NextIs before after (next.Done (served_of said))
+    is_unrouted : (t : Session) (told : Served) → TakesAll (judges old.judge) old.replicas s before t after → IsUnrouted t told
+        → NextIs before after (next.Done told)
 
-  -- The answer was heard: a step of the session, behind which it waits for a node only where the get or put on its way has made asks; or memory is wanting, and it has no turn, or publishes no more.
+  -- The answer was heard: a step of the session, behind which it waits for a node only where the get or put on its way has made asks; or
+  -- memory is wanting, and it has no turn, or publishes no more.
   pub data HeardIs (before after : Cache) (node : Peer) (question : Ask) (given : Result Answer Memory) : Type 0 where
-    hears : (answer : Answer) (heard t : Session) → given ≡ Ok answer → Hears (judges old.judge) old.replicas s before node question answer heard after → Fails heard t → IsSession judges t new → HasAsked new t
+    hears : (answer : Answer) (heard t : Session) → given ≡ Ok answer
+        → Hears (judges old.judge) old.replicas s before node question answer heard after → Fails heard t → IsSession judges t new
+        → HasAsked new t
         → HeardIs before after node question given
     lacks_memory : (t : Session) → LacksMemory s t → after ≡ before → IsSession judges t new → HeardIs before after node question given
-    is_cut : (said : Option Said) (posts : List Post) (acks : List Ack) → s.stage ≡ Publishing said posts acks → new.is_cut ≡ true → after ≡ before
+    is_cut : (said : Option Said) (posts : List Post) (acks : List Ack) → s.stage ≡ Publishing said posts acks → new.is_cut ≡ true
+        → after ≡ before
         → IsSession judges (record s { stage = Over said; current = [] }) new → HeardIs before after node question given
 
   -- Its turn was refused, and it begins anew from that standing, at most twice; else memory is wanting.
   pub data IsRefused (standing : ModelStanding) : Type 0 where
     begins_anew : s.starts < 2 → IsSession judges (anew s standing) new → IsRefused standing
     lacks_memory : (t : Session) → s.starts < 2 → LacksMemory (anew s standing) t → IsSession judges t new → IsRefused standing
-    gives_up : (xid : ℕ) (notes : List Note) (given : ModelRefresh) (asked : Asked) → 2 ≤ s.starts → HasRefreshed s notes given → Asks s.standing.view s.message xid asked
+    gives_up : (xid : ℕ) (notes : List Note) (given : ModelRefresh) (asked : Asked) → 2 ≤ s.starts → HasRefreshed s notes given
+        → Asks s.standing.view s.message xid asked
         → IsSession judges (ended s (said_no_memory xid) notes None) new → IsRefused standing
 
   -- Its turn was answered: it publishes what is pending; or memory is wanting for that, and it is over.
@@ -106,7 +121,8 @@ module _ {J : Type 0} (judges : Judges J) (old new : SessionState J) (s : Sessio
     pub given : ModelRefresh
     pub refreshed : HasRefreshed s notes given
     pub publishes : IsSession judges (answered s (said_of xid answer) notes turned.posts) new
-        ⊎ ((new.is_cut ≡ true) × IsSession judges (record (answered s (said_of xid answer) notes turned.posts) { stage = Over (Some (said_of xid answer)) }) new)
+        ⊎ ((new.is_cut ≡ true) × IsSession judges
+        (record (answered s (said_of xid answer) notes turned.posts) { stage = Over (Some (said_of xid answer)) }) new)
 
   abbrev pub TurnedIs : Result Turned TurnFault → Type 0
   TurnedIs (Ok turned) = (answer : Reply) → turned.reply ≡ bytes_of answer → IsAnswered turned answer
@@ -118,12 +134,14 @@ module _ {J : Type 0} (judges : Judges J) (old new : SessionState J) (s : Sessio
 
 module _ {J : Type 0} (judges : Judges J) (old new : SessionState J) where
   abbrev pub IsNext : Cache → Cache → Next → Type 0
-  IsNext before after wanted = IsSameSession old new × ((s : Session) → IsSession judges s old → NextIs judges old new s before after wanted)
+  IsNext before after wanted = IsSameSession old new
+      × ((s : Session) → IsSession judges s old → NextIs judges old new s before after wanted)
 
   abbrev pub IsHeard : Cache → Cache → Result Answer Memory → Type 0
   IsHeard before after answer =
       IsSameSession old new
-      × ((s : Session) (node : Peer) (question : Ask) → session_awaited old ≡ Some (node, question) → IsSession judges s old → HeardIs judges old new s before after node question answer)
+      × ((s : Session) (node : Peer) (question : Ask) → session_awaited old ≡ Some (node, question) → IsSession judges s old
+      → HeardIs judges old new s before after node question answer)
 
   abbrev pub IsTurned : Result Turned TurnFault → Type 0
   IsTurned turned = IsSameSession old new × ((s : Session) → IsSession judges s old → TurnedIs judges old new s turned)

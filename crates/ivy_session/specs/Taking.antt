@@ -36,7 +36,9 @@ HasCome s = (end : RefreshEnd) × Stands s.standing s.parts end
 -- the block is at hand, and was taken
 abbrev pub HasTaken : {J : Type 0} → Judges J → RefreshState J → RefreshState J → Cache → Cache → Type 0
 HasTaken judges old new before after =
-    IsSameRefresh old new × (refresh_awaited old ≡ None) × (refresh_awaited new ≡ None) × ((s : Session) → IsRefreshingBy judges s old → (t : Session) × Takes (judges old.judge) old.replicas s before t after × IsSameCall s t × IsRefreshingBy judges t new)
+    IsSameRefresh old new × (refresh_awaited old ≡ None) × (refresh_awaited new ≡ None)
+    × ((s : Session) → IsRefreshingBy judges s old
+    → (t : Session) × Takes (judges old.judge) old.replicas s before t after × IsSameCall s t × IsRefreshingBy judges t new)
 
 -- the block that is wanted isn't at hand
 abbrev pub IsAway : Option Key → List Post → Cache → Type 0
@@ -53,9 +55,11 @@ TakesOne judges old new before after (Err lacks) = after ≡ before
 abbrev pub TakesHand : {J : Type 0} → Judges J → RefreshState J → RefreshState J → Cache → Cache → Result (Unit {0}) Memory → Type 0
 TakesHand judges old new before after (Ok done) =
     IsSameRefresh old new × (refresh_awaited old ≢ None → (new ≡ old) × (after ≡ before))
-    × ((s : Session) → refresh_awaited old ≡ None → IsRefreshingBy judges s old → (t : Session) × TakesAll (judges old.judge) old.replicas s before t after × IsSameCall s t × IsRefreshingBy judges t new)
+    × ((s : Session) → refresh_awaited old ≡ None → IsRefreshingBy judges s old
+    → (t : Session) × TakesAll (judges old.judge) old.replicas s before t after × IsSameCall s t × IsRefreshingBy judges t new)
 TakesHand judges old new before after (Err lacks) =
-    (s : Session) → IsRefreshingBy judges s old → (t : Session) × TakesSome (judges old.judge) old.replicas s before t after × IsSameCall s t × HasCome t
+    (s : Session) → IsRefreshingBy judges s old
+    → (t : Session) × TakesSome (judges old.judge) old.replicas s before t after × IsSameCall s t × HasCome t
 
 -- the cache once a block that was given back is kept
 abbrev pub kept_back : Option (Key × List ℕ) → Cache → Cache
@@ -67,37 +71,44 @@ pub record IsFailing {J : Type 0} (judges : Judges J) (s : Session) (r : Refresh
   pub after : RefreshIsAfter judges s.standing s.parts s.current r
   pub failed : has_failed r ≡ true
 
--- The answer was heard, and a block that came right is kept: the refresh goes on, and waits for a node only where a get has made asks; or it has failed.
+-- The answer was heard, and a block that came right is kept: the refresh goes on, and waits for a node only where a get has made asks; or
+-- it has failed.
 abbrev pub IsHeardTo : {J : Type 0} → Judges J → Session → RefreshState J → Cache → Cache → Bool → Type 0
 IsHeardTo judges t new before after false = IsRefreshingBy judges t new × (refresh_awaited new ≢ None → t.current ≢ [])
 IsHeardTo judges t new before after true = IsFailing judges t new × (after ≡ before)
 
 -- Where memory is wanting the cache is the same.
-abbrev pub RefreshHears : {J : Type 0} → Judges J → RefreshState J → RefreshState J → Cache → Cache → Result Answer Memory → Result Bool Memory → Type 0
+abbrev pub RefreshHears : {J : Type 0} → Judges J → RefreshState J → RefreshState J → Cache → Cache → Result Answer Memory
+    → Result Bool Memory → Type 0
 RefreshHears judges old new before after given (Ok failed) =
     (answer : Answer) × (given ≡ Ok answer)
     × IsSameRefresh old new
     × ((s : Session) (node : Peer) (question : Ask) → refresh_awaited old ≡ Some (node, question) → IsRefreshingBy judges s old
-    → (t : Session) × Hears (judges old.judge) old.replicas s before node question answer t after × IsSameCall s t × IsHeardTo judges t new before after failed)
+    → (t : Session) × Hears (judges old.judge) old.replicas s before node question answer t after × IsSameCall s t
+    × IsHeardTo judges t new before after failed)
 RefreshHears judges old new before after given (Err lacks) = after ≡ before
 
 -- ---- what is wanted then
 
 -- what was at hand was taken; or the session is the same, and a node is to be heard
 abbrev pub AtHand : {J : Type 0} → Judges J → RefreshState J → Session → Session → Cache → Cache → Type 0
-AtHand judges old s t before after = TakesAll (judges old.judge) old.replicas s before t after ⊎ ((refresh_awaited old ≢ None) × (t ≡ s) × (after ≡ before))
+AtHand judges old s t before after =
+    TakesAll (judges old.judge) old.replicas s before t after ⊎ ((refresh_awaited old ≢ None) × (t ≡ s) × (after ≡ before))
 
 -- what is at hand is taken, and then a node is asked, or all was brought; or memory is wanting
 abbrev pub Advances : {J : Type 0} → Judges J → RefreshState J → RefreshState J → Cache → Cache → Result (Want Refreshed) Memory → Type 0
 Advances judges old new before after (Ok (want.Ask node question)) =
     IsSameRefresh old new × (refresh_awaited new ≡ Some (node, question))
     × ((s : Session) → IsRefreshingBy judges s old
-    → (t : Session) × AtHand judges old s t before after × IsSameCall s t × IsRefreshingBy judges t new × AsksOf (judges old.judge) old.replicas t node question)
+    → (t : Session) × AtHand judges old s t before after × IsSameCall s t × IsRefreshingBy judges t new
+    × AsksOf (judges old.judge) old.replicas t node question)
 Advances judges old new before after (Ok (want.Done given)) =
     (s : Session) → IsRefreshingBy judges s old
-    → (t : Session) × TakesAll (judges old.judge) old.replicas s before t after × IsSameCall s t × (t.current ≡ []) × (Brings t.standing t.parts given ⊎ HasNoRoute t.entries t.standing t.parts given)
+    → (t : Session) × TakesAll (judges old.judge) old.replicas s before t after × IsSameCall s t × (t.current ≡ [])
+    × (Brings t.standing t.parts given ⊎ HasNoRoute t.entries t.standing t.parts given)
 Advances judges old new before after (Err lacks) =
-    (s : Session) → IsRefreshingBy judges s old → (t : Session) × TakesSome (judges old.judge) old.replicas s before t after × IsSameCall s t × HasCome t
+    (s : Session) → IsRefreshingBy judges s old
+    → (t : Session) × TakesSome (judges old.judge) old.replicas s before t after × IsSameCall s t × HasCome t
 
 -- ---- how it fails
 

@@ -32,7 +32,8 @@ pub record IsPlainHead (key : Key) (bytes : List ℕ) (judged : Judged) : Type 0
 -- they are a head under the key with that owner, number and name, and with an empty signature
 abbrev pub is_plain : Key → List ℕ → PubKey → ℕ → Key → Bool
 is_plain key bytes owner seq name =
-    is_block 60 owner.0 && nat_le 1 seq && nat_le seq most_records && is_block 20 name.0 && bytes_eq bytes (head_block owner (stamp seq name) []) && bytes_eq key.0 (head_key_of owner).0
+    is_block 60 owner.0 && nat_le 1 seq && nat_le seq most_records && is_block 20 name.0
+    && bytes_eq bytes (head_block owner (stamp seq name) []) && bytes_eq key.0 (head_key_of owner).0
 
 abbrev pub is_plain_head : Key → List ℕ → Bool
 is_plain_head key bytes = is_plain key bytes (owner_in bytes) (seq_in bytes) (name_in bytes)

@@ -26,7 +26,8 @@ abbrev pub IsPiece : ℕ × List ℕ → Type 0
 IsPiece p = (1 ≤ length p.1) × (length p.1 ≤ 8192) × (p.0 + length p.1 ≤ longest_file)
 
 abbrev pub change_block : Change → List ℕ
-change_block c = optional word c.mode ++ optional word c.uid ++ optional word c.gid ++ optional double_word c.size ++ optional moment c.atime ++ optional moment c.mtime
+change_block c = optional word c.mode ++ optional word c.uid ++ optional word c.gid ++ optional double_word c.size
+    ++ optional moment c.atime ++ optional moment c.mtime
 
 -- an operation of that kind
 abbrev pub IsOfKind : ℕ → Op → Type 0

@@ -24,5 +24,6 @@ pub record IsRead (owner : PubKey) (bytes : List ℕ) (r : log.Record) : Type 0 
 abbrev pub ReadFault : PubKey → List ℕ → RecordFault → Type 0
 ReadFault owner bytes TooLong = longest_record < length bytes
 ReadFault owner bytes Malformed = (length bytes ≤ longest_record) × ((r : log.Record) → IsRecordOf owner bytes r → ⊥)
-ReadFault owner bytes BadNumber = (length bytes ≤ longest_record) × (r : log.Record) × IsRecordOf owner bytes r × (HasMadeNumber owner r.seq r.op → ⊥)
+ReadFault owner bytes BadNumber = (length bytes ≤ longest_record) × (r : log.Record) × IsRecordOf owner bytes r
+    × (HasMadeNumber owner r.seq r.op → ⊥)
 ReadFault owner bytes Memory = Unit {0}

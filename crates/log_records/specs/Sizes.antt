@@ -6,7 +6,8 @@ use Rattle.ivy_base.specs.declared.operation.Op.TheVariants as op
 use Rattle.block_parts.specs.Parts.{opaque_size, optional_size, IsShort}
 
 abbrev pub change_size : Change → ℕ
-change_size c = optional_size 4 c.mode + optional_size 4 c.uid + optional_size 4 c.gid + optional_size 8 c.size + optional_size 8 c.atime + optional_size 8 c.mtime
+change_size c = optional_size 4 c.mode + optional_size 4 c.uid + optional_size 4 c.gid + optional_size 8 c.size + optional_size 8 c.atime
+    + optional_size 8 c.mtime
 
 abbrev pub body_size : Op → ℕ
 body_size (op.Inode number kind mode uid gid target) = 36 + opaque_size target

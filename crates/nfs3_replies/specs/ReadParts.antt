@@ -1,5 +1,6 @@
 -- The parts of results in the order in which they are read, and the forms of procedures by their numbers.
-use Rattle.std.specs.Prelude.{◌≡◌, ℕ, Bool, true, false, List, [], ◌∷◌, ◌++◌, get_or, drop, Option, Some, None, IfSome, nat_eq, if◌then◌else◌}
+use Rattle.std.specs.Prelude.{◌≡◌, ℕ, Bool, true, false, List, [], ◌∷◌, ◌++◌, get_or, drop, Option, Some, None, IfSome, nat_eq}
+use Rattle.std.specs.Prelude.{if◌then◌else◌}
 use Rattle.std.specs.List.{flat_map, AllByRecursion}
 use Rattle.ivy_base.specs.declared.operation.Kind.{Kind}
 use Rattle.log_model.specs.Spelling.{kind_number}
@@ -178,7 +179,8 @@ abbrev pub tail_form_at : ℕ → ℕ
 tail_form_at procedure = get_or (5 ∷ 0 ∷ 2 ∷ 1 ∷ 1 ∷ 1 ∷ 1 ∷ 2 ∷ 2 ∷ 2 ∷ 2 ∷ 2 ∷ 2 ∷ 2 ∷ 3 ∷ 4 ∷ 1 ∷ 1 ∷ 1 ∷ 1 ∷ 1 ∷ 2 ∷ []) procedure 5
 
 abbrev pub result_form_at : ℕ → ℕ
-result_form_at procedure = get_or (0 ∷ 1 ∷ 2 ∷ 3 ∷ 4 ∷ 5 ∷ 6 ∷ 7 ∷ 8 ∷ 8 ∷ 8 ∷ 11 ∷ 2 ∷ 2 ∷ 14 ∷ 15 ∷ 16 ∷ 17 ∷ 18 ∷ 19 ∷ 20 ∷ 21 ∷ []) procedure 200
+result_form_at procedure = get_or (0 ∷ 1 ∷ 2 ∷ 3 ∷ 4 ∷ 5 ∷ 6 ∷ 7 ∷ 8 ∷ 8 ∷ 8 ∷ 11 ∷ 2 ∷ 2 ∷ 14 ∷ 15 ∷ 16 ∷ 17 ∷ 18 ∷ 19 ∷ 20 ∷ 21
+    ∷ []) procedure 200
 
 -- those of MOUNT's, whose results are never refused
 abbrev pub mount_form_at : ℕ → ℕ

@@ -8,7 +8,8 @@ use Rattle.nfs_model.specs.declared.arguments.SetWhat.{SetWhat}
 use Rattle.nfs_model.specs.declared.replies.NfsStatus.TheVariants as status
 use Rattle.nfs_model.specs.Checks.{Check, is_dot, is_dot_dot}
 use Rattle.nfs_model.specs.Objects.{Object, may_write, is_owner}
-use Rattle.nfs_model.specs.Changing.{directory_checks, name_checks, may_change, taken, invalid_times, too_large, inode_under, is_empty_under, may_cut, taken_part}
+use Rattle.nfs_model.specs.Changing.{directory_checks, name_checks, may_change, taken, invalid_times, too_large, inode_under}
+use Rattle.nfs_model.specs.Changing.{is_empty_under, may_cut, taken_part}
 
 -- of a directory and a name that is to be changed in it
 abbrev pub place_checks : Identity → Object → List ℕ → List Check

@@ -24,7 +24,8 @@ use Rattle.nfs_laws.specs.Listings.{IsPage}
 -- a call for a page in that room
 pub data HasRoom (count : ℕ) : Args → Type 0 where
   plain : (handle : List ℕ) (cookie : ℕ) (verifier : List ℕ) → HasRoom count (call.ReadDir handle cookie verifier count)
-  plus : (handle : List ℕ) (cookie : ℕ) (verifier : List ℕ) (dircount : ℕ) → HasRoom count (call.ReadDirPlus handle cookie verifier dircount count)
+  plus : (handle : List ℕ) (cookie : ℕ) (verifier : List ℕ) (dircount : ℕ)
+      → HasRoom count (call.ReadDirPlus handle cookie verifier dircount count)
 
 -- each name of the tree stands under a key, and leads to one
 abbrev pub NamesAreKeys : Tree → Type 0
@@ -43,7 +44,8 @@ PagesFit = (t : Tree) (view : View) (who : Identity) (args : Args) (count : ℕ)
 
 -- What a reading procedure answers has at most 32,772 bytes from its status on.
 abbrev pub AnswersFit : Type 0
-AnswersFit = (t : Tree) (view : View) (who : Identity) (args : Args) → NamesAreKeys t → LinksAreShort t → length (result (answer t view who args)) ≤ longest_result
+AnswersFit = (t : Tree) (view : View) (who : Identity) (args : Args) → NamesAreKeys t → LinksAreShort t
+    → length (result (answer t view who args)) ≤ longest_result
 
 -- So has what MOUNT answers.
 abbrev pub MountsFit : Type 0
@@ -57,11 +59,13 @@ IsShortPlan (Operations ops) = Unit {0}
 
 -- So has what a changing procedure answers, without a record or once its records stand.
 abbrev pub PlansFit : Type 0
-PlansFit = (t : Tree) (view : View) (who : Identity) (args : Args) (now : Moment) (own : PubKey) (seq : ℕ) → NumbersAreKeys t → IsShortPlan (plan t view who args now own seq)
+PlansFit = (t : Tree) (view : View) (who : Identity) (args : Args) (now : Moment) (own : PubKey) (seq : ℕ) → NumbersAreKeys t
+    → IsShortPlan (plan t view who args now own seq)
 
 abbrev pub FinishesFit : Type 0
 FinishesFit = (before after : Tree) (view : View) (who : Identity) (args : Args) (now : Moment) (own : PubKey) (seq : ℕ) (ops : List Op)
-    → NumbersAreKeys before → plan before view who args now own seq ≡ Operations ops → length (result (finish before after view who args ops)) ≤ longest_result
+    → NumbersAreKeys before → plan before view who args now own seq ≡ Operations ops
+    → length (result (finish before after view who args ops)) ≤ longest_result
 
 -- Operations that fit make a tree whose names are so, and one of short links.
 abbrev pub RecordsMakeNames : Type 0

@@ -41,7 +41,8 @@ pub data IsReadFrom (view : View) (number : Key) (names : List (List ℕ × Key)
       → listing t number ≡ names → IsPageCall (handle_of view number) cookie verifier args → IsPage given page true (answer t view who args)
       → IsReadFrom view number names cookie verifier page
   more : {cookie : ℕ} {verifier given : List ℕ} {page rest : List Listed} (t : Tree) (who : Identity) (args : Args)
-      → listing t number ≡ names → IsPageCall (handle_of view number) cookie verifier args → IsPage given page false (answer t view who args)
+      → listing t number ≡ names → IsPageCall (handle_of view number) cookie verifier args
+      → IsPage given page false (answer t view who args)
       → IsReadFrom view number names (next_cookie cookie page) given rest → IsReadFrom view number names cookie verifier (page ++ rest)
 
 -- The pages put together are the directory itself, one above it, and its listing, each entry once and in its order.

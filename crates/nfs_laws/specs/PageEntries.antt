@@ -43,7 +43,8 @@ pub record IsPageBehind (Says : Key → Listed → Type 0) (t : Tree) (view : Vi
   pub attr_is : attr ≡ Some (attributes t view dir)
   pub verifier_is : verifier ≡ cookie_verifier t dir.number
   -- its entries are those of the places behind the cookie, one after the other
-  pub entries : (i : ℕ) (e : Listed) → slice_get page i ≡ Some e → (number : Key) × IsEntryAt t dir.number (cookie + 1 + i) number e × Says number e
+  pub entries : (i : ℕ) (e : Listed) → slice_get page i ≡ Some e
+      → (number : Key) × IsEntryAt t dir.number (cookie + 1 + i) number e × Says number e
   -- it says that it is the last where the directory has no place behind its own
   pub ends : IsTrue eof ↔ (2 + length (listing t dir.number) ≤ cookie + length page)
 

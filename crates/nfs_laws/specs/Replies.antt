@@ -44,7 +44,8 @@ pub record TreeFits (t : Tree) : Type 0 where
 
 -- Operations that fit make such a tree, where they are fewer than 2^63.
 abbrev pub RecordsMakeTrees : Type 0
-RecordsMakeTrees = (ops : List (Moment × Op)) → AllByRecursion (λ o. IsMoment o.0 × OperationFits o.1) ops → length ops < 2 ^ 63 → TreeFits (apply_all empty_tree ops)
+RecordsMakeTrees = (ops : List (Moment × Op)) → AllByRecursion (λ o. IsMoment o.0 × OperationFits o.1) ops → length ops < 2 ^ 63
+    → TreeFits (apply_all empty_tree ops)
 
 -- So does each closed set of a view.
 abbrev pub SetsMakeTrees : Type 0
@@ -54,7 +55,8 @@ SetsMakeTrees = (view : View) (s : List Record) → IsView view → IsClosed vie
 
 -- What a reading procedure of NFS answers is a reply of its own.
 abbrev pub AnswersAreReplies : Type 0
-AnswersAreReplies = (t : Tree) (view : View) (who : Identity) (args : Args) → TreeFits t → program_of args ≡ nfs_program → is_changing args ≡ false
+AnswersAreReplies = (t : Tree) (view : View) (who : Identity) (args : Args) → TreeFits t → program_of args ≡ nfs_program
+    → is_changing args ≡ false
     → IsFittingReply args (answer t view who args)
 
 -- So is what MOUNT answers.
@@ -69,10 +71,13 @@ HasReplyTo args (Operations ops) = Unit {0}
 
 -- So is what a changing procedure answers without a record.
 abbrev pub PlansAreReplies : Type 0
-PlansAreReplies = (t : Tree) (view : View) (who : Identity) (args : Args) (now : Moment) (own : PubKey) (seq : ℕ) → TreeFits t → is_changing args ≡ true
+PlansAreReplies = (t : Tree) (view : View) (who : Identity) (args : Args) (now : Moment) (own : PubKey) (seq : ℕ) → TreeFits t
+    → is_changing args ≡ true
     → HasReplyTo args (plan t view who args now own seq)
 
 -- So is what it answers once its records stand, whatever the tree is then.
 abbrev pub FinishesAreReplies : Type 0
-FinishesAreReplies = (before after : Tree) (view : View) (who : Identity) (args : Args) (now : Moment) (own : PubKey) (seq : ℕ) (ops : List Op)
-    → TreeFits before → TreeFits after → plan before view who args now own seq ≡ Operations ops → IsFittingReply args (finish before after view who args ops)
+FinishesAreReplies = (before after : Tree) (view : View) (who : Identity) (args : Args) (now : Moment) (own : PubKey) (seq : ℕ)
+    (ops : List Op)
+    → TreeFits before → TreeFits after → plan before view who args now own seq ≡ Operations ops
+    → IsFittingReply args (finish before after view who args ops)

@@ -107,7 +107,8 @@ arguments (call.RmDir dir name) = opaque dir ++ opaque name
 arguments (call.Rename dir name to_dir to_name) = opaque dir ++ opaque name ++ opaque to_dir ++ opaque to_name
 arguments (call.Link file dir name) = opaque file ++ opaque dir ++ opaque name
 arguments (call.ReadDir dir cookie verifier count) = opaque dir ++ double_word cookie ++ verifier ++ word count
-arguments (call.ReadDirPlus dir cookie verifier dircount maxcount) = opaque dir ++ double_word cookie ++ verifier ++ word dircount ++ word maxcount
+arguments (call.ReadDirPlus dir cookie verifier dircount maxcount) =
+    opaque dir ++ double_word cookie ++ verifier ++ word dircount ++ word maxcount
 arguments (call.FsStat object) = opaque object
 arguments (call.FsInfo object) = opaque object
 arguments (call.PathConf object) = opaque object
@@ -178,7 +179,8 @@ ArgumentsFit (call.Lookup dir name) = IsHandle dir × IsShortText name
 ArgumentsFit (call.Access object bits) = IsHandle object × (bits < 2 ^ 32)
 ArgumentsFit (call.ReadLink link) = IsHandle link
 ArgumentsFit (call.Read file offset count) = IsHandle file × (offset < 2 ^ 64) × (count < 2 ^ 32)
-ArgumentsFit (call.Write file offset count stable bytes) = IsHandle file × (offset < 2 ^ 64) × (count < 2 ^ 32) × (stable ≤ 2) × (length bytes < 2 ^ 32)
+ArgumentsFit (call.Write file offset count stable bytes) =
+    IsHandle file × (offset < 2 ^ 64) × (count < 2 ^ 32) × (stable ≤ 2) × (length bytes < 2 ^ 32)
 ArgumentsFit (call.Create dir name how) = IsHandle dir × IsShortText name × IsHow how
 ArgumentsFit (call.MkDir dir name what) = IsHandle dir × IsShortText name × IsSetWhat what
 ArgumentsFit (call.SymLink dir name what text) = IsHandle dir × IsShortText name × IsSetWhat what × IsShortText text
@@ -188,7 +190,8 @@ ArgumentsFit (call.RmDir dir name) = IsHandle dir × IsShortText name
 ArgumentsFit (call.Rename dir name to_dir to_name) = IsHandle dir × IsShortText name × IsHandle to_dir × IsShortText to_name
 ArgumentsFit (call.Link file dir name) = IsHandle file × IsHandle dir × IsShortText name
 ArgumentsFit (call.ReadDir dir cookie verifier count) = IsHandle dir × (cookie < 2 ^ 64) × IsVerifier verifier × (count < 2 ^ 32)
-ArgumentsFit (call.ReadDirPlus dir cookie verifier dircount maxcount) = IsHandle dir × (cookie < 2 ^ 64) × IsVerifier verifier × (dircount < 2 ^ 32) × (maxcount < 2 ^ 32)
+ArgumentsFit (call.ReadDirPlus dir cookie verifier dircount maxcount) =
+    IsHandle dir × (cookie < 2 ^ 64) × IsVerifier verifier × (dircount < 2 ^ 32) × (maxcount < 2 ^ 32)
 ArgumentsFit (call.FsStat object) = IsHandle object
 ArgumentsFit (call.FsInfo object) = IsHandle object
 ArgumentsFit (call.PathConf object) = IsHandle object

@@ -1,5 +1,6 @@
 -- What a changing procedure plans on the tree, and what it answers once its records stand.
-use Rattle.std.specs.Prelude.{ℕ, ◌+◌, ◌%◌, nat_le, nat_lt, take, option_map, Bool, true, false, ◌||◌, ◌&&◌, not, List, [], ◌∷◌, ◌++◌, length, Option, Some, None, is_some, unwrap_or, ◌==◌, if◌then◌else◌, Result, Ok, Err}
+use Rattle.std.specs.Prelude.{ℕ, ◌+◌, ◌%◌, nat_le, nat_lt, take, option_map, Bool, true, false, ◌||◌, ◌&&◌, not, List, [], ◌∷◌, ◌++◌}
+use Rattle.std.specs.Prelude.{length, Option, Some, None, is_some, unwrap_or, ◌==◌, if◌then◌else◌, Result, Ok, Err}
 use Rattle.ivy_base.specs.declared.key.Key.{Key}
 use Rattle.ivy_base.specs.declared.key.PubKey.{PubKey}
 use Rattle.ivy_base.specs.declared.operation.Kind.{Kind}
@@ -10,7 +11,8 @@ use Rattle.ivy_base.specs.declared.operation.Op.{Op}
 use Rattle.ivy_base.specs.declared.operation.Op.TheVariants as op
 use Rattle.ivy_base.specs.Naming.{inode_number}
 use Rattle.std.specs.Option.{option_map_or}
-use Rattle.tree_model.specs.Tree.{Tree, Inode, entry, inode_at, directory_kind, file_kind, is_directory, is_file, is_empty_directory, is_inside, same_key, name_count, longest_file}
+use Rattle.tree_model.specs.Tree.{Tree, Inode, entry, inode_at, directory_kind, file_kind, is_directory, is_file, is_empty_directory}
+use Rattle.tree_model.specs.Tree.{is_inside, same_key, name_count, longest_file}
 use Rattle.tree_model.specs.Apply.{same_bool}
 use Rattle.nfs_model.specs.declared.arguments.How.{How}
 use Rattle.nfs_model.specs.declared.arguments.How.TheVariants.{Unchecked, Guarded, Exclusive}
@@ -30,7 +32,8 @@ use Rattle.nfs_model.specs.declared.replies.Fattr.{Fattr}
 use Rattle.nfs_model.specs.declared.replies.Reply.{Reply}
 use Rattle.nfs_model.specs.declared.replies.Reply.TheVariants as reply
 use Rattle.nfs_model.specs.Checks.{Check, first_failure, too_long_name, invalid_name, is_dot, is_dot_dot}
-use Rattle.nfs_model.specs.Objects.{Object, object_of, handle_of, attributes, attributes_at, cache_data, no_cache_data, may_write, may_search, is_owner, is_in_group}
+use Rattle.nfs_model.specs.Objects.{Object, object_of, handle_of, attributes, attributes_at, cache_data, no_cache_data, may_write}
+use Rattle.nfs_model.specs.Objects.{may_search, is_owner, is_in_group}
 
 -- the procedures that may write records
 abbrev pub is_changing : Args → Bool
@@ -135,11 +138,19 @@ taken t dir name = (is_dot name || is_dot_dot name || is_some (entry t dir.numbe
 
 -- the operation that makes an inode, with the caller as its owner
 abbrev pub make : Identity → Kind → SetWhat → Key → List ℕ → Op
-make who kind what number target = op.Inode number kind (given_mode kind what.mode) (new_owner who who.uid what.uid) (new_owner who who.gid what.gid) target
+make who kind what number target =
+    op.Inode number kind (given_mode kind what.mode) (new_owner who who.uid what.uid) (new_owner who who.gid what.gid) target
 
 -- of what is asked for the times alone
 abbrev pub only_times : Moment → SetWhat → Change
-only_times now what = record { mode = None; uid = None; gid = None; size = None; atime = given_time now what.atime; mtime = given_time now what.mtime }
+only_times now what = record {
+  mode = None;
+  uid = None;
+  gid = None;
+  size = None;
+  atime = given_time now what.atime;
+  mtime = given_time now what.mtime;
+}
 
 -- the operation that sets the times, where one is given
 abbrev pub set_times : Moment → SetWhat → Key → List Op
@@ -188,7 +199,14 @@ is_positive (Some n) = nat_lt 0 n
 abbrev pub plan_new : Identity → Object → List ℕ → SetWhat → Moment → Key → Plan
 plan_new who dir name what now number = Operations (make who Reg what number [] ∷ op.Link dir.number name number ∷
     (if is_positive what.size || is_some (given_time now what.atime) || is_some (given_time now what.mtime)
-    then op.SetAttrs number (record { mode = None; uid = None; gid = None; size = (if is_positive what.size then what.size else None); atime = given_time now what.atime; mtime = given_time now what.mtime }) ∷ [] else []))
+    then op.SetAttrs number (record {
+      mode = None;
+      uid = None;
+      gid = None;
+      size = (if is_positive what.size then what.size else None);
+      atime = given_time now what.atime;
+      mtime = given_time now what.mtime;
+    }) ∷ [] else []))
 
 abbrev pub plan_file_at : Tree → View → Identity → Object → List ℕ → SetWhat → Moment → Key → Option Key → Plan
 plan_file_at t view who dir name what now number None = plan_new who dir name what now number
@@ -216,7 +234,8 @@ abbrev pub plan_create : Tree → View → Identity → List ℕ → List ℕ �
 plan_create t view who handle name (Unchecked what) now number = plan_file t view who handle name false what now number
 plan_create t view who handle name (Guarded what) now number = plan_file t view who handle name true what now number
 plan_create t view who handle name (Exclusive verifier) now number = about (object_of t view handle) (tail.Cache no_cache_data) (λ dir.
-    unless (directory_checks who dir ++ name_checks name ++ (true, status.NotSupp) ∷ []) (tail.Cache (cache_data t t view dir.number)) (Nothing reply.Nothing))
+    unless (directory_checks who dir ++ name_checks name ++ (true, status.NotSupp) ∷ []) (tail.Cache (cache_data t t view dir.number))
+    (Nothing reply.Nothing))
 
 -- ---- attributes and contents
 
@@ -243,7 +262,10 @@ asked_change now what = record {
 abbrev pub set_attribute_checks : Identity → Object → SetWhat → Option Moment → List Check
 set_attribute_checks who o what guard =
     invalid_times what
-    ∷ (option_map_or (λ m. not (m.sec == o.inode.attributes.ctime.sec && m.nsec == o.inode.attributes.ctime.nsec)) guard false, status.NotSync)
+    ∷ (
+      option_map_or (λ m. not (m.sec == o.inode.attributes.ctime.sec && m.nsec == o.inode.attributes.ctime.nsec)) guard false,
+      status.NotSync,
+    )
     ∷ (
       (is_some what.mode || is_some what.uid || is_some what.gid || is_client_time what.atime || is_client_time what.mtime)
           && not (who.uid == 0 || is_owner who o.inode),
@@ -399,7 +421,8 @@ made_number _ = None
 
 -- the new object, or the file that was there, in its directory
 abbrev pub made : Tree → Tree → View → Result Object NfsStatus → Option Key → Reply
-made before after view (Ok dir) (Some number) = reply.Made (handle_of view number) (attributes_at after view number) (cache_data before after view dir.number)
+made before after view (Ok dir) (Some number) =
+    reply.Made (handle_of view number) (attributes_at after view number) (cache_data before after view dir.number)
 made before after view _ _ = reply.Nothing
 
 -- an answer about the object of a handle, which stood before the records
@@ -409,15 +432,24 @@ standing (Err fault) answer = reply.Nothing
 
 -- the reply to the call whose operations stand, of the trees before and after them
 abbrev pub finish : Tree → Tree → View → Identity → Args → List Op → Reply
-finish before after view who (call.SetAttr object what guard) ops = standing (object_of before view object) (λ o. reply.Changed (cache_data before after view o))
-finish before after view who (call.Write file offset count stable bytes) ops = standing (object_of before view file) (λ o. reply.Written (cache_data before after view o) (length (taken_part bytes)))
+finish before after view who (call.SetAttr object what guard) ops =
+    standing (object_of before view object) (λ o. reply.Changed (cache_data before after view o))
+finish before after view who (call.Write file offset count stable bytes) ops =
+    standing (object_of before view file) (λ o. reply.Written (cache_data before after view o) (length (taken_part bytes)))
 finish before after view who (call.Create dir name how) ops = made before after view (object_of before view dir) (made_number ops)
 finish before after view who (call.MkDir dir name what) ops = made before after view (object_of before view dir) (made_number ops)
 finish before after view who (call.SymLink dir name what text) ops = made before after view (object_of before view dir) (made_number ops)
-finish before after view who (call.Remove dir name) ops = standing (object_of before view dir) (λ d. reply.Changed (cache_data before after view d))
-finish before after view who (call.RmDir dir name) ops = standing (object_of before view dir) (λ d. reply.Changed (cache_data before after view d))
-finish before after view who (call.Rename dir name to_dir to_name) ops = standing (object_of before view dir) (λ d. standing (object_of before view to_dir) (λ e. reply.Renamed (cache_data before after view d) (cache_data before after view e)))
-finish before after view who (call.Link file dir name) ops = standing (object_of before view file) (λ f. standing (object_of before view dir) (λ d. reply.Linked (attributes_at after view f) (cache_data before after view d)))
+finish before after view who (call.Remove dir name) ops =
+    standing (object_of before view dir) (λ d. reply.Changed (cache_data before after view d))
+finish before after view who (call.RmDir dir name) ops =
+    standing (object_of before view dir) (λ d. reply.Changed (cache_data before after view d))
+finish before after view who (call.Rename dir name to_dir to_name) ops =
+    standing (object_of before view dir)
+    (λ d. standing (object_of before view to_dir)
+    (λ e. reply.Renamed (cache_data before after view d) (cache_data before after view e)))
+finish before after view who (call.Link file dir name) ops =
+    standing (object_of before view file)
+    (λ f. standing (object_of before view dir) (λ d. reply.Linked (attributes_at after view f) (cache_data before after view d)))
 -- the reading procedures and MOUNT plan no operations
 finish before after view who call.Null ops = reply.Nothing
 finish before after view who (call.GetAttr object) ops = reply.Nothing

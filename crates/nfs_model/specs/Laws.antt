@@ -19,7 +19,8 @@ ArgumentsReadOne = (program procedure : ℕ) → ReadsOne (AreOf program procedu
 
 -- the bytes of a procedure's arguments are those of one value
 abbrev pub ArgumentsAreOne : Type 0
-ArgumentsAreOne = (program procedure : ℕ) (bytes : List ℕ) (args other : Args) → AreArguments program procedure bytes args → AreArguments program procedure bytes other → args ≡ other
+ArgumentsAreOne = (program procedure : ℕ) (bytes : List ℕ) (args other : Args) → AreArguments program procedure bytes args
+    → AreArguments program procedure bytes other → args ≡ other
 
 -- the bytes of a result are those of one reply to the procedure, and begin no other's
 abbrev pub RepliesReadOne : Type 0

@@ -1,5 +1,6 @@
 -- File handles, attributes and permissions of objects (RFC 1813, section 2.5).
-use Rattle.std.specs.Prelude.{ℕ, ◌*◌, ◌/◌, ◌%◌, min, Bool, ◌||◌, ◌&&◌, not, List, [], ◌∷◌, ◌++◌, length, take, drop, Option, Some, None, option_map, ◌==◌, if◌then◌else◌, Result, Ok, Err}
+use Rattle.std.specs.Prelude.{ℕ, ◌*◌, ◌/◌, ◌%◌, min, Bool, ◌||◌, ◌&&◌, not, List, [], ◌∷◌, ◌++◌, length, take, drop, Option, Some, None}
+use Rattle.std.specs.Prelude.{option_map, ◌==◌, if◌then◌else◌, Result, Ok, Err}
 use Rattle.std.specs.List.{list_any}
 use Rattle.std.specs.Option.{option_map_or}
 use Rattle.std.specs.Int.{w64, from_be_bytes}
@@ -73,7 +74,8 @@ attributes_at t view number = option_map (λ i. attributes t view (record { numb
 
 -- what is said of an inode before an operation
 abbrev pub before_at : Tree → Key → Option WccBefore
-before_at t number = option_map (λ i. record { size = size_of i; mtime = i.attributes.mtime; ctime = i.attributes.ctime }) (inode_at t number)
+before_at t number = option_map (λ i. record { size = size_of i; mtime = i.attributes.mtime; ctime = i.attributes.ctime })
+    (inode_at t number)
 
 -- an object before and after the call's own records
 abbrev pub cache_data : Tree → Tree → View → Key → Wcc

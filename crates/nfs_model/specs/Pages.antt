@@ -1,5 +1,6 @@
 -- Pages of a directory (RFC 1813, sections 3.3.16 and 3.3.17; how a page is measured is this project's).
-use Rattle.std.specs.Prelude.{ℕ, ◌+◌, ◌-◌, min, nat_lt, Bool, false, ◌&&◌, not, List, [], ◌∷◌, ◌++◌, length, take, drop, map, Some, None, unwrap_or, ◌==◌, if◌then◌else◌}
+use Rattle.std.specs.Prelude.{ℕ, ◌+◌, ◌-◌, min, nat_lt, Bool, false, ◌&&◌, not, List, [], ◌∷◌, ◌++◌, length, take, drop, map, Some, None}
+use Rattle.std.specs.Prelude.{unwrap_or, ◌==◌, if◌then◌else◌}
 use Rattle.std.specs.List.{flat_map}
 use Rattle.ivy_base.specs.declared.key.Key.{Key}
 use Rattle.ivy_base.specs.Naming.{digest}
@@ -82,7 +83,13 @@ abbrev pub listed : ℕ × (List ℕ × Key) → Listed
 listed e = record { fileid = leading_number e.1.1; name = e.1.0; cookie = e.0; attributes = None; handle = None }
 
 abbrev pub listed_plus : Tree → View → ℕ × (List ℕ × Key) → Listed
-listed_plus t view e = record { fileid = leading_number e.1.1; name = e.1.0; cookie = e.0; attributes = attributes_at t view e.1.1; handle = Some (handle_of view e.1.1) }
+listed_plus t view e = record {
+  fileid = leading_number e.1.1;
+  name = e.1.0;
+  cookie = e.0;
+  attributes = attributes_at t view e.1.1;
+  handle = Some (handle_of view e.1.1);
+}
 
 -- READDIR (3.3.16): the page is the last where it has all that is left
 abbrev pub read_directory : Tree → View → Identity → List ℕ → ℕ → List ℕ → ℕ → Reply
@@ -98,4 +105,5 @@ read_directory_plus t view who handle cookie verifier dircount maxcount = about 
     unless (page_checks t who dir cookie verifier long_length maxcount) (tail.Attributes (Some (attributes t view dir)))
     (let left = entries_from t dir.number cookie in
     let page = at_least_one left (fitting entry_length dircount (fitting long_length (room_for_entries maxcount) left)) in
-    reply.DirectoryPlus (Some (attributes t view dir)) (cookie_verifier t dir.number) (map (listed_plus t view) page) (length page == length left)))
+    reply.DirectoryPlus (Some (attributes t view dir)) (cookie_verifier t dir.number) (map (listed_plus t view) page)
+    (length page == length left)))

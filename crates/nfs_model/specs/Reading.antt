@@ -1,5 +1,6 @@
 -- What a reading procedure answers (RFC 1813, section 3.3; which check comes first and which status it gives are this project's).
-use Rattle.std.specs.Prelude.{ℕ, ◌+◌, min, Bool, true, false, ◌||◌, ◌&&◌, not, List, [], ◌∷◌, length, take, drop, Option, Some, None, is_none, unwrap_or, nat_le, if◌then◌else◌, bit_and}
+use Rattle.std.specs.Prelude.{ℕ, ◌+◌, min, Bool, true, false, ◌||◌, ◌&&◌, not, List, [], ◌∷◌, length, take, drop, Option, Some, None}
+use Rattle.std.specs.Prelude.{is_none, unwrap_or, nat_le, if◌then◌else◌, bit_and}
 use Rattle.ivy_base.specs.declared.key.Key.{Key}
 use Rattle.ivy_base.specs.declared.operation.Kind.{Kind}
 use Rattle.ivy_base.specs.declared.operation.Kind.TheVariants.{Reg, Dir, Lnk}
@@ -17,7 +18,8 @@ use Rattle.nfs_model.specs.declared.replies.Fattr.{Fattr}
 use Rattle.nfs_model.specs.Checks.{Check, too_long_name, invalid_name, is_dot, is_dot_dot, same_bytes}
 use Rattle.nfs_model.specs.Pages.{read_directory, read_directory_plus}
 use Rattle.nfs_model.specs.Answers.{about, unless}
-use Rattle.nfs_model.specs.Objects.{Object, object_of, handle_of, attributes, may_read, may_write, may_search, is_owner, cache_data, no_cache_data}
+use Rattle.nfs_model.specs.Objects.{Object, object_of, handle_of, attributes, may_read, may_write, may_search, is_owner, cache_data}
+use Rattle.nfs_model.specs.Objects.{no_cache_data}
 
 -- GETATTR (3.3.1)
 abbrev pub get_attributes : Tree → View → List ℕ → Reply
@@ -41,7 +43,8 @@ lookup_checks t who dir name =
 -- what is found under a number; a name whose inode is missing is stale
 abbrev pub found_inode : Tree → View → Object → Key → Option Inode → Reply
 found_inode t view dir number None = reply.Refused status.Stale (tail.Attributes (Some (attributes t view dir)))
-found_inode t view dir number (Some i) = reply.Found (handle_of view number) (Some (attributes t view (record { number = number; inode = i }))) (Some (attributes t view dir))
+found_inode t view dir number (Some i) =
+    reply.Found (handle_of view number) (Some (attributes t view (record { number = number; inode = i }))) (Some (attributes t view dir))
 
 abbrev pub found : Tree → View → Object → Option Key → Reply
 found t view dir None = reply.Refused status.NoEnt (tail.Attributes (Some (attributes t view dir)))
@@ -113,7 +116,8 @@ answer t view who (call.ReadLink handle) = read_link t view handle
 answer t view who (call.Read handle offset count) = read t view who handle offset count
 answer t view who (call.MkNod dir name node) = make_node t view dir
 answer t view who (call.ReadDir dir cookie verifier count) = read_directory t view who dir cookie verifier count
-answer t view who (call.ReadDirPlus dir cookie verifier dircount maxcount) = read_directory_plus t view who dir cookie verifier dircount maxcount
+answer t view who (call.ReadDirPlus dir cookie verifier dircount maxcount) =
+    read_directory_plus t view who dir cookie verifier dircount maxcount
 answer t view who (call.FsStat handle) = with_attributes t view handle reply.Space
 answer t view who (call.FsInfo handle) = with_attributes t view handle reply.Limits
 answer t view who (call.PathConf handle) = with_attributes t view handle reply.Paths

@@ -96,10 +96,14 @@ result (reply.Made handle object w) = word 0 ++ optional opaque (Some handle) ++
 result (reply.Renamed from to) = word 0 ++ wcc from ++ wcc to
 result (reply.Linked file w) = word 0 ++ optional fattr file ++ wcc w
 result (reply.Committed w) = word 0 ++ wcc w ++ write_verifier
-result (reply.Directory dir verifier page eof) = word 0 ++ optional fattr dir ++ verifier ++ flat_map listed_entry page ++ word 0 ++ boolean eof
-result (reply.DirectoryPlus dir verifier page eof) = word 0 ++ optional fattr dir ++ verifier ++ flat_map listed_entry_plus page ++ word 0 ++ boolean eof
-result (reply.Space object) = word 0 ++ optional fattr object ++ many double_word (2 ^ 40 ∷ 2 ^ 40 ∷ 2 ^ 40 ∷ 2 ^ 32 ∷ 2 ^ 32 ∷ 2 ^ 32 ∷ []) ++ word 0
-result (reply.Limits object) = word 0 ++ optional fattr object ++ many word (8192 ∷ 8192 ∷ 512 ∷ 8192 ∷ 8192 ∷ 512 ∷ 8192 ∷ []) ++ double_word longest_file ++ many word (0 ∷ 1 ∷ 27 ∷ [])
+result (reply.Directory dir verifier page eof) =
+    word 0 ++ optional fattr dir ++ verifier ++ flat_map listed_entry page ++ word 0 ++ boolean eof
+result (reply.DirectoryPlus dir verifier page eof) =
+    word 0 ++ optional fattr dir ++ verifier ++ flat_map listed_entry_plus page ++ word 0 ++ boolean eof
+result (reply.Space object) = word 0 ++ optional fattr object ++ many double_word (2 ^ 40 ∷ 2 ^ 40 ∷ 2 ^ 40 ∷ 2 ^ 32 ∷ 2 ^ 32 ∷ 2 ^ 32 ∷ [])
+    ++ word 0
+result (reply.Limits object) = word 0 ++ optional fattr object ++ many word (8192 ∷ 8192 ∷ 512 ∷ 8192 ∷ 8192 ∷ 512 ∷ 8192 ∷ [])
+    ++ double_word longest_file ++ many word (0 ∷ 1 ∷ 27 ∷ [])
 result (reply.Paths object) = word 0 ++ optional fattr object ++ many word (1000 ∷ 255 ∷ 1 ∷ 1 ∷ 0 ∷ 1 ∷ [])
 result (reply.Mounted handle) = word 0 ++ opaque handle ++ many word (1 ∷ 1 ∷ [])
 result reply.NoSuchPath = word 2

@@ -63,4 +63,5 @@ pub record Holds (b : Basis) (taken : List (List Record)) (held : List Record) :
 -- its tree is the replay of the set and these.
 abbrev pub ReplayIsIncremental : Type 0
 ReplayIsIncremental = (view : View) (b : Basis) (s : List Record) (calls : List Call) → StandsFor view b s → AllMayBe (opened b) calls
-    → Holds b (standing [] calls) (after_all (opened b) calls).held × (kept_tree (holding (after_all (opened b) calls)) ≡ replay (s ++ (after_all (opened b) calls).held))
+    → Holds b (standing [] calls) (after_all (opened b) calls).held
+    × (kept_tree (holding (after_all (opened b) calls)) ≡ replay (s ++ (after_all (opened b) calls).held))

@@ -1,7 +1,8 @@
 -- Gets and puts: the asks of a key's owners, and what comes of them (CFS, SOSP 2001, section 5.1: DHash keeps a block
 -- at r successive nodes, and a get that fails at one goes on to the next; how many are asked, when a get ends and
 -- when a put counts as acknowledged are this project's rules).
-use Rattle.std.specs.Prelude.{◌≡◌, ◌≢◌, ℕ, ◌<◌, ◌≤◌, Bool, List, [], ◌∷◌, length, take, map, filter_map, count_by, Option, Some, None, ◌⊎◌, MatchBool}
+use Rattle.std.specs.Prelude.{◌≡◌, ◌≢◌, ℕ, ◌<◌, ◌≤◌, Bool, List, [], ◌∷◌, length, take, map, filter_map, count_by, Option, Some, None, ◌⊎◌}
+use Rattle.std.specs.Prelude.{MatchBool}
 use Rattle.std.specs.Option.{option_map}
 use Rattle.ivy_base.specs.declared.key.Key.{Key}
 use Rattle.ivy_base.specs.Naming.{name}
@@ -59,7 +60,8 @@ EndsBlock block key trail (Right bytes) = IsGiven block key trail bytes
 EndsBlock block key trail (Damaged node) = (HasBlock block key trail → ⊥) × (first_giver block trail ≡ Some node)
 EndsBlock block key trail (Missing asked) = (HasBlock block key trail → ⊥) × (first_giver block trail ≡ None) × (asked ≡ nodes trail)
 
-pub record IsBlockGet {A X : Type 0} (answers : X → Bool) (block : X → Option (List ℕ)) (key : Key) (r : ℕ) (owners : List A) (trail : List (A × X)) (got : Got A (List ℕ)) : Type 0 where
+pub record IsBlockGet {A X : Type 0} (answers : X → Bool) (block : X → Option (List ℕ)) (key : Key) (r : ℕ) (owners : List A)
+    (trail : List (A × X)) (got : Got A (List ℕ)) : Type 0 where
   pub asks : AreAsks owners (λ t. (r ≤ answered_in answers t) ⊎ HasBlock block key t) trail
   pub ends : EndsBlock block key trail got
 
@@ -73,7 +75,8 @@ EndsHeads block judge trail (Right heads) = (heads ≢ []) × (heads ≡ judged 
 EndsHeads block judge trail (Damaged node) = (judged block judge trail ≡ []) × (first_giver block trail ≡ Some node)
 EndsHeads block judge trail (Missing asked) = (judged block judge trail ≡ []) × (first_giver block trail ≡ None) × (asked ≡ nodes trail)
 
-pub record IsHeadGet {A X B : Type 0} (answers : X → Bool) (block : X → Option (List ℕ)) (judge : List ℕ → Option B) (r : ℕ) (owners : List A) (trail : List (A × X)) (got : Got A (List B)) : Type 0 where
+pub record IsHeadGet {A X B : Type 0} (answers : X → Bool) (block : X → Option (List ℕ)) (judge : List ℕ → Option B) (r : ℕ)
+    (owners : List A) (trail : List (A × X)) (got : Got A (List B)) : Type 0 where
   pub asks : AreAsks owners (λ t. r ≤ answered_in answers t) trail
   pub ends : EndsHeads block judge trail got
 
@@ -82,6 +85,7 @@ abbrev pub IsAcknowledged : {A X : Type 0} → (X → Bool) → ℕ → List A �
 IsAcknowledged holds r once trail = (r ≤ answered_in holds trail) ⊎ ((nodes trail ≡ once) × (1 ≤ answered_in holds trail))
 
 -- a put asks until r nodes have answered, whatever they answer
-pub record IsPut {A X : Type 0} (answers holds : X → Bool) (r : ℕ) (owners : List A) (trail : List (A × X)) (acknowledged : Bool) : Type 0 where
+pub record IsPut {A X : Type 0} (answers holds : X → Bool) (r : ℕ) (owners : List A) (trail : List (A × X))
+    (acknowledged : Bool) : Type 0 where
   pub asks : AreAsks owners (λ t. r ≤ answered_in answers t) trail
   pub ends : MatchBool acknowledged (IsAcknowledged holds r asks.once trail) (IsAcknowledged holds r asks.once trail → ⊥)

@@ -14,9 +14,12 @@ pub data IsLookup {A : Type 0} : List A → Option (List A) → List A → List 
   known : {asked : List A} {last : Option (List A)} {p : A} {ps : List A} {trail : List (A × Option (Route A))} {found : Option (List A)}
       → IsAmong p asked → IsLookup asked last ps trail found → IsLookup asked last (p ∷ ps) trail found
   silent : {asked : List A} {last : Option (List A)} {p : A} {ps : List A} {trail : List (A × Option (Route A))} {found : Option (List A)}
-      → length asked < 512 → (IsAmong p asked → ⊥) → IsLookup (p ∷ asked) last ps trail found → IsLookup asked last (p ∷ ps) ((p, None) ∷ trail) found
-  answered : {asked : List A} {last : Option (List A)} {p : A} {ps : List A} {route : Route A} {trail : List (A × Option (Route A))} {found : Option (List A)}
-      → length asked < 512 → (IsAmong p asked → ⊥) → IsLookup (p ∷ asked) (Some route.owners) route.nearer trail found → IsLookup asked last (p ∷ ps) ((p, Some route) ∷ trail) found
+      → length asked < 512 → (IsAmong p asked → ⊥) → IsLookup (p ∷ asked) last ps trail found
+      → IsLookup asked last (p ∷ ps) ((p, None) ∷ trail) found
+  answered : {asked : List A} {last : Option (List A)} {p : A} {ps : List A} {route : Route A} {trail : List (A × Option (Route A))}
+      {found : Option (List A)}
+      → length asked < 512 → (IsAmong p asked → ⊥) → IsLookup (p ∷ asked) (Some route.owners) route.nearer trail found
+      → IsLookup asked last (p ∷ ps) ((p, Some route) ∷ trail) found
 
 -- how many of the nodes asked answered
 abbrev pub answers_in : {A : Type 0} → List (A × Option (Route A)) → ℕ

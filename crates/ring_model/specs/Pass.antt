@@ -22,7 +22,8 @@ module _ {A : Type 0} (place : A → ℕ) where
   between_them n a None = []
   between_them n a (Some b) = if is_inside (place n) (place b) (place a) then b ∷ [] else []
 
-  -- the list that n makes of what a answers: its predecessor, where that is between them, a itself and a's list, up to n's own entry and at most 2r
+  -- the list that n makes of what a answers: its predecessor, where that is between them, a itself and a's list, up to n's own entry and at
+  -- most 2r
   abbrev pub renewed : ℕ → A → A → Option A → List A → List A
   renewed r n a before list = take (2 * r) (until n (between_them n a before ++ a ∷ list))
 
@@ -55,9 +56,11 @@ module _ {A : Type 0} (place : A → ℕ) where
   -- the nodes' parts one after the other
   pub data IsPass (r : ℕ) (lives : A → Bool) : List A → (A → Links A) → (A → Links A) → Type 0 where
     done : {ring : A → Links A} → IsPass r lives [] ring ring
-    more : {n : A} {ns : List A} {old mid new : A → Links A} → IsStabilised r lives n old mid → IsPass r lives ns mid new → IsPass r lives (n ∷ ns) old new
+    more : {n : A} {ns : List A} {old mid new : A → Links A} → IsStabilised r lives n old mid → IsPass r lives ns mid new
+        → IsPass r lives (n ∷ ns) old new
 
   -- that many passes over the same nodes
   pub data ArePasses (r : ℕ) (lives : A → Bool) (ns : List A) : ℕ → (A → Links A) → (A → Links A) → Type 0 where
     none : {ring : A → Links A} → ArePasses r lives ns 0 ring ring
-    again : {k : ℕ} {old mid new : A → Links A} → IsPass r lives ns old mid → ArePasses r lives ns k mid new → ArePasses r lives ns (suc k) old new
+    again : {k : ℕ} {old mid new : A → Links A} → IsPass r lives ns old mid → ArePasses r lives ns k mid new
+        → ArePasses r lives ns (suc k) old new

@@ -11,7 +11,8 @@ pub record Links (A : Type 0) : Type 0 where
   pub fingers : List A
 
 module _ {A : Type 0} (place : A → ℕ) where
-  -- the list of a live node: its live entries are the next live members without a gap; they are at least r or all others; and where the list is full they are at least r
+  -- the list of a live node: its live entries are the next live members without a gap; they are at least r or all others; and where the
+  -- list is full they are at least r
   pub record IsCovered (r : ℕ) (live : List A) (lives : A → Bool) (n : A) (list : List A) : Type 0 where
     pub next : filter lives list ≡ take (length (filter lives list)) (following place live n)
     pub enough : (r ≤ length (filter lives list)) ⊎ (length (following place live n) ≤ length (filter lives list))

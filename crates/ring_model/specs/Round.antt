@@ -46,7 +46,8 @@ module _ {A : Type 0} (place : A → ℕ) where
   -- these fingers are fixed one after the other
   pub data AreFixed (r bits : ℕ) (lives : A → Bool) : List (A × ℕ) → (A → Links A) → (A → Links A) → Type 0 where
     fixed : {ring : A → Links A} → AreFixed r bits lives [] ring ring
-    fixes : {n : A} {k : ℕ} {rest : List (A × ℕ)} {old mid new : A → Links A} → IsFingerFixed r bits lives n k old mid → AreFixed r bits lives rest mid new → AreFixed r bits lives ((n, k) ∷ rest) old new
+    fixes : {n : A} {k : ℕ} {rest : List (A × ℕ)} {old mid new : A → Links A} → IsFingerFixed r bits lives n k old mid
+        → AreFixed r bits lives rest mid new → AreFixed r bits lives ((n, k) ∷ rest) old new
 
   -- part 3: each node fixes each of its fingers
   pub record AreFingersFixed (r bits : ℕ) (lives : A → Bool) (ns : List A) (old new : A → Links A) : Type 0 where

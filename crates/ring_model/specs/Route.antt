@@ -13,12 +13,14 @@ pub record Route (A : Type 0) : Type 0 where
 module _ {A : Type 0} (place : A → ℕ) where
   -- the entries that aren't strictly between n and the key, and n where the list isn't full
   abbrev pub owners_part : ℕ → A → List A → ℕ → List A
-  owners_part r n list key = filter (λ m. not (is_inside (place n) (place m) key)) list ++ (if nat_lt (length list) (2 * r) then n ∷ [] else [])
+  owners_part r n list key = filter (λ m. not (is_inside (place n) (place m) key)) list
+      ++ (if nat_lt (length list) (2 * r) then n ∷ [] else [])
 
   -- x put where it belongs among entries that stand nearest to the key first; an entry at its place keeps it out
   abbrev pub with_nearer : ℕ → A → List A → List A
   with_nearer key x [] = x ∷ []
-  with_nearer key x (y ∷ ys) = if nat_eq (place x) (place y) then y ∷ ys else if is_inside (place y) (place x) key then x ∷ y ∷ ys else y ∷ with_nearer key x ys
+  with_nearer key x (y ∷ ys) = if nat_eq (place x) (place y) then y ∷ ys else if is_inside (place y) (place x) key then x ∷ y ∷ ys else y
+      ∷ with_nearer key x ys
 
   -- those of the entries that are strictly between n and the key, put among others
   abbrev pub nearer_with : A → ℕ → List A → List A → List A
@@ -35,7 +37,8 @@ module _ {A : Type 0} (place : A → ℕ) where
 
   -- among a node's entries and fingers one place has one node
   abbrev pub HasOneAtEach : Links A → Type 0
-  HasOneAtEach links = (x y : A) → IsAmong x (links.list ++ links.fingers) → IsAmong y (links.list ++ links.fingers) → place x ≡ place y → x ≡ y
+  HasOneAtEach links = (x y : A) → IsAmong x (links.list ++ links.fingers) → IsAmong y (links.list ++ links.fingers) → place x ≡ place y
+      → x ≡ y
 
   -- each is nearer to the key than those after it
   abbrev pub IsNearestFirst : ℕ → List A → Type 0

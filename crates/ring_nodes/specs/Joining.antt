@@ -17,7 +17,8 @@ use Rattle.ring_nodes.specs.NodesState.{NodesState, made_peers}
 
 -- a look-up of the key through that node, by asks in the world, has this result
 abbrev pub Finds : (Key → List ℕ → Option Judged) → World → Key → Peer → Result (List Peer) Miss → World → Type 0
-Finds judged w key through result next = (found : Option (List Peer)) × (outcome key found ≡ result) × LooksUp judged w key (through ∷ []) found next
+Finds judged w key through result next =
+    (found : Option (List Peer)) × (outcome key found ≡ result) × LooksUp judged w key (through ∷ []) found next
 
 -- no node has the peer's identifier, which is that of its number
 pub record IsNewPeer (s : NodesState) (p : Peer) : Type 0 where
@@ -32,11 +33,14 @@ pub record IsNewNode (s : NodesState) (n : Node) : Type 0 where
 abbrev pub with_node_more : NodesState → Node → NodesState
 with_node_more s n = record s { nodes = s.nodes ++ n ∷ [] }
 
--- the peer's own look-up through that node, and the world with the node that takes the owners for its list, or without one where there are none
+-- the peer's own look-up through that node, and the world with the node that takes the owners for its list, or without one where there are
+-- none
 abbrev pub JoinsThrough : (Key → List ℕ → Option Judged) → World → ℕ → Peer → Peer → Join → World → Type 0
 JoinsThrough judged w r p through join.Joined next =
-    (q : Peer) × (qs : List Peer) × (mid : World) × LooksUp judged w p.id (through ∷ []) (Some (q ∷ qs)) mid × (next ≡ with_new_node mid (joined_node p r (q ∷ qs)))
-JoinsThrough judged w r p through join.Failed next = (found : Option (List Peer)) × LooksUp judged w p.id (through ∷ []) found next × FindsNobody found
+    (q : Peer) × (qs : List Peer) × (mid : World) × LooksUp judged w p.id (through ∷ []) (Some (q ∷ qs)) mid
+    × (next ≡ with_new_node mid (joined_node p r (q ∷ qs)))
+JoinsThrough judged w r p through join.Failed next =
+    (found : Option (List Peer)) × LooksUp judged w p.id (through ∷ []) found next × FindsNobody found
 JoinsThrough judged w r p through _ next = ⊥
 
 -- what the line of a join comes to, and the world behind it

@@ -13,7 +13,8 @@ use Rattle.world_model.specs.World.{World}
 use Rattle.ring_nodes.specs.NodesState.{IsNodesOf, NamesOnly, NodesState, made_peers, with_nodes}
 
 -- the ask has its fate, its answer names made peers alone, and the machine heard it
-pub record IsHeard {S : Type 0} (Hears : S → S → Answer → Type 0) (judged : Key → List ℕ → Option Judged) (node : Peer) (question : Ask) (old new : NodesState) (before after : S) : Type 0 where
+pub record IsHeard {S : Type 0} (Hears : S → S → Answer → Type 0) (judged : Key → List ℕ → Option Judged) (node : Peer) (question : Ask)
+    (old new : NodesState) (before after : S) : Type 0 where
   pub given : Answer
   pub fate : (w : World) → IsNodesOf w old → FateOf judged w node question given (with_nodes w new)
   pub named : NamesOnly (made_peers old) given

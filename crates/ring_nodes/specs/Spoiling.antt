@@ -9,7 +9,9 @@ use Rattle.world_model.specs.World.{World, meets}
 -- the node is the old one with that byte changed, and these are the block's bytes then: none where no such byte is held
 abbrev pub IsSpoiled : Key → ℕ → ℕ → Node → Node → Option (List ℕ) → Type 0
 IsSpoiled key offset byte old new None = (with_byte key offset byte old.blocks ≡ None) × (new ≡ old)
-IsSpoiled key offset byte old new (Some bytes) = (with_byte key offset byte old.blocks ≡ Some new.blocks) × (new ≡ record old { blocks = new.blocks }) × (bytes_at key new.blocks ≡ Some bytes)
+IsSpoiled key offset byte old new (Some bytes) =
+    (with_byte key offset byte old.blocks ≡ Some new.blocks) × (new ≡ record old { blocks = new.blocks })
+    × (bytes_at key new.blocks ≡ Some bytes)
 
 -- a line that damages a block: these bytes are met then, or it is refused
 abbrev pub damaged_world : World → Option (List ℕ) → Outcome World

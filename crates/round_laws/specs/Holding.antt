@@ -28,11 +28,13 @@ Tells owns owners = (m : Peer) → owns m ≡ true ↔ IsAmong m owners
 
 module _ {judged : Key → List ℕ → Option Judged} {r : ℕ} where
   -- there are owners, and each that was asked holds the block then, or a newer head
-  abbrev pub IsTaken : {p : Peer} {key : Key} {block : Block} {w after : World} {dropped : Bool} → PutsAround judged p r key block w dropped after → Type 0
+  abbrev pub IsTaken : {p : Peer} {key : Key} {block : Block} {w after : World} {dropped : Bool}
+      → PutsAround judged p r key block w dropped after → Type 0
   IsTaken (no_route found after looks nobody) = ⊥
   IsTaken (puts q qs asks mid after acknowledged dropped looks put own fates goes) = AllByRecursion (λ s. holds s.1 ≡ true) asks
 
-  abbrev pub AllTaken : {p : Peer} {blocks : Blocks} {w after : World} {dropped : List Key} → PutsAll judged p r blocks w dropped after → Type 0
+  abbrev pub AllTaken : {p : Peer} {blocks : Blocks} {w after : World} {dropped : List Key} → PutsAll judged p r blocks w dropped after
+      → Type 0
   AllTaken all_put = ⊤
   AllTaken (keeps one rest) = IsTaken one × AllTaken rest
   AllTaken (drops one rest) = IsTaken one × AllTaken rest

@@ -1,4 +1,5 @@
--- The ring of a world: who lives and what each node knows, as the definitions of rings take them, and what holds of the nodes of each world of a script.
+-- The ring of a world: who lives and what each node knows, as the definitions of rings take them, and what holds of the nodes of each world
+-- of a script.
 use Rattle.std.specs.Prelude.{◌≡◌, ℕ, suc, ◌<◌, ◌≤◌, true, List, [], ◌∷◌, map, Contains, Some, None, IfSome, ⊤}
 use Rattle.std.specs.List.{AllByRecursion}
 use Rattle.std.specs.Option.{option_map_or}
@@ -61,4 +62,5 @@ BeforesLive w = (p b : Peer) → lives_in w p ≡ true → (links_in w p).before
 -- so many nodes stopped, one after the other, and nothing else happened
 pub data Stop : World → ℕ → World → Type 0 where
   none : {w : World} → Stop w 0 w
-  one_more : {w mid next : World} {k : ℕ} {output : List ℕ} (n : Node) → Stop w k mid → IsAmong n mid.nodes → stop_line mid (Some n) ≡ Goes next output → Stop w (suc k) next
+  one_more : {w mid next : World} {k : ℕ} {output : List ℕ} (n : Node) → Stop w k mid → IsAmong n mid.nodes
+      → stop_line mid (Some n) ≡ Goes next output → Stop w (suc k) next

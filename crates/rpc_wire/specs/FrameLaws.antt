@@ -36,7 +36,8 @@ abbrev pub IsBeginning : List ℕ → Type 0
 IsBeginning rest = (framed : Framed) × (more : List ℕ) × (rest ++ more ≡ marked framed) × (more ≢ [])
 
 abbrev pub RestsAreBeginnings : Type 0
-RestsAreBeginnings = (bytes : List ℕ) (messages : List (List ℕ)) (rest : List ℕ) → AllByRecursion IsByte bytes → IsSplit bytes messages rest → IsBeginning rest
+RestsAreBeginnings = (bytes : List ℕ) (messages : List (List ℕ)) (rest : List ℕ) → AllByRecursion IsByte bytes → IsSplit bytes messages rest
+    → IsBeginning rest
 
 -- ---- what is done with a reader, one act after the other
 
@@ -77,5 +78,6 @@ AllAreGotten = (acts : List Act) (start reader : Frames) → IsAfter [] [] start
 
 -- so two readers of the same bytes get the same messages, however the bytes were cut, and whatever was taken between
 abbrev pub CuttingIsFree : Type 0
-CuttingIsFree = (acts others : List Act) (start reader second other : Frames) → IsAfter [] [] start → DoEach acts start reader → IsAfter [] [] second → DoEach others second other
+CuttingIsFree = (acts others : List Act) (start reader second other : Frames) → IsAfter [] [] start → DoEach acts start reader
+    → IsAfter [] [] second → DoEach others second other
     → fed_in acts ≡ fed_in others → taken_in acts ++ reader.waiting ≡ taken_in others ++ other.waiting

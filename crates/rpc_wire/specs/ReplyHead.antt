@@ -1,7 +1,8 @@
 -- What stands in a reply in front of a procedure's result (RFC 5531, section 9).
 use Rattle.std.specs.Prelude.{◌≡◌, ◌≢◌, ℕ, List, ◌++◌}
 use Rattle.wire_model.specs.Xdr.{word}
-use Rattle.wire_model.specs.Rpc.{Outcome, Success, ProgramUnavailable, ProgramMismatch, ProcedureUnavailable, GarbageArguments, SystemError, RpcMismatch, BadCredential, accepted, denied, reply}
+use Rattle.wire_model.specs.Rpc.{Outcome, Success, ProgramUnavailable, ProgramMismatch, ProcedureUnavailable, GarbageArguments, SystemError}
+use Rattle.wire_model.specs.Rpc.{RpcMismatch, BadCredential, accepted, denied, reply}
 use Rattle.rpc_wire.specs.declared.reply.ReplyHead.{ReplyHead}
 use Rattle.rpc_wire.specs.declared.reply.ReplyHead.TheVariants as head
 

@@ -14,8 +14,8 @@ use Rattle.script_world.specs.PartsState.{GoesOn, PartsState}
 use Rattle.script_world.specs.Running.{IsSceneIn}
 use Rattle.script_machine.specs.WorldState.{OpenState}
 
--- All steps up to the end of a session in hand lead to a scene that has said something, which is shown. The world has these parts once that counts for later
--- lines, whichever sessions are open then.
+-- All steps up to the end of a session in hand lead to a scene that has said something, which is shown. The world has these parts once that
+-- counts for later lines, whichever sessions are open then.
 pub record IsEnd (after : PartsState) (text : List ℕ) (name : List ℕ) (c : Scene) (r : ℕ) : Type 0 where
   pub end : Scene
   pub said : Said
@@ -24,7 +24,8 @@ pub record IsEnd (after : PartsState) (text : List ℕ) (name : List ℕ) (c : S
   pub shown : text ≡ shown_end end.session said
   pub sessions : end.world.sessions ≡ c.world.sessions
   pub ring : end.world.replicas ≡ c.world.replicas
-  pub counts : (others : List NamedSession) → GoesOn (record end.world { sessions = others }) after (replied (record end.world { sessions = others }) said)
+  pub counts : (others : List NamedSession)
+      → GoesOn (record end.world { sessions = others }) after (replied (record end.world { sessions = others }) said)
 
 -- so from each scene that the code has
 abbrev pub EndsIn : List ℕ → PartsState → CallState → PartsState → List ℕ → Type 0

@@ -78,5 +78,6 @@ module _ {P : Type 0} (taker : Taker P) (ring : Ring) (p : P) where
         → Link (record { read = read; acts = acts; written = sent (replies ++ reply ∷ []) }) ended.Memory q
     -- Memory was wanting before anything was read, or for more than what was served: for a piece, or for a session that could not begin.
     stopped : {read : List ℕ} {messages replies : List (List ℕ)} {acts : List Act} {q : P} {before : Between P} (rest : List ℕ)
-        → (read ≡ []) ⊎ (rest ≢ []) → Begins read messages rest → HasServed messages acts replies before → MayHaveLooked taker before.taker q
+        → (read ≡ []) ⊎ (rest ≢ []) → Begins read messages rest → HasServed messages acts replies before
+        → MayHaveLooked taker before.taker q
         → Link (record { read = read; acts = acts; written = sent replies }) ended.Memory q

@@ -29,7 +29,8 @@ pub record ComesTo (s : Standing) (brought : List Brought) : Type 0 where
 
 -- Of any bytes it is known whether they are a part of a snapshot, and of any blocks whether they are a whole one.
 pub record SnapshotsAreDecided : Type 0 where
-  pub parts : (part : Part) (block : List ℕ) → ((named : List (Part × Key)) × Names part block named) ⊎ ((named : List (Part × Key)) → Names part block named → ⊥)
+  pub parts : (part : Part) (block : List ℕ)
+      → ((named : List (Part × Key)) × Names part block named) ⊎ ((named : List (Part × Key)) → Names part block named → ⊥)
   pub wholes : (blocks : List (List ℕ)) → ((b : Basis) × AreOf blocks b) ⊎ ((b : Basis) → AreOf blocks b → ⊥)
 
 -- ---- laws
@@ -38,12 +39,15 @@ pub record SnapshotsAreDecided : Type 0 where
 abbrev pub RefreshBegins : Type 0
 RefreshBegins = (s : Standing) → ComesTo s []
 
--- Whatever came of what is wanted, the refresh goes on. That a snapshot is one can be told is premised where there is one to load; nothing else is.
+-- Whatever came of what is wanted, the refresh goes on. That a snapshot is one can be told is premised where there is one to load; nothing
+-- else is.
 abbrev pub RefreshGoesOn : Type 0
-RefreshGoesOn = (s : Standing) (brought : List Brought) (notes : List Note) (given : Refresh) (want : Want) (came : Brought) → IfSome s.to_load (λ root. SnapshotsAreDecided)
+RefreshGoesOn = (s : Standing) (brought : List Brought) (notes : List Note) (given : Refresh) (want : Want) (came : Brought)
+    → IfSome s.to_load (λ root. SnapshotsAreDecided)
     → Refreshes s brought notes given (Needs want) → IsOfWant want came → ComesTo s (brought ++ came ∷ [])
 
 -- A refresh that has failed was brought nothing last, for that reason.
 abbrev pub FailsByTheLast : Type 0
-FailsByTheLast = (s : Standing) (brought : List Brought) (notes : List Note) (given : Refresh) (miss : Miss) → Refreshes s brought notes given (FailsBy miss)
+FailsByTheLast = (s : Standing) (brought : List Brought) (notes : List Note) (given : Refresh) (miss : Miss)
+    → Refreshes s brought notes given (FailsBy miss)
     → (before : List Brought) × (last : Brought) × (brought ≡ before ++ last ∷ []) × IsMissed miss last

@@ -28,7 +28,8 @@ use Rattle.session_model.specs.Asking.{IsBegun, AsksNext, AsksOneNext, BeginsNoO
 abbrev pub GetsAreOne : Type 0
 GetsAreOne = (judged : Key → List ℕ → Option Judged) (r : ℕ) (entries : List Peer) (want : Want)
     → BeginsNoOther (IsGet judged r entries want) × AsksOneNext (wanted_key want) (ask.Get (wanted_key want)) (IsGet judged r entries want)
-    × GoesOnAlways (wanted_key want) (ask.Get (wanted_key want)) (IsGet judged r entries want) × (entries ≢ [] → IsBegun (IsGet judged r entries want) [])
+    × GoesOnAlways (wanted_key want) (ask.Get (wanted_key want)) (IsGet judged r entries want)
+    × (entries ≢ [] → IsBegun (IsGet judged r entries want) [])
 
 abbrev pub PutsAreOne : Type 0
 PutsAreOne = (judged : Key → List ℕ → Option Judged) (r : ℕ) (s : Session) (p : Post)
@@ -53,19 +54,23 @@ IsWholePutOfPost r entries p asks = (came : Result Bool Miss) × IsPutOfPost r e
 
 -- where some node is asked next, what was asked isn't whole
 abbrev pub NextIsNotWhole : Key → Ask → (List Heard → Type 0) → Type 0
-NextIsNotWhole key of_owners Whole = (trail : List Heard) (node : Peer) (question : Ask) → AsksNext key of_owners Whole trail node question → Whole trail → ⊥
+NextIsNotWhole key of_owners Whole =
+    (trail : List Heard) (node : Peer) (question : Ask) → AsksNext key of_owners Whole trail node question → Whole trail → ⊥
 
 abbrev pub HeadNextIsNotWhole : Type 0
-HeadNextIsNotWhole = (judge : List ℕ → Option Judged) (key : Key) (r : ℕ) (entries : List Peer) → NextIsNotWhole key (ask.Get key) (IsWholeGetOfHead judge key r entries)
+HeadNextIsNotWhole = (judge : List ℕ → Option Judged) (key : Key) (r : ℕ) (entries : List Peer)
+    → NextIsNotWhole key (ask.Get key) (IsWholeGetOfHead judge key r entries)
 
 abbrev pub BlockNextIsNotWhole : Type 0
 BlockNextIsNotWhole = (key : Key) (r : ℕ) (entries : List Peer) → NextIsNotWhole key (ask.Get key) (IsWholeGetOfBlock key r entries)
 
 abbrev pub PutNextIsNotWhole : Type 0
-PutNextIsNotWhole = (what : PutKind) (bytes : List ℕ) (key : Key) (r : ℕ) (entries : List Peer) → NextIsNotWhole key (question_of what bytes key) (IsWholePutOf what bytes key r entries)
+PutNextIsNotWhole = (what : PutKind) (bytes : List ℕ) (key : Key) (r : ℕ) (entries : List Peer)
+    → NextIsNotWhole key (question_of what bytes key) (IsWholePutOf what bytes key r entries)
 
 abbrev pub GetNextIsNotWhole : Type 0
-GetNextIsNotWhole = (judged : Key → List ℕ → Option Judged) (r : ℕ) (entries : List Peer) (want : Want) → NextIsNotWhole (wanted_key want) (ask.Get (wanted_key want)) (IsGet judged r entries want)
+GetNextIsNotWhole = (judged : Key → List ℕ → Option Judged) (r : ℕ) (entries : List Peer) (want : Want)
+    → NextIsNotWhole (wanted_key want) (ask.Get (wanted_key want)) (IsGet judged r entries want)
 
 abbrev pub PostNextIsNotWhole : Type 0
 PostNextIsNotWhole = (r : ℕ) (entries : List Peer) (p : Post) → NextIsNotWhole p.key (put_question p) (IsWholePutOfPost r entries p)
@@ -75,16 +80,19 @@ abbrev pub NoneIsWhole : List Peer → (List Heard → Type 0) → Type 0
 NoneIsWhole entries Whole = entries ≢ [] → Whole [] → ⊥
 
 abbrev pub NoneIsWholeHead : Type 0
-NoneIsWholeHead = (judge : List ℕ → Option Judged) (key : Key) (r : ℕ) (entries : List Peer) → NoneIsWhole entries (IsWholeGetOfHead judge key r entries)
+NoneIsWholeHead = (judge : List ℕ → Option Judged) (key : Key) (r : ℕ) (entries : List Peer)
+    → NoneIsWhole entries (IsWholeGetOfHead judge key r entries)
 
 abbrev pub NoneIsWholeBlock : Type 0
 NoneIsWholeBlock = (key : Key) (r : ℕ) (entries : List Peer) → NoneIsWhole entries (IsWholeGetOfBlock key r entries)
 
 abbrev pub NoneIsWholePut : Type 0
-NoneIsWholePut = (what : PutKind) (bytes : List ℕ) (key : Key) (r : ℕ) (entries : List Peer) → NoneIsWhole entries (IsWholePutOf what bytes key r entries)
+NoneIsWholePut = (what : PutKind) (bytes : List ℕ) (key : Key) (r : ℕ) (entries : List Peer)
+    → NoneIsWhole entries (IsWholePutOf what bytes key r entries)
 
 abbrev pub NoneIsWholeGet : Type 0
-NoneIsWholeGet = (judged : Key → List ℕ → Option Judged) (r : ℕ) (entries : List Peer) (want : Want) → NoneIsWhole entries (IsGet judged r entries want)
+NoneIsWholeGet = (judged : Key → List ℕ → Option Judged) (r : ℕ) (entries : List Peer) (want : Want)
+    → NoneIsWhole entries (IsGet judged r entries want)
 
 abbrev pub NoneIsWholePost : Type 0
 NoneIsWholePost = (r : ℕ) (entries : List Peer) (p : Post) → NoneIsWhole entries (IsWholePutOfPost r entries p)
@@ -93,29 +101,39 @@ NoneIsWholePost = (r : ℕ) (entries : List Peer) (p : Post) → NoneIsWhole ent
 
 -- what a machine of a get of heads that are judged so is to ask is the next of its get
 abbrev pub HeadAsksNext : Type 0 → Type 0
-HeadAsksNext J = (judges : Judges J) (entries : List Peer) (trail : List Heard) (s : HeadState J) (node : Peer) (question : Ask) → HeadIsAfter judges entries trail s → head_awaited s ≡ Some (node, question)
-    → AsksNext s.course.look.key (ask.Get s.course.look.key) (IsWholeGetOfHead (judges s.judge s.course.look.key) s.course.look.key s.course.replicas entries) trail node question
+HeadAsksNext J = (judges : Judges J) (entries : List Peer) (trail : List Heard) (s : HeadState J) (node : Peer) (question : Ask)
+    → HeadIsAfter judges entries trail s → head_awaited s ≡ Some (node, question)
+    → AsksNext s.course.look.key (ask.Get s.course.look.key)
+    (IsWholeGetOfHead (judges s.judge s.course.look.key) s.course.look.key s.course.replicas entries) trail node question
 
 abbrev pub BlockAsksNext : Type 0
-BlockAsksNext = (entries : List Peer) (trail : List Heard) (s : BlockState) (node : Peer) (question : Ask) → BlockIsAfter entries trail s → block_awaited s ≡ Some (node, question)
-    → AsksNext s.course.look.key (ask.Get s.course.look.key) (IsWholeGetOfBlock s.course.look.key s.course.replicas entries) trail node question
+BlockAsksNext = (entries : List Peer) (trail : List Heard) (s : BlockState) (node : Peer) (question : Ask) → BlockIsAfter entries trail s
+    → block_awaited s ≡ Some (node, question)
+    → AsksNext s.course.look.key (ask.Get s.course.look.key)
+    (IsWholeGetOfBlock s.course.look.key s.course.replicas entries) trail node question
 
 abbrev pub PutAsksNext : Type 0
-PutAsksNext = (entries : List Peer) (trail : List Heard) (s : PutState) (node : Peer) (question : Ask) → PutIsAfter entries trail s → put_awaited s ≡ Some (node, question)
-    → AsksNext s.course.look.key (question_of s.what s.bytes s.course.look.key) (IsWholePutOf s.what s.bytes s.course.look.key s.course.replicas entries) trail node question
+PutAsksNext = (entries : List Peer) (trail : List Heard) (s : PutState) (node : Peer) (question : Ask) → PutIsAfter entries trail s
+    → put_awaited s ≡ Some (node, question)
+    → AsksNext s.course.look.key (question_of s.what s.bytes s.course.look.key)
+    (IsWholePutOf s.what s.bytes s.course.look.key s.course.replicas entries) trail node question
 
 -- ---- the same of a session's gets and puts
 
 -- of the heads of an owner's log
 abbrev pub HeadsAreAskedNext : Type 0 → Type 0
-HeadsAreAskedNext J = (judges : Judges J) (entries : List Peer) (trail : List Heard) (s : HeadState J) (owner : PubKey) (node : Peer) (question : Ask) → HeadIsAfter judges entries trail s
+HeadsAreAskedNext J = (judges : Judges J) (entries : List Peer) (trail : List Heard) (s : HeadState J) (owner : PubKey) (node : Peer)
+    (question : Ask) → HeadIsAfter judges entries trail s
     → s.course.look.key ≡ head_key_of owner → head_awaited s ≡ Some (node, question)
-    → AsksNext (head_key_of owner) (ask.Get (head_key_of owner)) (IsGet (judges s.judge) s.course.replicas entries (Heads owner)) trail node question
+    → AsksNext (head_key_of owner) (ask.Get (head_key_of owner))
+    (IsGet (judges s.judge) s.course.replicas entries (Heads owner)) trail node question
 
 -- of a content block, whatever judges heads
 abbrev pub ContentIsAskedNext : Type 0
-ContentIsAskedNext = (judged : Key → List ℕ → Option Judged) (entries : List Peer) (trail : List Heard) (s : BlockState) (node : Peer) (question : Ask) → BlockIsAfter entries trail s → block_awaited s ≡ Some (node, question)
-    → AsksNext s.course.look.key (ask.Get s.course.look.key) (IsGet judged s.course.replicas entries (Content s.course.look.key)) trail node question
+ContentIsAskedNext = (judged : Key → List ℕ → Option Judged) (entries : List Peer) (trail : List Heard) (s : BlockState) (node : Peer)
+    (question : Ask) → BlockIsAfter entries trail s → block_awaited s ≡ Some (node, question)
+    → AsksNext s.course.look.key (ask.Get s.course.look.key)
+    (IsGet judged s.course.replicas entries (Content s.course.look.key)) trail node question
 
 -- the machine puts this post
 pub record PutsPost (s : PutState) (p : Post) : Type 0 where
@@ -124,5 +142,6 @@ pub record PutsPost (s : PutState) (p : Post) : Type 0 where
   pub what : s.what ≡ (if is_head p.kind then put.Head else put.Block)
 
 abbrev pub PostIsAskedNext : Type 0
-PostIsAskedNext = (entries : List Peer) (trail : List Heard) (s : PutState) (p : Post) (node : Peer) (question : Ask) → PutIsAfter entries trail s → PutsPost s p → put_awaited s ≡ Some (node, question)
+PostIsAskedNext = (entries : List Peer) (trail : List Heard) (s : PutState) (p : Post) (node : Peer) (question : Ask)
+    → PutIsAfter entries trail s → PutsPost s p → put_awaited s ≡ Some (node, question)
     → AsksNext p.key (put_question p) (IsWholePutOfPost s.course.replicas entries p) trail node question

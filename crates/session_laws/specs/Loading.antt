@@ -28,11 +28,13 @@ pub record IsSnapshotOf (met : List (List ℕ)) (view : View) (knew : List Recor
 
 -- Where names tell the blocks apart, what is loaded by a snapshot's name is what it was made of.
 abbrev pub LoadedIsMade : Type 0
-LoadedIsMade = (met : List (List ℕ)) (view : View) (knew : List Record) (root : Key) (snapshot : IsSnapshotOf met view knew root) (brought : List Brought) (b : Basis)
+LoadedIsMade = (met : List (List ℕ)) (view : View) (knew : List Record) (root : Key) (snapshot : IsSnapshotOf met view knew root)
+    (brought : List Brought) (b : Basis)
     → NamesTellApart met → AreMet met brought → LoadsFor (Some root) brought (Loaded (Some b)) → b ≡ snapshot.made
 
 -- So a basis that a refresh goes by stands for a part of what was known.
 abbrev pub BasisIsKnown : Type 0
-BasisIsKnown = (met : List (List ℕ)) (s : Standing) (knew : List Record) (brought : List Brought) (notes : List Note) (given : Refresh) (end : RefreshEnd)
+BasisIsKnown = (met : List (List ℕ)) (s : Standing) (knew : List Record) (brought : List Brought) (notes : List Note) (given : Refresh)
+    (end : RefreshEnd)
     → NamesTellApart met → AreMet met brought → IfSome s.to_load (IsSnapshotOf met s.view knew) → Refreshes s brought notes given end
     → IfSome given.basis (StandsWithin s.view knew)

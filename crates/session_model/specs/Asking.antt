@@ -12,8 +12,10 @@ use Rattle.dht_ids.specs.Asked.{told}
 abbrev pub IsBegun : (List Heard → Type 0) → List Heard → Type 0
 IsBegun Whole asked = (Whole asked → ⊥) × (more : List Heard) × Whole (asked ++ more)
 
--- after this part of a trail that node is asked, for the route to the key or what its owners are asked: a whole one goes on so, whatever is answered
-pub record AsksNext (key : Key) (of_owners : Ask) (Whole : List Heard → Type 0) (trail : List Heard) (node : Peer) (question : Ask) : Type 0 where
+-- after this part of a trail that node is asked, for the route to the key or what its owners are asked: a whole one goes on so, whatever is
+-- answered
+pub record AsksNext (key : Key) (of_owners : Ask) (Whole : List Heard → Type 0) (trail : List Heard) (node : Peer)
+    (question : Ask) : Type 0 where
   pub is_of : (question ≡ ask.Route key) ⊎ (question ≡ of_owners)
   pub answer : Answer
   pub more : List Heard
@@ -27,10 +29,12 @@ BeginsNoOther Whole = (asked more : List Heard) → Whole asked → Whole (asked
 
 -- one ask is the next
 abbrev pub AsksOneNext : Key → Ask → (List Heard → Type 0) → Type 0
-AsksOneNext key of_owners Whole = (asked : List Heard) (node other : Peer) (question another : Ask) → AsksNext key of_owners Whole asked node question → AsksNext key of_owners Whole asked other another
+AsksOneNext key of_owners Whole = (asked : List Heard) (node other : Peer) (question another : Ask)
+    → AsksNext key of_owners Whole asked node question → AsksNext key of_owners Whole asked other another
     → (node ≡ other) × (question ≡ another)
 
 -- whatever is answered, it goes on, or is whole
 abbrev pub GoesOnAlways : Key → Ask → (List Heard → Type 0) → Type 0
-GoesOnAlways key of_owners Whole = (asked : List Heard) (node : Peer) (question : Ask) (answer : Answer) → AsksNext key of_owners Whole asked node question
+GoesOnAlways key of_owners Whole =
+    (asked : List Heard) (node : Peer) (question : Ask) (answer : Answer) → AsksNext key of_owners Whole asked node question
     → Whole (asked ++ told node question answer) ⊎ IsBegun Whole (asked ++ told node question answer)

@@ -36,8 +36,10 @@ fresh_session by message entries standing stage = record {
 
 -- a message that reaches no turn is answered at once; else the session refreshes
 pub data Begins (by message : List ℕ) (entries : List Peer) (standing : Standing) : Session → Type 0 where
-  alone : (given : Option (List ℕ)) → IsByMessage standing.view message given → Begins by message entries standing (fresh_session by message entries standing (Over (Some (said_bare given))))
-  refreshes : (xid : ℕ) (asked : Asked) → Asks standing.view message xid asked → Begins by message entries standing (fresh_session by message entries standing Refreshing)
+  alone : (given : Option (List ℕ)) → IsByMessage standing.view message given
+      → Begins by message entries standing (fresh_session by message entries standing (Over (Some (said_bare given))))
+  refreshes : (xid : ℕ) (asked : Asked) → Asks standing.view message xid asked
+      → Begins by message entries standing (fresh_session by message entries standing Refreshing)
 
 -- a session that only publishes these posts
 abbrev pub publishing_session : List ℕ → List Peer → Standing → List Post → Session
@@ -63,9 +65,11 @@ HasRefreshed s notes given = (s.stage ≡ Refreshing) × Refreshes s.standing (b
 
 -- The refresh has failed, or it goes on. Nobody sees this step.
 pub data Fails (s : Session) : Session → Type 0 where
-  fails : (notes : List Note) (given : Refresh) (miss : Miss) (xid : ℕ) (asked : Asked) → s.stage ≡ Refreshing → Refreshes s.standing (brought_in s.parts) notes given (FailsBy miss)
+  fails : (notes : List Note) (given : Refresh) (miss : Miss) (xid : ℕ) (asked : Asked) → s.stage ≡ Refreshing
+      → Refreshes s.standing (brought_in s.parts) notes given (FailsBy miss)
       → Asks s.standing.view s.message xid asked → Fails s (ended s (said_of xid (missed_reply asked miss)) notes (Some miss))
-  goes_on : ((notes : List Note) (given : Refresh) (miss : Miss) → s.stage ≡ Refreshing → Refreshes s.standing (brought_in s.parts) notes given (FailsBy miss) → ⊥) → Fails s s
+  goes_on : ((notes : List Note) (given : Refresh) (miss : Miss) → s.stage ≡ Refreshing
+      → Refreshes s.standing (brought_in s.parts) notes given (FailsBy miss) → ⊥) → Fails s s
 
 -- the turn was refused
 abbrev pub IsRefusal : TurnEnd → Type 0
@@ -108,9 +112,12 @@ pub record IsTurnIn {S : Type 0} (signs : Signing S) (met : List (List ℕ)) (tu
 
 -- Where memory is wanting while a session refreshes, it is over: it has no turn and puts nothing, and may leave out notes.
 pub data LacksMemory (s : Session) : Session → Type 0 where
-  lacks : (notes shown : List Note) (given : Refresh) (end : RefreshEnd) (xid : ℕ) (asked : Asked) → s.stage ≡ Refreshing → Refreshes s.standing (brought_in s.parts) notes given end
-      → Asks s.standing.view s.message xid asked → (rest : List Note) → shown ++ rest ≡ notes → LacksMemory s (ended s (said_no_memory xid) shown None)
+  lacks : (notes shown : List Note) (given : Refresh) (end : RefreshEnd) (xid : ℕ) (asked : Asked) → s.stage ≡ Refreshing
+      → Refreshes s.standing (brought_in s.parts) notes given end
+      → Asks s.standing.view s.message xid asked → (rest : List Note) → shown ++ rest ≡ notes
+      → LacksMemory s (ended s (said_no_memory xid) shown None)
 
 -- all posts were put, and the agent drops those that were acknowledged
 pub data Settles {S : Type 0} (a : Agent S) (s : Session) : Agent S → Session → Type 0 where
-  settles : (said : Option Said) (acks : List Ack) → s.stage ≡ Publishing said [] acks → Settles a s (settled a acks) (record s { stage = Over said })
+  settles : (said : Option Said) (acks : List Ack) → s.stage ≡ Publishing said [] acks
+      → Settles a s (settled a acks) (record s { stage = Over said })

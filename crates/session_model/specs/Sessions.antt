@@ -1,5 +1,6 @@
 -- A session: one call of a participant, or the publishing of its posts alone. It refreshes, has one turn, and publishes.
-use Rattle.std.specs.Prelude.{◌≡◌, ℕ, Bool, true, false, ◌&&◌, not, List, [], ◌∷◌, ◌++◌, filter, Option, Some, None, Result, Ok, Err, if◌then◌else◌}
+use Rattle.std.specs.Prelude.{◌≡◌, ℕ, Bool, true, false, ◌&&◌, not, List, [], ◌∷◌, ◌++◌, filter, Option, Some, None, Result, Ok, Err}
+use Rattle.std.specs.Prelude.{if◌then◌else◌}
 use Rattle.std.specs.Option.{option_map_or}
 use Rattle.std.specs.List.{find}
 use Rattle.ivy_base.specs.declared.key.Key.{Key}
@@ -42,8 +43,9 @@ pub data Stage : Type 0 where
   Publishing : (said : Option Said) (posts : List Post) (acks : List Ack) → Stage
   Over : (said : Option Said) → Stage
 
--- A session: whose it is, its message, the nodes that it knows, the standing with which it last began, what it was brought since and by which asks (its trail), the asks of the
--- get or put on its way, how often it began anew, how far it has come, what is noted, and why its refresh failed, where it did.
+-- A session: whose it is, its message, the nodes that it knows, the standing with which it last began, what it was brought since and by
+-- which asks (its trail), the asks of the get or put on its way, how often it began anew, how far it has come, what is noted, and why its
+-- refresh failed, where it did.
 pub record Session : Type 0 where
   pub by : List ℕ
   pub message : List ℕ
@@ -118,28 +120,34 @@ wanted_key (Content key) = key
 module _ (judged : Key → List ℕ → Option Judged) (replicas : ℕ) where
   -- the session's refresh wants this next
   abbrev pub Wants : Session → Want → Type 0
-  Wants s want = (s.stage ≡ Refreshing) × (notes : List Note) × (given : Refresh) × Refreshes s.standing (brought_in s.parts) notes given (Needs want)
+  Wants s want = (s.stage ≡ Refreshing) × (notes : List Note) × (given : Refresh)
+      × Refreshes s.standing (brought_in s.parts) notes given (Needs want)
 
   -- it is a block that the session's posts have, or else the cache
   pub data Takes (s : Session) (cache : Cache) : Session → Cache → Type 0 where
     posted : (key : Key) (bytes : List ℕ) → Wants s (Content key) → s.current ≡ [] → pending_block key s.standing.pending ≡ Some bytes
         → Takes s cache (with_part s (BlockOf key (Ok bytes)) []) cache
-    cached : (key : Key) (bytes : List ℕ) → Wants s (Content key) → s.current ≡ [] → pending_block key s.standing.pending ≡ None → block_of key cache ≡ Some bytes
+    cached : (key : Key) (bytes : List ℕ) → Wants s (Content key) → s.current ≡ [] → pending_block key s.standing.pending ≡ None
+        → block_of key cache ≡ Some bytes
         → Takes s cache (with_part s (BlockOf key (Ok bytes)) []) (moved_to_front key cache)
 
   pub data TakesAll : Session → Cache → Session → Cache → Type 0 where
     none : {s : Session} {cache : Cache} → ((t : Session) (after : Cache) → Takes s cache t after → ⊥) → TakesAll s cache s cache
-    more : {s mid t : Session} {cache between after : Cache} → Takes s cache mid between → TakesAll mid between t after → TakesAll s cache t after
+    more : {s mid t : Session} {cache between after : Cache} → Takes s cache mid between → TakesAll mid between t after
+        → TakesAll s cache t after
 
   pub data TakesSome : Session → Cache → Session → Cache → Type 0 where
     none : {s : Session} {cache : Cache} → TakesSome s cache s cache
-    more : {s mid t : Session} {cache between after : Cache} → Takes s cache mid between → TakesSome mid between t after → TakesSome s cache t after
+    more : {s mid t : Session} {cache between after : Cache} → Takes s cache mid between → TakesSome mid between t after
+        → TakesSome s cache t after
 
   -- a get of what is wanted, over a whole part of the trail: what it brings
   pub data Gets (entries : List Peer) : Want → List Heard → Brought → Type 0 where
-    heads : {owner : PubKey} {asks : List Heard} (came : Result (List Judged) Miss) → IsGetOfHead (judged (head_key_of owner)) (head_key_of owner) replicas entries asks came
+    heads : {owner : PubKey} {asks : List Heard} (came : Result (List Judged) Miss)
+        → IsGetOfHead (judged (head_key_of owner)) (head_key_of owner) replicas entries asks came
         → Gets entries (Heads owner) asks (HeadsOf owner came)
-    content : {key : Key} {asks : List Heard} (came : Result (List ℕ) Miss) → IsGetOfBlock key replicas entries asks came → Gets entries (Content key) asks (BlockOf key came)
+    content : {key : Key} {asks : List Heard} (came : Result (List ℕ) Miss) → IsGetOfBlock key replicas entries asks came
+        → Gets entries (Content key) asks (BlockOf key came)
 
   abbrev pub IsGet : List Peer → Want → List Heard → Type 0
   IsGet entries want asks = (brought : Brought) × Gets entries want asks brought
@@ -154,13 +162,19 @@ module _ (judged : Key → List ℕ → Option Judged) (replicas : ℕ) where
 
   -- One ask of the session, and how it is once the answer is heard: its get or put goes on, or is over.
   pub data Hears (s : Session) (cache : Cache) (node : Peer) (question : Ask) (answer : Answer) : Session → Cache → Type 0 where
-    gets_on : (want : Want) → Wants s want → AsksNext (wanted_key want) (ask.Get (wanted_key want)) (IsGet s.entries want) s.current node question → (IsGet s.entries want (s.current ++ told node question answer) → ⊥)
+    gets_on : (want : Want) → Wants s want
+        → AsksNext (wanted_key want) (ask.Get (wanted_key want)) (IsGet s.entries want) s.current node question
+        → (IsGet s.entries want (s.current ++ told node question answer) → ⊥)
         → Hears s cache node question answer (record s { current = s.current ++ told node question answer }) cache
-    got : (want : Want) (brought : Brought) → Wants s want → AsksNext (wanted_key want) (ask.Get (wanted_key want)) (IsGet s.entries want) s.current node question → Gets s.entries want (s.current ++ told node question answer) brought
+    got : (want : Want) (brought : Brought) → Wants s want
+        → AsksNext (wanted_key want) (ask.Get (wanted_key want)) (IsGet s.entries want) s.current node question
+        → Gets s.entries want (s.current ++ told node question answer) brought
         → Hears s cache node question answer (with_part s brought (s.current ++ told node question answer)) (keeping brought cache)
     puts_on : (said : Option Said) (p : Post) (posts : List Post) (acks : List Ack) → s.stage ≡ Publishing said (p ∷ posts) acks
         → AsksNext p.key (put_question p) (IsPut s p) s.current node question → (IsPut s p (s.current ++ told node question answer) → ⊥)
         → Hears s cache node question answer (record s { current = s.current ++ told node question answer }) cache
-    puts : (said : Option Said) (p : Post) (posts : List Post) (acks : List Ack) (came : Result Bool Miss) → s.stage ≡ Publishing said (p ∷ posts) acks
-        → AsksNext p.key (put_question p) (IsPut s p) s.current node question → IsPutOfPost replicas s.entries p (s.current ++ told node question answer) came
+    puts : (said : Option Said) (p : Post) (posts : List Post) (acks : List Ack) (came : Result Bool Miss)
+        → s.stage ≡ Publishing said (p ∷ posts) acks
+        → AsksNext p.key (put_question p) (IsPut s p) s.current node question
+        → IsPutOfPost replicas s.entries p (s.current ++ told node question answer) came
         → Hears s cache node question answer (record s { stage = after_put said p posts acks (acknowledged came); current = [] }) cache

@@ -29,8 +29,10 @@ pub data Walks (owner : PubKey) : ℕ → Key → List Brought → List Record �
   came : {key : Key} → Walks owner zero key [] [] Came
   wants : {n : ℕ} {key : Key} → Walks owner (suc n) key [] [] (Wants key)
   misses : {n : ℕ} {key : Key} (miss : Miss) → Walks owner (suc n) key (BlockOf key (Err miss) ∷ []) [] (Misses miss)
-  garbled : {n : ℕ} {key : Key} (bytes : List ℕ) → ((r : Record) → IsRecordOf owner bytes r → ⊥) → Walks owner (suc n) key (BlockOf key (Ok bytes) ∷ []) [] Garbled
-  back : {n : ℕ} {key : Key} {more : List Brought} {records : List Record} {end : WalkEnd} (bytes : List ℕ) (r : Record) → IsRecordOf owner bytes r
+  garbled : {n : ℕ} {key : Key} (bytes : List ℕ) → ((r : Record) → IsRecordOf owner bytes r → ⊥)
+      → Walks owner (suc n) key (BlockOf key (Ok bytes) ∷ []) [] Garbled
+  back : {n : ℕ} {key : Key} {more : List Brought} {records : List Record} {end : WalkEnd} (bytes : List ℕ) (r : Record)
+      → IsRecordOf owner bytes r
       → Walks owner n r.prev more records end → Walks owner (suc n) key (BlockOf key (Ok bytes) ∷ more) (r ∷ records) end
 
 -- ---- the heads of one log, one after the other

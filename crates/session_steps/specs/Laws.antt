@@ -39,36 +39,44 @@ use Rattle.world_model.specs.Keepers.{Keeper}
 use Rattle.world_model.specs.World.{World, Participant, participant, peer_of, with_participant}
 use Rattle.world_model.specs.Steps.{Scene, Steps}
 use Rattle.world_laws.specs.Keeps.{GoesOn, IsInHand, Keeps, OnlyPublishes}
-use Rattle.session_steps.specs.Scenes.{GivesTurn, GivesTurnThere, IsDone, IsSceneOf, IsStep, MayLack, given_at, given_by, given_of, holder_of, memory_saves, turned_world}
+use Rattle.session_steps.specs.Scenes.{GivesTurn, GivesTurnThere, IsDone, IsSceneOf, IsStep, MayLack, given_at, given_by, given_of}
+use Rattle.session_steps.specs.Scenes.{holder_of, memory_saves, turned_world}
 
 -- ---- scenes
 
 -- A step is of one call: whose it is, its message, the nodes that it knows and its number stay.
 abbrev pub StepsAreOfOneCall : Type 0
 StepsAreOfOneCall = (r : ℕ) (name : List ℕ) (c next : Scene) → Steps hss_judged r name c next
-    → (next.session.by ≡ c.session.by) × (next.session.message ≡ c.session.message) × (next.session.entries ≡ c.session.entries) × (next.began.number ≡ c.began.number)
+    → (next.session.by ≡ c.session.by) × (next.session.message ≡ c.session.message) × (next.session.entries ≡ c.session.entries)
+    × (next.began.number ≡ c.began.number)
 
 -- so the scene after it is one of the session in code again
 abbrev pub ScenesGoOn : Type 0 → Type 0
-ScenesGoOn J = (judges : Judges J) (c next : Scene) (r : ℕ) (p q : Participant) (old new : SessionState J) → IsSceneOf judges c r p old → IsSameSession old new → Steps hss_judged r c.session.by c next
+ScenesGoOn J = (judges : Judges J) (c next : Scene) (r : ℕ) (p q : Participant) (old new : SessionState J) → IsSceneOf judges c r p old
+    → IsSameSession old new → Steps hss_judged r c.session.by c next
     → participant next.world c.session.by ≡ Some q → IsSession judges next.session new → IsSceneOf judges next r q new
 
 -- ---- asks
 
 -- A session in a world asks only nodes that were made.
 abbrev pub AskedAreMade : Type 0
-AskedAreMade = (w : World) (r : ℕ) (s : Session) (node : Peer) (question : Ask) → GoesOn w r s ⊎ OnlyPublishes w r s → AsksOf hss_judged r s node question → IsAmong node (map peer_of w.nodes)
+AskedAreMade = (w : World) (r : ℕ) (s : Session) (node : Peer) (question : Ask) → GoesOn w r s ⊎ OnlyPublishes w r s
+    → AsksOf hss_judged r s node question → IsAmong node (map peer_of w.nodes)
 
 -- so does a session in code
 abbrev pub NextAskedAreMade : Type 0 → Type 0
-NextAskedAreMade J = (judges : Judges J) (c : Scene) (r : ℕ) (p : Participant) (old new : SessionState J) (after : Cache) (node : Peer) (question : Ask)
-    → IsSceneOf judges c r p old → GoesOn c.world r c.session ⊎ OnlyPublishes c.world r c.session → IsNext judges old new p.cache after (next.Ask node question) → IsAmong node (map peer_of c.world.nodes)
+NextAskedAreMade J = (judges : Judges J) (c : Scene) (r : ℕ) (p : Participant) (old new : SessionState J) (after : Cache) (node : Peer)
+    (question : Ask)
+    → IsSceneOf judges c r p old → GoesOn c.world r c.session ⊎ OnlyPublishes c.world r c.session
+    → IsNext judges old new p.cache after (next.Ask node question) → IsAmong node (map peer_of c.world.nodes)
 
 -- An ask, whose answer or silence it hears, is a step.
 abbrev pub AsksAreSteps : Type 0 → Type 0
-AsksAreSteps J = (judges : Judges J) (c : Scene) (r : ℕ) (p : Participant) (old mid new : SessionState J) (between after : Cache) (node : Peer) (question : Ask) (answer : Answer) (before later : NodesState)
+AsksAreSteps J = (judges : Judges J) (c : Scene) (r : ℕ) (p : Participant) (old mid new : SessionState J) (between after : Cache)
+    (node : Peer) (question : Ask) (answer : Answer) (before later : NodesState)
     → IsSceneOf judges c r p old → HasAsked old c.session → IsNext judges old mid p.cache between (next.Ask node question)
-    → IsNodesOf c.world before → ((w : World) → IsNodesOf w before → FateOf hss_judged w node question answer (with_nodes w later)) → IsHeard judges mid new between after (Ok answer) → is_turning new.stage ≡ false
+    → IsNodesOf c.world before → ((w : World) → IsNodesOf w before → FateOf hss_judged w node question answer (with_nodes w later))
+    → IsHeard judges mid new between after (Ok answer) → is_turning new.stage ≡ false
     → IsStep judges c r new ⊥ (with_participant (with_nodes c.world later) (record p { cache = after })) (given_at c.session.stage)
 
 -- ---- turns
@@ -81,17 +89,21 @@ BatchesAreFetched = (s : ModelStanding) (b : Batch) → IsBatchOf s b → IsFetc
 abbrev pub TurnsMayBe : Type 0 → Type 0
 TurnsMayBe J = (judges : Judges J) (c : Scene) (r : ℕ) (p : Participant) (old mid : SessionState J) (after : Cache) (refresh : Refresh)
     → Keeps (c.world, c.story) → IsInHand c r → IsSceneOf judges c r p old → IsNext judges old mid p.cache after (next.Turn refresh)
-    → (is_turning mid.stage ≡ true) × IsSomeAnd p.agent.view (λ view. IsFetchedIn view refresh.batch) × IfSome refresh.basis (λ basis. HasBounds basis.tree)
+    → (is_turning mid.stage ≡ true) × IsSomeAnd p.agent.view (λ view. IsFetchedIn view refresh.batch)
+    × IfSome refresh.basis (λ basis. HasBounds basis.tree)
     × ((asked : Asked) → asked_at mid.stage ≡ Some asked → IsCall (asked_of asked) c.world.now)
 
 -- What an agent that is kept in memory says of its turn is what came of it.
 abbrev pub AgentsGiveTurns : Type 0
-AgentsGiveTurns = (p : Participant) (view : View) (refresh : Refresh) (asked : Asked) (now : Moment) (turned : Result Turned TurnFault) (after : Holder Keeper Signer)
-    → TakesTurn hss IsSigner memory_saves view (refresh_of refresh) (asked_of asked) now (holder_of p) turned after → GivesTurn p view refresh asked now turned after
+AgentsGiveTurns = (p : Participant) (view : View) (refresh : Refresh) (asked : Asked) (now : Moment) (turned : Result Turned TurnFault)
+    (after : Holder Keeper Signer)
+    → TakesTurn hss IsSigner memory_saves view (refresh_of refresh) (asked_of asked) now (holder_of p) turned after
+    → GivesTurn p view refresh asked now turned after
 
 -- after a turn that is refused a session begins anew without a snapshot to load
 abbrev pub RefusalsAreFresh : Type 0
-RefusalsAreFresh = (p : Participant) (refresh : Refresh) (asked : Asked) (now : Moment) (turned : Result Turned TurnFault) (after : Holder Keeper Signer)
+RefusalsAreFresh = (p : Participant) (refresh : Refresh) (asked : Asked) (now : Moment) (turned : Result Turned TurnFault)
+    (after : Holder Keeper Signer)
     → IsSomeAnd p.agent.view (λ view. Unit {0}) → GivesTurnThere p refresh asked now turned after → IfErr turned IsAnewFor
 
 -- where there was no turn nothing is given
@@ -101,16 +113,21 @@ GivesNothing (Err fault) given = given ≡ given_of None
 
 -- Whatever comes of the turn, and whatever the session makes of it, is a step.
 abbrev pub TurnsAreSteps : Type 0 → Type 0
-TurnsAreSteps J = (judges : Judges J) (c : Scene) (r : ℕ) (p : Participant) (old mid new : SessionState J) (cache : Cache) (refresh : Refresh) (asked : Asked) (turned : Result Turned TurnFault) (after : Holder Keeper Signer)
+TurnsAreSteps J = (judges : Judges J) (c : Scene) (r : ℕ) (p : Participant) (old mid new : SessionState J) (cache : Cache)
+    (refresh : Refresh) (asked : Asked) (turned : Result Turned TurnFault) (after : Holder Keeper Signer)
     → Keeps (c.world, c.story) → IsInHand c r → IsSceneOf judges c r p old → IsNext judges old mid p.cache cache (next.Turn refresh)
-    → asked_at mid.stage ≡ Some asked → GivesTurnThere p refresh asked c.world.now turned after → IsTurned judges mid new turned → session_awaited new ≡ None → is_turning new.stage ≡ false
-    → (given : Given) × IsStep judges c r new (MayLack c.session.starts turned) (turned_world c.world (record p { cache = cache }) turned after) given × GivesNothing turned given
+    → asked_at mid.stage ≡ Some asked → GivesTurnThere p refresh asked c.world.now turned after → IsTurned judges mid new turned
+    → session_awaited new ≡ None → is_turning new.stage ≡ false
+    → (given : Given) × IsStep judges c r new (MayLack c.session.starts turned)
+    (turned_world c.world (record p { cache = cache }) turned after) given × GivesNothing turned given
 
 -- Where the bytes of its turn are read as a reply of the call's procedure, that is what the session says then.
 abbrev pub RepliesAreRead : Type 0 → Type 0
-RepliesAreRead J = (judges : Judges J) (c : Scene) (r : ℕ) (p : Participant) (old mid new : SessionState J) (cache : Cache) (refresh : Refresh) (asked : Asked) (turned : Turned) (after : Holder Keeper Signer) (read : Reply)
+RepliesAreRead J = (judges : Judges J) (c : Scene) (r : ℕ) (p : Participant) (old mid new : SessionState J) (cache : Cache)
+    (refresh : Refresh) (asked : Asked) (turned : Turned) (after : Holder Keeper Signer) (read : Reply)
     → Keeps (c.world, c.story) → IsInHand c r → IsSceneOf judges c r p old → IsNext judges old mid p.cache cache (next.Turn refresh)
-    → asked_at mid.stage ≡ Some asked → GivesTurnThere p refresh asked c.world.now (Ok turned) after → IsTurned judges mid new (Ok turned) → session_awaited new ≡ None → is_turning new.stage ≡ false
+    → asked_at mid.stage ≡ Some asked → GivesTurnThere p refresh asked c.world.now (Ok turned) after → IsTurned judges mid new (Ok turned)
+    → session_awaited new ≡ None → is_turning new.stage ≡ false
     → IsFittingReply asked.args read → turned.reply ≡ bytes_of read
     → IsStep judges c r new ⊥ (turned_world c.world (record p { cache = cache }) (Ok turned) after) (given_by read)
 
@@ -119,7 +136,9 @@ RepliesAreRead J = (judges : Judges J) (c : Scene) (r : ℕ) (p : Participant) (
 -- That its agent drops what was acknowledged is a step.
 abbrev pub SettlingsAreSteps : Type 0 → Type 0
 SettlingsAreSteps J = (judges : Judges J) (c : Scene) (r : ℕ) (p : Participant) (old new : SessionState J) (after : Cache) (acks : List Ack)
-    → IsSceneOf judges c r p old → IsNext judges old new p.cache after (next.Settle acks) → IsStep judges c r new ⊥ (with_participant c.world (record p { agent = settled p.agent acks; cache = after })) (given_at c.session.stage)
+    → IsSceneOf judges c r p old → IsNext judges old new p.cache after (next.Settle acks)
+    → IsStep judges c r new ⊥ (with_participant c.world (record p { agent = settled p.agent acks; cache = after }))
+    (given_at c.session.stage)
 
 -- A session in code is done where it is over, or memory is wanting.
 abbrev pub DoneIsOver : Type 0 → Type 0

@@ -30,7 +30,8 @@ use Rattle.world_model.specs.Steps.{Scene, Steps, having_made, world_after}
 
 -- ---- a scene
 
--- The scene's session is that one in code, which knows some node, gets from as many owners as the ring puts to, and has heads judged by their signatures; and it is that participant's.
+-- The scene's session is that one in code, which knows some node, gets from as many owners as the ring puts to, and has heads judged by
+-- their signatures; and it is that participant's.
 pub record IsSceneOf {J : Type 0} (judges : Judges J) (c : Scene) (r : ℕ) (p : Participant) (st : SessionState J) : Type 0 where
   pub is_by : participant c.world c.session.by ≡ Some p
   pub some_entry : c.session.entries ≢ []
@@ -56,15 +57,16 @@ given_by reply = record { handle = handle_given reply; verifier = verifier_given
 
 -- ---- a step
 
--- The session in code is that one, waits for a node only where the get or put on its way has made asks, and no turn is awaited; or memory was wanting behind it: where that may be it is over without a
--- turn, or it publishes no more.
+-- The session in code is that one, waits for a node only where the get or put on its way has made asks, and no turn is awaited; or memory
+-- was wanting behind it: where that may be it is over without a turn, or it publishes no more.
 pub data IsLeft {J : Type 0} (judges : Judges J) (may_lack : Type 0) (s : Session) (st : SessionState J) : Type 0 where
   goes_on : IsSession judges s st → HasAsked st s → is_turning st.stage ≡ false → IsLeft judges may_lack s st
   lacks_memory : (t : Session) → may_lack → LacksMemory s t → IsSession judges t st → IsLeft judges may_lack s st
   is_cut : st.is_cut ≡ true → IsLeft judges may_lack s st
 
 -- some step of the scene's session leaves that world and that session in code, and what is said then gives that
-pub record IsStep {J : Type 0} (judges : Judges J) (c : Scene) (r : ℕ) (st : SessionState J) (may_lack : Type 0) (after : World) (given : Given) : Type 0 where
+pub record IsStep {J : Type 0} (judges : Judges J) (c : Scene) (r : ℕ) (st : SessionState J) (may_lack : Type 0) (after : World)
+    (given : Given) : Type 0 where
   pub next : Scene
   pub steps : Steps hss_judged r c.session.by c next
   pub left : IsLeft judges may_lack next.session st
@@ -73,9 +75,12 @@ pub record IsStep {J : Type 0} (judges : Judges J) (c : Scene) (r : ℕ) (st : S
 
 -- It was over; or memory was wanting, and it is over by a step; or it publishes no more.
 pub data IsDone {J : Type 0} (c : Scene) (r : ℕ) (p : Participant) (st : SessionState J) (after : Cache) (told : Served) : Type 0 where
-  was_over : (said : Option Said) → c.session.stage ≡ Over said → told ≡ served_of said → st.notes ≡ notes_of c.session.notes c.session.missed → after ≡ p.cache → IsDone c r p st after told
-  lacks_memory : (next : Scene) (said : Said) → Steps hss_judged r c.session.by c next → next.session.stage ≡ Over (Some said) → told ≡ served_of (Some said)
-      → given_at next.session.stage ≡ given_at c.session.stage → st.notes ≡ notes_of next.session.notes next.session.missed → next.world ≡ with_participant c.world (record p { cache = after }) → IsDone c r p st after told
+  was_over : (said : Option Said) → c.session.stage ≡ Over said → told ≡ served_of said
+      → st.notes ≡ notes_of c.session.notes c.session.missed → after ≡ p.cache → IsDone c r p st after told
+  lacks_memory : (next : Scene) (said : Said) → Steps hss_judged r c.session.by c next → next.session.stage ≡ Over (Some said)
+      → told ≡ served_of (Some said)
+      → given_at next.session.stage ≡ given_at c.session.stage → st.notes ≡ notes_of next.session.notes next.session.missed
+      → next.world ≡ with_participant c.world (record p { cache = after }) → IsDone c r p st after told
   is_cut : st.is_cut ≡ true → IsDone c r p st after told
 
 -- ---- a turn
@@ -89,10 +94,12 @@ abbrev pub memory_saves : Keeper → List ℕ → Bool → Keeper → Type 0
 memory_saves k bytes failed new = (failed ≡ fails_next k) × (new ≡ after_save k bytes)
 
 module _ (p : Participant) (view : View) (refresh : Refresh) (asked : Asked) (now : Moment) where
-  -- The participant's agent had its turn, whose save fails exactly where the keeper plans it; and the keeper was asked to save, where it was.
+  -- The participant's agent had its turn, whose save fails exactly where the keeper plans it; and the keeper was asked to save, where it
+  -- was.
   pub record HadTurn (end : TurnEnd) (after : Holder Keeper Signer) : Type 0 where
     pub saving : Option Kept
-    pub turns : Turns hss (refresh_of refresh) (record { agent = p.agent; view = view; now = now; fails = fails_next p.keeper }) (asked_of asked) end after.agent saving
+    pub turns : Turns hss (refresh_of refresh) (record { agent = p.agent; view = view; now = now; fails = fails_next p.keeper })
+        (asked_of asked) end after.agent saving
     pub keeper : after.keeper ≡ asked_to_save p.keeper saving
 
   -- how it ended, and what was given; where memory is wanting nothing changes

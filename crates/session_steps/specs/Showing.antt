@@ -121,8 +121,10 @@ StepsFrom old new = (c : Scene) (r : ℕ) → IsUnderWay c r → Shows c r old �
 
 -- so many steps
 abbrev pub ManyStepsFrom : ℕ → Shown → Shown → Type 0
-ManyStepsFrom count old new = (c : Scene) (r : ℕ) → IsUnderWay c r → Shows c r old → (end : Scene) × StepsOn hss_judged r c.session.by count c end × Leaves c r new end
+ManyStepsFrom count old new = (c : Scene) (r : ℕ) → IsUnderWay c r → Shows c r old
+    → (end : Scene) × StepsOn hss_judged r c.session.by count c end × Leaves c r new end
 
 -- all steps up to the end, which was told
 abbrev pub RunsOutFrom : Shown → Shown → Type 0
-RunsOutFrom old new = (c : Scene) (r : ℕ) → IsUnderWay c r → Shows c r old → IsTrue (is_some new.call.told) × (end : Scene) × RunsOut hss_judged r c.session.by c end × Leaves c r new end
+RunsOutFrom old new = (c : Scene) (r : ℕ) → IsUnderWay c r → Shows c r old
+    → IsTrue (is_some new.call.told) × (end : Scene) × RunsOut hss_judged r c.session.by c end × Leaves c r new end

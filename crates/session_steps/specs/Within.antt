@@ -1,5 +1,6 @@
 -- What the calls within a step of a call in code say, and the laws by which that is a step of each scene that is shown.
-use Rattle.std.specs.Prelude.{◌≡◌, ◌≢◌, ◌<◌, ◌+◌, ℕ, is_some, if◌then◌else◌, true, false, List, Some, None, Result, Ok, Err, IfSome, IsSomeAnd}
+use Rattle.std.specs.Prelude.{◌≡◌, ◌≢◌, ◌<◌, ◌+◌, ℕ, is_some, if◌then◌else◌, true, false, List, Some, None, Result, Ok, Err, IfSome}
+use Rattle.std.specs.Prelude.{IsSomeAnd}
 use Rattle.ivy_base.specs.declared.operation.Moment.{Moment}
 use Rattle.dhash_model.specs.Signed.{hss_judged}
 use Rattle.log_heads.specs.declared.judge.HssJudge.{HssJudge}
@@ -29,7 +30,8 @@ use Rattle.world_model.specs.Fates.{FateOf}
 use Rattle.world_model.specs.Steps.{RunsOut, Scene, StepsOn, met_by}
 use Rattle.world_model.specs.World.{World}
 use Rattle.world_laws.specs.Laws.{PublishingKeeps, StepsKeep}
-use Rattle.session_steps.specs.Laws.{AsksAreSteps, DoneIsOver, NextAskedAreMade, RepliesAreRead, SettlingsAreSteps, StepsAreOfOneCall, TurnsAreSteps, TurnsMayBe}
+use Rattle.session_steps.specs.Laws.{AsksAreSteps, DoneIsOver, NextAskedAreMade, RepliesAreRead, SettlingsAreSteps, StepsAreOfOneCall}
+use Rattle.session_steps.specs.Laws.{TurnsAreSteps, TurnsMayBe}
 use Rattle.session_steps.specs.Showing.{CallState, IsUnderWay, Leaves, Shown, Shows, StepsFrom, judges}
 
 -- ---- the laws
@@ -77,7 +79,8 @@ pub record HasHeard (old new : CallState) (before after : ParticipantState) (ans
   pub who : after ≡ record before { cache = after.cache }
 
 -- the ask had its fate, and was heard
-pub record HasAskedOf (node : Peer) (question : Ask) (old new : CallState) (nodes later : NodesState) (before after : ParticipantState) : Type 0 where
+pub record HasAskedOf (node : Peer) (question : Ask) (old new : CallState) (nodes later : NodesState)
+    (before after : ParticipantState) : Type 0 where
   pub answer : Answer
   pub fate : (w : World) → IsNodesOf w nodes → FateOf hss_judged w node question answer (with_nodes w later)
   pub heard : HasHeard old new before after answer
@@ -124,7 +127,8 @@ module _ (old new : CallState) (before after : ParticipantState) (met later : Me
   LeftBy (Err (fault.BelowTide standing)) = CountsAsMade before after met later × BeginsAnew old new
 
 -- the session is told what came of its turn, and no node is to be heard then
-pub record IsToldOf (turned : Result Turned TurnFault) (old new : CallState) (before after : ParticipantState) (met later : MetState) : Type 0 where
+pub record IsToldOf (turned : Result Turned TurnFault) (old new : CallState) (before after : ParticipantState)
+    (met later : MetState) : Type 0 where
   pub is_turned : IsTurned judges old.session new.session turned
   pub free : session_awaited new.session ≡ None
   pub no_turn : is_turning new.session.stage ≡ false
@@ -133,7 +137,8 @@ pub record IsToldOf (turned : Result Turned TurnFault) (old new : CallState) (be
   pub left : LeftBy old new before after met later turned
 
 -- the agent had its turn, and the session was told so
-pub record HasTurned (refresh : Refresh) (now : Moment) (old new : CallState) (before after : ParticipantState) (met later : MetState) : Type 0 where
+pub record HasTurned (refresh : Refresh) (now : Moment) (old new : CallState) (before after : ParticipantState)
+    (met later : MetState) : Type 0 where
   pub turned : Result Turned TurnFault
   pub mid : ParticipantState
   pub took : TookTurn old refresh now turned before mid
@@ -148,7 +153,8 @@ pub record IsArm (old new : Shown) : Type 0 where
 
 -- ---- many steps
 
--- From each scene under way that was shown one is reached that is shown now; and whatever the rest leads to from there, all lead to from the first.
+-- From each scene under way that was shown one is reached that is shown now; and whatever the rest leads to from there, all lead to from
+-- the first.
 pub record IsReached (Rest All : List ℕ → Scene → Scene → Type 0) (c : Scene) (r : ℕ) (now : Shown) : Type 0 where
   pub mid : Scene
   pub way : IsUnderWay mid r
@@ -158,7 +164,8 @@ pub record IsReached (Rest All : List ℕ → Scene → Scene → Type 0) (c : S
 
 -- so many steps are left of so many
 abbrev pub Reaches : ℕ → ℕ → Shown → Shown → Type 0
-Reaches left count old now = (c : Scene) (r : ℕ) → IsUnderWay c r → Shows c r old → IsReached (λ name. StepsOn hss_judged r name left) (λ name. StepsOn hss_judged r name count) c r now
+Reaches left count old now = (c : Scene) (r : ℕ) → IsUnderWay c r → Shows c r old
+    → IsReached (λ name. StepsOn hss_judged r name left) (λ name. StepsOn hss_judged r name count) c r now
 
 -- all steps up to the end are left
 abbrev pub ReachesOn : Shown → Shown → Type 0

@@ -10,7 +10,9 @@ use Rattle.session_model.specs.Refreshing.{Loaded}
 use Rattle.snapshot_loading.specs.declared.load.Read.{Read}
 use Rattle.snapshot_loading.specs.Loading.{Loading, ComesTo, IsReadWhole, bytes_of}
 
--- Where names tell apart the blocks that were read and those that were made, what is loaded by the name of a made snapshot's root is what it was made of.
+-- Where names tell apart the blocks that were read and those that were made, what is loaded by the name of a made snapshot's root is what
+-- it was made of.
 abbrev pub MadeIsLoaded : Type 0
-MadeIsLoaded = (view : Key) (b : Basis) (l : Loading) (read : List Read) → IsKey view → IsWholeTree b.tree → IsBasisSpelled b → l.root ≡ name (snapshot_named view b).bytes
+MadeIsLoaded = (view : Key) (b : Basis) (l : Loading) (read : List Read) → IsKey view → IsWholeTree b.tree → IsBasisSpelled b
+    → l.root ≡ name (snapshot_named view b).bytes
     → NamesTellApart (bytes_of read ++ (snapshot_named view b).reading) → IsReadWhole l read → ComesTo l (Loaded (Some b))

@@ -14,7 +14,8 @@ use Rattle.snapshot_loading.specs.declared.role.Wanted.{Wanted}
 use Rattle.snapshot_loading.specs.declared.load.Read.{Read}
 use Rattle.snapshot_loading.specs.declared.load.Failure.{Failure}
 
--- The snapshot of that name: the blocks that were read, in their order, what is still to be read, in its order, and the block that couldn't be had or wasn't what it was to be.
+-- The snapshot of that name: the blocks that were read, in their order, what is still to be read, in its order, and the block that couldn't
+-- be had or wasn't what it was to be.
 pub record Loading : Type 0 where
   pub root : Key
   pub read : List Read
@@ -50,8 +51,10 @@ wanted_of l = first_key l.todo
 -- Of what was to be read these blocks were read, and this is left. Each has its name, and what it names is read next.
 pub data HasRead : List Wanted → List Read → List Wanted → Type 0 where
   nothing : {todo : List Wanted} → HasRead todo [] todo
-  block : {role : Role} {key : Key} {todo left : List Wanted} {read : List Read} (bytes : List ℕ) (named : List Wanted) → Names (part_of role) bytes (parts_of named) → name bytes ≡ key
-      → HasRead (named ++ todo) read left → HasRead (record { role = role; key = key } ∷ todo) (record { role = role; key = key; bytes = bytes } ∷ read) left
+  block : {role : Role} {key : Key} {todo left : List Wanted} {read : List Read} (bytes : List ℕ) (named : List Wanted)
+      → Names (part_of role) bytes (parts_of named) → name bytes ≡ key
+      → HasRead (named ++ todo) read left
+      → HasRead (record { role = role; key = key } ∷ todo) (record { role = role; key = key; bytes = bytes } ∷ read) left
 
 -- it couldn't be had, or isn't such a part
 abbrev pub FailsAs : Part → Result (List ℕ) Miss → Type 0

@@ -21,10 +21,13 @@ bytes_in (block part bytes below beside) = bytes ∷ bytes_in beside
 abbrev pub run_of : {A : Type 0} → List (List A) → List A
 run_of each = flat_map (λ xs. xs) each
 
--- the blocks at the bottom of its list are the pieces of a file, or the entries of a directory, each but the last a full one; a link has none
+-- the blocks at the bottom of its list are the pieces of a file, or the entries of a directory, each but the last a full one; a link has
+-- none
 abbrev pub AreContents : Kind → InodeBlock → Forest → List ℕ → List (List ℕ × Key) → Type 0
 AreContents Reg said items body es = AreFull 8192 (bytes_in items) × (run_of (bytes_in items) ≡ body) × (said.size ≡ length body)
-AreContents Dir said items body es = (body ≡ []) × (each : List (List (List ℕ × Key))) × (bytes_in items ≡ map entries_block each) × AreFull most_entries each × (run_of each ≡ es)
+AreContents Dir said items body es =
+    (body ≡ []) × (each : List (List (List ℕ × Key))) × (bytes_in items ≡ map entries_block each) × AreFull most_entries each
+    × (run_of each ≡ es)
 AreContents Lnk said items body es = said.target ≡ body
 
 pub record ShowsInode (bytes : List ℕ) (below : Forest) (number : Key) (inode : Inode) (es : List (List ℕ × Key)) : Type 0 where

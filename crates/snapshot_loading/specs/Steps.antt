@@ -54,15 +54,17 @@ first_sort i = (i.kind, first_body i.kind i.body)
 pub record AreAdded (parts : List InodeParts) (t : Tree) : Type 0 where
   pub made : IsMade t
   pub no_names : t.names ≡ []
-  pub each : (k : Key) → sort_at t k ≡ (if same_key k root_number then Some (Dir, []) else option_map first_sort (inode_at (tree_of parts) k))
+  pub each : (k : Key) → sort_at t k
+      ≡ (if same_key k root_number then Some (Dir, []) else option_map first_sort (inode_at (tree_of parts) k))
 
 -- ---- names
 
--- All these names were given, and the inodes kept their kinds and bytes. Or one couldn't be given: no tree without contradictions, of inodes of these kinds, begins with the
--- names that were there and these.
+-- All these names were given, and the inodes kept their kinds and bytes. Or one couldn't be given: no tree without contradictions, of
+-- inodes of these kinds, begins with the names that were there and these.
 abbrev pub Links : List (Place × Key) → Tree → Tree → Bool → Type 0
 Links names old new true = IsMade new × (new.names ≡ old.names ++ names) × ((k : Key) → sort_at new k ≡ sort_at old k)
-Links names old new false = (t : Tree) (rest : List (Place × Key)) → ((k : Key) → kind_at old k ≡ kind_at t k) → t.names ≡ (old.names ++ names) ++ rest → IsSound t → ⊥
+Links names old new false = (t : Tree) (rest : List (Place × Key)) → ((k : Key) → kind_at old k ≡ kind_at t k)
+    → t.names ≡ (old.names ++ names) ++ rest → IsSound t → ⊥
 
 -- ---- bytes and attributes
 

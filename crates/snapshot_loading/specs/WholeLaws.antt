@@ -15,12 +15,14 @@ use Rattle.snapshot_loading.specs.ShownInodes.{ShowsInode}
 use Rattle.snapshot_loading.specs.Wholes.{ShowsBasis}
 use Rattle.snapshot_loading.specs.Forests.{Forest, nothing, block, flat, below_by, mades, Fits, IsEven, IsLeast}
 
--- A list block of that level with all below it is the list over what is so many levels below, exactly where on each level all blocks but the last have 512 names, and a level less
--- wouldn't be enough.
+-- A list block of that level with all below it is the list over what is so many levels below, exactly where on each level all blocks but
+-- the last have 512 names, and a level less wouldn't be enough.
 abbrev pub EvenListsAreLists : Type 0
-EvenListsAreLists = (item : Part) (level : ℕ) (bytes : List ℕ) (below : Forest) → 1 ≤ level → level ≤ 3 → Fits (block (Listing level item) bytes below nothing)
+EvenListsAreLists = (item : Part) (level : ℕ) (bytes : List ℕ) (below : Forest) → 1 ≤ level → level ≤ 3
+    → Fits (block (Listing level item) bytes below nothing)
     → ((IsEven level (block (Listing level item) bytes below nothing) × IsLeast level (block (Listing level item) bytes below nothing))
-    ↔ (list_of (mades (below_by level (block (Listing level item) bytes below nothing))) ≡ (level, mades (block (Listing level item) bytes below nothing))))
+    ↔ (list_of (mades (below_by level (block (Listing level item) bytes below nothing)))
+    ≡ (level, mades (block (Listing level item) bytes below nothing))))
 
 -- A tree of a snapshot is one without contradictions, and each such one may be a snapshot's.
 abbrev pub WholeTreesAreSound : Type 0
@@ -44,14 +46,17 @@ ReadIsForest = (root : Key) (read : List Read) → HasRead (root_alone root) rea
 
 -- Such blocks are of no other parts and in no other way below one another.
 abbrev pub ForestIsOne : Type 0
-ForestIsOne = (bytes others : List ℕ) (below under : Forest) → Fits (block Root bytes below nothing) → Fits (block Root others under nothing)
-    → map (λ b. b.1) (flat (block Root bytes below nothing)) ≡ map (λ b. b.1) (flat (block Root others under nothing)) → (bytes ≡ others) × (below ≡ under)
+ForestIsOne = (bytes others : List ℕ) (below under : Forest) → Fits (block Root bytes below nothing)
+    → Fits (block Root others under nothing)
+    → map (λ b. b.1) (flat (block Root bytes below nothing)) ≡ map (λ b. b.1) (flat (block Root others under nothing))
+    → (bytes ≡ others) × (below ≡ under)
 
 -- ---- inodes
 
 -- A block that shows an inode is, with all below it, what a snapshot has of that inode.
 abbrev pub ShownInodesAreMade : Type 0
-ShownInodesAreMade = (number : Key) (inode : Inode) (es : List (List ℕ × Key)) (bytes : List ℕ) (below : Forest) → Fits (block AnInode bytes below nothing) → ShowsInode bytes below number inode es
+ShownInodesAreMade = (number : Key) (inode : Inode) (es : List (List ℕ × Key)) (bytes : List ℕ) (below : Forest)
+    → Fits (block AnInode bytes below nothing) → ShowsInode bytes below number inode es
     → mades (block AnInode bytes below nothing) ≡ inode_over number inode (list_of (items_of es inode.body inode.kind)) ∷ []
 
 -- ---- the whole
@@ -61,7 +66,8 @@ abbrev pub LoadedIsShown : Type 0
 LoadedIsShown = (bytes : List ℕ) (below : Forest) (b : Basis) → Fits (block Root bytes below nothing)
     → AreOf (map (λ p. p.1) (flat (block Root bytes below nothing))) b ↔ (IsWholeTree b.tree × IsBasisSpelled b × ShowsBasis bytes below b)
 
--- So loading that has read all comes to the basis that the root shows, of a tree without contradictions and within the bounds; or to none, where it shows no such one.
+-- So loading that has read all comes to the basis that the root shows, of a tree without contradictions and within the bounds; or to none,
+-- where it shows no such one.
 pub record EndsByShown (l : Loading) (read : List Read) : Type 0 where
   pub whole : IsRead l.root read
   pub of_one : (b : Basis) → IsSound b.tree → IsBasisSpelled b → ShowsBasis whole.bytes whole.below b → ComesTo l (Loaded (Some b))

@@ -1,4 +1,5 @@
--- The blocks of a snapshot one by one: what each says, how it is spelled, and within which bounds (this project's own form; numbers and opaque data as in XDR).
+-- The blocks of a snapshot one by one: what each says, how it is spelled, and within which bounds (this project's own form; numbers and
+-- opaque data as in XDR).
 use Rattle.std.specs.Prelude.{◌≡◌, ℕ, ◌<◌, ◌≤◌, IsTrue, List, ◌∷◌, ◌++◌, length, Option, IfSome, []}
 use Rattle.std.specs.List.{AllByRecursion}
 use Rattle.std.specs.Cmp.Lexicographic.{slice_cmp}
@@ -76,7 +77,8 @@ entries_block entries = entries_tag ++ array entry_bytes entries
 -- the tag, and the parts
 abbrev pub inode_block : InodeBlock → List ℕ
 inode_block b =
-    inode_tag ++ b.number.0 ++ word (kind_number b.kind) ++ attributes_bytes b.attributes ++ double_word b.size ++ opaque b.target ++ listed_bytes b.items
+    inode_tag ++ b.number.0 ++ word (kind_number b.kind) ++ attributes_bytes b.attributes ++ double_word b.size ++ opaque b.target
+    ++ listed_bytes b.items
 
 -- the tag, and the parts
 abbrev pub root_block : RootBlock → List ℕ

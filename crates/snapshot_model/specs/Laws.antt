@@ -16,9 +16,11 @@ pub record BlocksAreOne : Type 0 where
 
 -- A block that is such a part names one list of blocks.
 abbrev pub NamesAreOne : Type 0
-NamesAreOne = (part : Part) (block : List ℕ) (named others : List (Part × Key)) → Names part block named → Names part block others → named ≡ others
+NamesAreOne = (part : Part) (block : List ℕ) (named others : List (Part × Key)) → Names part block named → Names part block others
+    → named ≡ others
 
--- What is loaded is what was made: two snapshots are of one basis, if their first blocks, which are their roots, have one name and names tell all their blocks apart.
+-- What is loaded is what was made: two snapshots are of one basis, if their first blocks, which are their roots, have one name and names
+-- tell all their blocks apart.
 abbrev pub LoadedIsMade : Type 0
 LoadedIsMade = (blocks others : List (List ℕ)) (b c : Basis) → AreOf blocks b → AreOf others c → NamesTellApart (blocks ++ others)
     → map name (take 1 blocks) ≡ map name (take 1 others) → b ≡ c

@@ -13,7 +13,8 @@ list_tag level = names_tag ++ word level
 
 -- an inode's parts have their bounds, whatever the kind is
 abbrev pub HasInodeParts : InodeBlock → Type 0
-HasInodeParts b = (((((Unit {0} × IsKey b.number) × IsAny b.kind) × AreAttributes b.attributes) × IsAtMost longest_file b.size) × (length b.target ≤ 1024)) × IsListed 3 b.items
+HasInodeParts b = (((((Unit {0} × IsKey b.number) × IsAny b.kind) × AreAttributes b.attributes) × IsAtMost longest_file b.size)
+    × (length b.target ≤ 1024)) × IsListed 3 b.items
 
 -- and those of which the bounds depend on the kind are of it
 abbrev pub FitsKind : Kind → ℕ → List ℕ → ℕ → Type 0

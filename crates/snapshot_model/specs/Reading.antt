@@ -8,7 +8,8 @@ use Rattle.ivy_base.specs.Naming.{IsFileName, root_number}
 use Rattle.tree_model.specs.Tree.{Tree, IsInOrder, Inode, inode_at, has_name, is_directory, is_inside, name_count, listing, longest_file}
 use Rattle.log_model.specs.Spelling.{IsKey, IsTarget}
 use Rattle.turn_model.specs.Basis.{Basis}
-use Rattle.snapshot_model.specs.Blocks.{InodeBlock, RootBlock, list_block, entries_block, inode_block, root_block, AreAttributes, IsVectorSpelled, IsRankSpelled, IsPiece, AreNamed, AreEntries, IsInodeBlock, IsRootBlock, Says}
+use Rattle.snapshot_model.specs.Blocks.{InodeBlock, RootBlock, list_block, entries_block, inode_block, root_block, AreAttributes}
+use Rattle.snapshot_model.specs.Blocks.{IsVectorSpelled, IsRankSpelled, IsPiece, AreNamed, AreEntries, IsInodeBlock, IsRootBlock, Says}
 use Rattle.snapshot_model.specs.Spelling.{snapshot_named}
 
 -- ---- what a block names
@@ -40,15 +41,19 @@ item_of Lnk = Entries
 
 -- The block is such a part, and names these, in this order.
 abbrev pub Names : Part → List ℕ → List (Part × Key) → Type 0
-Names Root block named = (root : RootBlock) × Says IsRootBlock root_block block root × (named ≡ top_of AnInode root.inodes.level root.inodes.top)
-Names (Listing level item) block named = (keys : List Key) × Says AreNamed (list_block level) block keys × (named ≡ map (λ k. (part_below level item, k)) keys)
-Names AnInode block named = (inode : InodeBlock) × Says IsInodeBlock inode_block block inode × (named ≡ top_of (item_of inode.kind) inode.items.level inode.items.top)
+Names Root block named = (root : RootBlock) × Says IsRootBlock root_block block root
+    × (named ≡ top_of AnInode root.inodes.level root.inodes.top)
+Names (Listing level item) block named =
+    (keys : List Key) × Says AreNamed (list_block level) block keys × (named ≡ map (λ k. (part_below level item, k)) keys)
+Names AnInode block named = (inode : InodeBlock) × Says IsInodeBlock inode_block block inode
+    × (named ≡ top_of (item_of inode.kind) inode.items.level inode.items.top)
 Names Piece block named = IsPiece block × (named ≡ [])
 Names Entries block named = (entries : List (List ℕ × Key)) × Says AreEntries entries_block block entries × (named ≡ [])
 
 -- ---- the whole
 
--- a tree of a snapshot: its names are in directories and of inodes, the root is a directory without a name, and a directory has at most one and doesn't lie inside itself
+-- a tree of a snapshot: its names are in directories and of inodes, the root is a directory without a name, and a directory has at most one
+-- and doesn't lie inside itself
 pub record IsWholeTree (t : Tree) : Type 0 where
   pub in_order : IsInOrder t
   pub root : IsTrue (is_directory (inode_at t root_number))
@@ -69,8 +74,8 @@ pub record HasBounds (i : Inode) : Type 0 where
   pub attributes : AreAttributes i.attributes
   pub body : IsBodyOf i.kind i.body
 
--- The basis has a spelling of which it is the only one. Without these bounds two bases, one number of which differs by 2^32, have the same blocks,
--- and a list of more than 512^3 items those of an empty one.
+-- The basis has a spelling of which it is the only one. Without these bounds two bases, one number of which differs by 2^32, have the same
+-- blocks, and a list of more than 512^3 items those of an empty one.
 pub record IsBasisSpelled (b : Basis) : Type 0 where
   pub front : IsVectorSpelled b.front
   pub tide : IfSome b.tide IsRankSpelled

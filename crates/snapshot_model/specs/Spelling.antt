@@ -22,7 +22,12 @@ pub record Made : Type 0 where
 
 -- a block that names these, in this order
 abbrev pub over : List ℕ → List Made → Made
-over bytes below = record { bytes = bytes; reading = bytes ∷ flat_map (λ m. m.reading) below; putting = flat_map (λ m. m.putting) below ++ bytes ∷ [] }
+over bytes below = record {
+  bytes = bytes;
+  reading = bytes ∷ flat_map (λ m. m.reading) below;
+  putting = flat_map (λ m. m.putting) below
+      ++ bytes ∷ [];
+}
 
 abbrev pub made_name : Made → Key
 made_name m = name m.bytes

@@ -70,7 +70,8 @@ pub record IsOver (before : List (List ℕ)) (items : List Made) (after : List (
 -- whatever items the list was over, it is over one more now, which was put last before
 abbrev pub TakesIn : Key → Levels → List (List ℕ) → Levels → List (List ℕ) → Type 0
 TakesIn item l now m after =
-    (before between : List (List ℕ)) (items : List Made) (one : Made) → IsOver before items between l → now ≡ put_all between (one ∷ []) → item ≡ made_name one
+    (before between : List (List ℕ)) (items : List Made) (one : Made) → IsOver before items between l → now ≡ put_all between (one ∷ [])
+    → item ≡ made_name one
     → IsOver before (items ++ one ∷ []) after m
 
 -- whatever items the list was over, it was put, and is named so

@@ -1,4 +1,5 @@
--- Runs in which memory is never wanting, by the step of this stage: that each script has one, or names clash on the way, and that any other run tells where memory was wanting.
+-- Runs in which memory is never wanting, by the step of this stage: that each script has one, or names clash on the way, and that any other
+-- run tells where memory was wanting.
 use Rattle.std.specs.Prelude.{◌≡◌, ◌⊎◌, ℕ, ◌+◌, List, ◌∷◌, ◌++◌, length}
 use Rattle.script_driver.specs.Run.{Outcome, Goes, Follows, Obeys, Ran, Runs, WithLaw, behind, shown}
 use Rattle.world_model.specs.Logs.{Played}
@@ -31,7 +32,8 @@ pub record ComesTo (Law : Played → List ℕ → Outcome Played → Type 0) (w 
   pub is : Law mid (shown line) outcome
 
 -- so it is in this run
-pub record RunComesTo (Law : Played → List ℕ → Outcome Played → Type 0) (w : Played) (number : ℕ) (lines : List (List ℕ)) (ran : Ran) : Type 0 where
+pub record RunComesTo (Law : Played → List ℕ → Outcome Played → Type 0) (w : Played) (number : ℕ) (lines : List (List ℕ))
+    (ran : Ran) : Type 0 where
   pub comes : ComesTo Law w lines
   pub place : ℕ
   pub place_is : place ≡ number + length comes.front

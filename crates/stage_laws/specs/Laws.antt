@@ -30,15 +30,18 @@ LongLinesStop = (w next : Played) (line output : List ℕ) → line_limit < leng
 
 -- A line that makes no snapshot does what it does there, and nothing else.
 abbrev pub OthersAreSteps : Type 0
-OthersAreSteps = (w : Played) (line : List ℕ) (outcome : Outcome Played) → IsOfStage line → StageStep w line outcome ↔ IvyStep w line outcome
+OthersAreSteps = (w : Played) (line : List ℕ) (outcome : Outcome Played) → IsOfStage line
+    → StageStep w line outcome ↔ IvyStep w line outcome
 
 -- So the runs of a script of such lines are its runs there.
 abbrev pub RunsAreRuns : Type 0
-RunsAreRuns = (w : Played) (number : ℕ) (lines : List (List ℕ)) (ran : Ran) → AllByRecursion (λ line. IsOfStage (shown line)) lines → Runs StageStep w number lines ran ↔ Runs IvyStep w number lines ran
+RunsAreRuns = (w : Played) (number : ℕ) (lines : List (List ℕ)) (ran : Ran) → AllByRecursion (λ line. IsOfStage (shown line)) lines
+    → Runs StageStep w number lines ran ↔ Runs IvyStep w number lines ran
 
 -- A line that goes on makes no snapshot.
 abbrev pub WhatGoesIsAStep : Type 0
-WhatGoesIsAStep = (w next : Played) (line output : List ℕ) → StageStep w line (Goes next output) → IsOfStage line × IvyStep w line (Goes next output)
+WhatGoesIsAStep = (w next : Played) (line output : List ℕ) → StageStep w line (Goes next output)
+    → IsOfStage line × IvyStep w line (Goes next output)
 
 -- ---- replies
 
@@ -47,4 +50,5 @@ abbrev pub StageHasHeadline : Type 0
 StageHasHeadline = (w : Played) (line : List ℕ) (outcome : Outcome Played) → KeepsAll w → StageStep w line outcome → Headline w line outcome
 
 abbrev pub StageRepliesAreOnReplay : Type 0
-StageRepliesAreOnReplay = (w : Played) (number : ℕ) (lines : List (List ℕ)) (ran : Ran) → KeepsAll w → Runs StageStep w number lines ran → Runs (WithLaw StageStep Headline) w number lines ran
+StageRepliesAreOnReplay = (w : Played) (number : ℕ) (lines : List (List ℕ)) (ran : Ran) → KeepsAll w → Runs StageStep w number lines ran
+    → Runs (WithLaw StageStep Headline) w number lines ran

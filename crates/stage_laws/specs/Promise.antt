@@ -37,4 +37,5 @@ PromisedDoesSomething = (w : Played) (line : List ℕ) → KeepsAll w → (outco
 
 -- and a line that is too long doesn't go on.
 abbrev pub PromisedLongLinesStop : Type 0
-PromisedLongLinesStop = (w : Played) (line : List ℕ) (next : Played) (output : List ℕ) → KeepsAll w → line_limit < length line → PromisedStep w line (Goes next output) → ⊥
+PromisedLongLinesStop = (w : Played) (line : List ℕ) (next : Played) (output : List ℕ) → KeepsAll w → line_limit < length line
+    → PromisedStep w line (Goes next output) → ⊥

@@ -16,7 +16,8 @@ use Rattle.nfs_model.specs.Changing.{Plan, Refuse, Nothing, Operations, finish, 
 use Rattle.nfs_model.specs.Reading.{answer}
 use Rattle.turn_model.specs.Turn.{Asked, Inputs, bare_tail, turn_on}
 
--- IO (5) and JUKEBOX (10008) tell of blocks, ROFS (30) of the key and the numbers, SERVERFAULT (10006) of the keeper. All others are of the tree.
+-- IO (5) and JUKEBOX (10008) tell of blocks, ROFS (30) of the key and the numbers, SERVERFAULT (10006) of the keeper. All others are of the
+-- tree.
 abbrev pub is_of_tree : NfsStatus → Bool
 is_of_tree status.Io = false
 is_of_tree status.RoFs = false
@@ -40,11 +41,13 @@ AnswersAreByTree = (t : Tree) (view : View) (who : Identity) (args : Args) → i
 
 -- each plan,
 abbrev pub PlansAreByTree : Type 0
-PlansAreByTree = (t : Tree) (view : View) (who : Identity) (args : Args) (now : Moment) (own : PubKey) (seq : ℕ) → is_plan_by_tree (plan t view who args now own seq) ≡ true
+PlansAreByTree = (t : Tree) (view : View) (who : Identity) (args : Args) (now : Moment) (own : PubKey) (seq : ℕ)
+    → is_plan_by_tree (plan t view who args now own seq) ≡ true
 
 -- and each reply once the records stand.
 abbrev pub FinishesAreByTree : Type 0
-FinishesAreByTree = (before after : Tree) (view : View) (who : Identity) (args : Args) (ops : List Op) → is_by_tree (finish before after view who args ops) ≡ true
+FinishesAreByTree = (before after : Tree) (view : View) (who : Identity) (args : Args) (ops : List Op)
+    → is_by_tree (finish before after view who args ops) ≡ true
 
 -- So a turn refuses by the tree, or by ROFS, or by SERVERFAULT where its keeper has failed since its start.
 pub data TurnRefuses (a : Inputs) (asked : Asked) (r : Reply) : Type 0 where

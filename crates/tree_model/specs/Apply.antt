@@ -1,6 +1,7 @@
 -- The effect of one operation, and of a list of operations in their order, starting from the root alone.
 -- An operation that may not be done changes nothing. An inode is never removed.
-use Rattle.std.specs.Prelude.{ℕ, ◌+◌, ◌-◌, Bool, true, false, ◌&&◌, ◌||◌, not, List, [], ◌∷◌, ◌++◌, length, take, drop, replicate, Option, Some, None, is_some, is_none, unwrap_or, if◌then◌else◌}
+use Rattle.std.specs.Prelude.{ℕ, ◌+◌, ◌-◌, Bool, true, false, ◌&&◌, ◌||◌, not, List, [], ◌∷◌, ◌++◌, length, take, drop, replicate, Option}
+use Rattle.std.specs.Prelude.{Some, None, is_some, is_none, unwrap_or, if◌then◌else◌}
 use Rattle.std.specs.Ordering.{eq_by_cmp}
 use Rattle.std.specs.Option.{option_map_or}
 use Rattle.std.specs.FinMap.Entries.{put, where_key}
@@ -12,7 +13,8 @@ use Rattle.ivy_base.specs.declared.operation.Change.{Change}
 use Rattle.ivy_base.specs.declared.operation.Op.{Op}
 use Rattle.ivy_base.specs.declared.operation.Op.TheVariants as op
 use Rattle.ivy_base.specs.Naming.{key_cmp, root_number}
-use Rattle.tree_model.specs.Tree.{Tree, Inode, place_cmp, same_key, inode_at, entry, is_directory, is_file, has_name, is_empty_directory, is_inside}
+use Rattle.tree_model.specs.Tree.{Tree, Inode, place_cmp, same_key, inode_at, entry, is_directory, is_file, has_name, is_empty_directory}
+use Rattle.tree_model.specs.Tree.{is_inside}
 
 -- the root alone, with mode 0777 and the times 0
 abbrev pub empty_tree : Tree
@@ -22,7 +24,14 @@ empty_tree = record {
     root_number,
     record {
       kind = Dir;
-      attributes = record { mode = 511; uid = 0; gid = 0; atime = record { sec = 0; nsec = 0 }; mtime = record { sec = 0; nsec = 0 }; ctime = record { sec = 0; nsec = 0 } };
+      attributes = record {
+        mode = 511;
+        uid = 0;
+        gid = 0;
+        atime = record { sec = 0; nsec = 0 };
+        mtime = record { sec = 0; nsec = 0 };
+        ctime = record { sec = 0; nsec = 0 };
+      };
       body = [];
     },
   ) ∷ [];

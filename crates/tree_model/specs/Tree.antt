@@ -1,6 +1,7 @@
 -- The tree that a set of logs stands for: two finite maps, from (directory, name) to an inode's number
 -- and from a number to what the inode is. Both are kept as lists in ascending order of their keys.
-use Rattle.std.specs.Prelude.{◌≡◌, ℕ, zero, suc, ◌+◌, Bool, true, false, ◌&&◌, ◌||◌, not, IsTrue, List, length, Option, Some, None, option_map, count_by, find, filter, map, filter_map, if◌then◌else◌}
+use Rattle.std.specs.Prelude.{◌≡◌, ℕ, zero, suc, ◌+◌, Bool, true, false, ◌&&◌, ◌||◌, not, IsTrue, List, length, Option, Some, None}
+use Rattle.std.specs.Prelude.{option_map, count_by, find, filter, map, filter_map, if◌then◌else◌}
 use Rattle.std.specs.List.{list_any, list_all}
 use Rattle.std.specs.declared.cmp.Ordering.{Ordering}
 use Rattle.std.specs.Cmp.Lexicographic.{slice_cmp}
@@ -125,4 +126,5 @@ is_inside t x dir = not (ends_without (suc (length t.names)) t.names x dir)
 -- the same as a relation: x is the directory, or is named in what is inside it
 pub data IsInside (names : List (Place × Key)) (dir : Key) : Key → Type 0 where
   itself : IsInside names dir dir
-  named : {x : Key} (above : Key) (name : List ℕ) → value_at place_cmp (above, name) names ≡ Some x → IsInside names dir above → IsInside names dir x
+  named : {x : Key} (above : Key) (name : List ℕ) → value_at place_cmp (above, name) names ≡ Some x → IsInside names dir above
+      → IsInside names dir x

@@ -14,4 +14,5 @@ use Rattle.wire_model.specs.Rpc.{IsIdentity}
 abbrev pub TurnSetIsClosed : Type 0
 TurnSetIsClosed = (a : Inputs) (known : List Record) (candidates : List Candidate) (asked : Asked) (now : Moment) (turned : Turned)
     → IsView a.view → Contains a.view.members a.own → IsClosed a.view known → log_of a.own known ≢ []
-    → IsIdentity asked.caller → ArgumentsFit asked.args → IsMoment now → IsTurn a known candidates asked now turned → IsClosed a.view turned.set
+    → IsIdentity asked.caller → ArgumentsFit asked.args → IsMoment now → IsTurn a known candidates asked now turned
+    → IsClosed a.view turned.set

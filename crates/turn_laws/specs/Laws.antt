@@ -31,19 +31,24 @@ abbrev pub IsGoneOn : Holding → Option Basis → Holding → Type 0
 IsGoneOn holding None h = h ≡ holding
 IsGoneOn holding (Some b) h = (h ≡ holding) ⊎ (h ≡ record { basis = b; held = [] })
 
--- Where names tell the blocks apart, what a turn takes by what is held is what it takes by the definition: whatever the agent may know and was told.
+-- Where names tell the blocks apart, what a turn takes by what is held is what it takes by the definition: whatever the agent may know and
+-- was told.
 abbrev pub TakenIsByDefinition : Type 0
 TakenIsByDefinition = (grounds : Grounds) (view : View) (own : PubKey) (floor : Vector) (holding h : Holding) (known : List Record)
     (batch : Batch) (basis : Option Basis) (edges : Key → Option Edge) (new : List Record)
-    → NamesTellApart grounds.met → IsView view → Knows view floor holding known → IsGoneOn holding basis h → MayTurn grounds view own known (refresh_with batch basis)
+    → NamesTellApart grounds.met → IsView view → Knows view floor holding known → IsGoneOn holding basis h
+    → MayTurn grounds view own known (refresh_with batch basis)
     → AreUnder view edges batch → TakesNew view own floor h (refresh_with batch basis) new
     → (taken : List Record) × IsTakenBy (record { grounds = grounds; started = batch.held }) view known (with_new h new) taken
 
 -- A turn that isn't refused has something to take, whatever its refresh brought: there is a largest closed part.
 abbrev pub ThereIsATaking : Type 0
-ThereIsATaking = (grounds : Grounds) (view : View) (own : PubKey) (floor : Vector) (holding h : Holding) (known : List Record) (brought : Refresh)
-    → NamesTellApart grounds.met → IsView view → Knows view floor holding known → IsGoneOn holding brought.basis h → MayTurn grounds view own known brought
-    → is_behind view own floor h brought ≡ false → is_below_tide own floor h brought ≡ false → (new : List Record) × TakesNew view own floor h brought new
+ThereIsATaking = (grounds : Grounds) (view : View) (own : PubKey) (floor : Vector) (holding h : Holding) (known : List Record)
+    (brought : Refresh)
+    → NamesTellApart grounds.met → IsView view → Knows view floor holding known → IsGoneOn holding brought.basis h
+    → MayTurn grounds view own known brought
+    → is_behind view own floor h brought ≡ false → is_below_tide own floor h brought ≡ false
+    → (new : List Record) × TakesNew view own floor h brought new
 
 -- ---- what is held, in place of the set
 
@@ -55,7 +60,8 @@ FrontIsJoined = (view : View) (s : List Record) (h : Holding) → HoldsAll view 
 abbrev pub OwnLogEndsAtFloor : Type 0
 OwnLogEndsAtFloor = (grounds : Grounds) (view : View) (own : PubKey) (floor : Vector) (holding h : Holding) (known : List Record)
     (batch : Batch) (basis : Option Basis) (edges : Key → Option Edge) (new : List Record)
-    → NamesTellApart grounds.met → IsView view → Knows view floor holding known → IsGoneOn holding basis h → MayTurn grounds view own known (refresh_with batch basis)
+    → NamesTellApart grounds.met → IsView view → Knows view floor holding known → IsGoneOn holding basis h
+    → MayTurn grounds view own known (refresh_with batch basis)
     → AreUnder view edges batch → TakesNew view own floor h (refresh_with batch basis) new
     → Contains view.members own → stamp_at (joined (with_new h new)) (head_key_of own) ≡ stamp_at floor (head_key_of own)
 

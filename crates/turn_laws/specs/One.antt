@@ -6,4 +6,5 @@ use Rattle.turn_model.specs.Turn.{Candidate}
 
 -- There is one list of candidates at most, where no two different blocks have one name.
 abbrev pub CandidatesAreOne : Type 0
-CandidatesAreOne = (e : Evidence) (one other : List Candidate) → NamesTellApart e.blocks → AreCandidates e one → AreCandidates e other → one ≡ other
+CandidatesAreOne = (e : Evidence) (one other : List Candidate) → NamesTellApart e.blocks → AreCandidates e one → AreCandidates e other
+    → one ≡ other

@@ -10,7 +10,8 @@ IsNoCall message = ((c : CallMessage) → IsCall message c → ⊥) × ((xid : �
 
 -- Each message is a call, or a call of another version of RPC, or neither.
 abbrev pub EachMessageIsKnown : Type 0
-EachMessageIsKnown = (message : List ℕ) → ((c : CallMessage) × IsCall message c) ⊎ ((xid : ℕ) × IsOtherVersion message xid) ⊎ IsNoCall message
+EachMessageIsKnown = (message : List ℕ)
+    → ((c : CallMessage) × IsCall message c) ⊎ ((xid : ℕ) × IsOtherVersion message xid) ⊎ IsNoCall message
 
 -- Each credential is a caller's, or no one's.
 abbrev pub EachCredentialIsKnown : Type 0

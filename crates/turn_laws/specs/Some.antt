@@ -10,7 +10,8 @@ use Rattle.turn_model.specs.Turn.{Candidate, IsAtHand}
 
 -- Any bytes are a record of an owner's, or they are none of its.
 abbrev pub EachBlockIsKnown : Type 0
-EachBlockIsKnown = (owner : PubKey) (block : List ℕ) → ((r : Record) × IsRecordOf owner block r) ⊎ ((r : Record) → IsRecordOf owner block r → ⊥)
+EachBlockIsKnown = (owner : PubKey) (block : List ℕ)
+    → ((r : Record) × IsRecordOf owner block r) ⊎ ((r : Record) → IsRecordOf owner block r → ⊥)
 
 -- Whatever heads and blocks there are, each member has a candidate.
 abbrev pub ThereAreCandidates : Type 0

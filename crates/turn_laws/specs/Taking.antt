@@ -1,4 +1,5 @@
--- What a turn takes of what a refresh brought, by what is held alone: whatever the agent knows, and whether or not names tell the blocks apart.
+-- What a turn takes of what a refresh brought, by what is held alone: whatever the agent knows, and whether or not names tell the blocks
+-- apart.
 use Rattle.std.specs.Prelude.{◌≡◌, false, List, ◌++◌, filter, map, nat_le, Option, if◌then◌else◌}
 use Rattle.std.specs.Ordering.{eq_by_cmp}
 use Rattle.ivy_base.specs.declared.key.PubKey.{PubKey}
@@ -19,9 +20,11 @@ refresh_with b basis = record { started = b.held; chains = map chain_of b.chains
 
 -- the chain's records; of the own log those that the floor names
 abbrev pub within : PubKey → Vector → Chain → List Record
-within own floor c = if eq_by_cmp owner_cmp own c.owner then filter (λ r. nat_le r.seq (seq_of floor (head_key_of c.owner))) c.records else c.records
+within own floor c = if eq_by_cmp owner_cmp own c.owner then filter
+    (λ r. nat_le r.seq (seq_of floor (head_key_of c.owner))) c.records else c.records
 
--- The turn isn't refused, and these are the new records: over the basis's front, those of the largest closed part of what is held and of the chains that go on from it.
+-- The turn isn't refused, and these are the new records: over the basis's front, those of the largest closed part of what is held and of
+-- the chains that go on from it.
 pub record TakesNew (view : View) (own : PubKey) (floor : Vector) (h : Holding) (brought : Refresh) (new : List Record) : Type 0 where
   pub caught_up : is_behind view own floor h brought ≡ false
   pub above : is_below_tide own floor h brought ≡ false

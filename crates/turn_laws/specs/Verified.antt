@@ -36,9 +36,11 @@ OwnLogIsKnown = (e : Evidence) (candidates : List Candidate) (taken : List Recor
     → AreCandidates (by_front e) candidates → IsClosed e.view e.known
     → IsClosedPart e.view (IsAtHand e.known candidates) taken → log_of e.own taken ≡ log_of e.own e.known
 
--- What is known after the turn, its own new records included, is backed by the floor of that, the same heads and blocks and whatever came to these.
+-- What is known after the turn, its own new records included, is backed by the floor of that, the same heads and blocks and whatever came
+-- to these.
 abbrev pub KnownStaysBacked : Type 0
-KnownStaysBacked = (a : Inputs) (blocks more : List (List ℕ)) (floor : Vector) (received later : List Entry) (taken : List Record) (asked : Asked) (now : Moment)
+KnownStaysBacked = (a : Inputs) (blocks more : List (List ℕ)) (floor : Vector) (received later : List Entry) (taken : List Record)
+    (asked : Asked) (now : Moment)
     → AreAmong blocks more → AreAmong received later
     → AllByRecursion (IsBacked blocks a.own floor received) taken
     → AllByRecursion (IsBacked more a.own (front (turn_on a taken asked now).set) later) (turn_on a taken asked now).set

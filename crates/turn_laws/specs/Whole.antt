@@ -11,5 +11,6 @@ use Rattle.causal_order.specs.Over as over
 -- these are the largest closed part over its front exactly where with the set they are the largest closed part of the set and
 -- of what is at hand.
 abbrev pub PartOverIsPartOfWhole : Type 0
-PartOverIsPartOfWhole = (view : View) (b : Basis) (below all s : List Record) → IsView view → StandsFor view b below → AllByRecursion (IsAboveTide b) all
+PartOverIsPartOfWhole = (view : View) (b : Basis) (below all s : List Record) → IsView view → StandsFor view b below
+    → AllByRecursion (IsAboveTide b) all
     → over.IsClosedPart view b.front (Contains all) s ↔ plain.IsClosedPart view (Contains (below ++ all)) (below ++ s)

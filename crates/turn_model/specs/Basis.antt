@@ -65,4 +65,5 @@ pub record Knows (view : View) (floor : Vector) (h : Holding) (known : List Reco
 
 -- Where all is held, the kept tree is the replay of all that is known.
 abbrev pub KeptTreeIsReplay : Type 0
-KeptTreeIsReplay = (view : View) (known : List Record) (h : Holding) → IsClosed view known → HoldsAll view known h → kept_tree h ≡ replay known
+KeptTreeIsReplay = (view : View) (known : List Record) (h : Holding) → IsClosed view known → HoldsAll view known h
+    → kept_tree h ≡ replay known

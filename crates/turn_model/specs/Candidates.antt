@@ -57,12 +57,14 @@ pub record Evidence : Type 0 where
 abbrev pub reading : Evidence → Reading
 reading e = record { blocks = e.blocks; view = e.view; floor = e.floor }
 
--- The candidate of an owner's log: of the agent's own log, what is known of it; of another, the chain of the first head whose records make one,
--- and what is known of it where no head's do
+-- The candidate of an owner's log: of the agent's own log, what is known of it; of another, the chain of the first head whose records make
+-- one, and what is known of it where no head's do
 pub data IsCandidate (e : Evidence) (owner : PubKey) : List Record → Type 0 where
   own_log : owner ≡ e.own → IsCandidate e owner (log_of owner e.known)
-  newest : (head : Stamp) (chain : List Record) → (owner ≡ e.own → ⊥) → IsTried e.heads e.floor (head_key_of owner) head → MakeChain (reading e) owner head chain
-      → ((other : Stamp) → IsTried e.heads e.floor (head_key_of owner) other → IsTriedBefore other head → IsPassedOver (reading e) owner other)
+  newest : (head : Stamp) (chain : List Record) → (owner ≡ e.own → ⊥) → IsTried e.heads e.floor (head_key_of owner) head
+      → MakeChain (reading e) owner head chain
+      → ((other : Stamp) → IsTried e.heads e.floor (head_key_of owner) other → IsTriedBefore other head
+      → IsPassedOver (reading e) owner other)
       → IsCandidate e owner chain
   as_known : (owner ≡ e.own → ⊥) → ((head : Stamp) → IsTried e.heads e.floor (head_key_of owner) head → IsPassedOver (reading e) owner head)
       → IsCandidate e owner (log_of owner e.known)
@@ -74,4 +76,5 @@ pub record AreCandidates (e : Evidence) (candidates : List Candidate) : Type 0 w
 
 -- Where the agent is its view's only member, its candidates bring nothing.
 abbrev pub OnlyMemberHasNothingNew : Type 0
-OnlyMemberHasNothingNew = (e : Evidence) (candidates : List Candidate) → e.view.members ≡ e.own ∷ [] → AreCandidates e candidates → BringNothing e.known candidates
+OnlyMemberHasNothingNew = (e : Evidence) (candidates : List Candidate) → e.view.members ≡ e.own ∷ [] → AreCandidates e candidates
+    → BringNothing e.known candidates

@@ -24,7 +24,8 @@ pub record IsKnown (view : View) (floor : Vector) (known : List Record) : Type 0
   pub chains : (owner : PubKey) → IsChain view owner (log_of owner known)
   pub ends : (owner : PubKey) → Contains view.members owner → EndsAt (stamp_at floor (head_key_of owner)) (log_of owner known)
 
--- Among the blocks, the record stands at or below the record that one of the heads names. A head is given as the entry that it says: a log, and its newest record
+-- Among the blocks, the record stands at or below the record that one of the heads names. A head is given as the entry that it says: a log,
+-- and its newest record
 pub record IsUnderHead (blocks : List (List ℕ)) (heads : List Entry) (r : Record) : Type 0 where
   pub head : Entry
   pub received : Contains heads head
@@ -37,9 +38,11 @@ pub record IsUnderHead (blocks : List (List ℕ)) (heads : List Entry) (r : Reco
 
 -- an own record stands within the floor, and another's under a verified head that was received
 abbrev pub IsBacked : List (List ℕ) → PubKey → Vector → List Entry → Record → Type 0
-IsBacked blocks own floor heads r = ((r.owner ≡ own) × (r.seq ≤ seq_of floor (head_key_of own))) ⊎ ((r.owner ≡ own → ⊥) × IsUnderHead blocks heads r)
+IsBacked blocks own floor heads r =
+    ((r.owner ≡ own) × (r.seq ≤ seq_of floor (head_key_of own))) ⊎ ((r.owner ≡ own → ⊥) × IsUnderHead blocks heads r)
 
 -- the set is verified for the agent: of each log the beginning of a chain, and each record is backed
-pub record IsVerified (blocks : List (List ℕ)) (view : View) (own : PubKey) (floor : Vector) (heads : List Entry) (s : List Record) : Type 0 where
+pub record IsVerified (blocks : List (List ℕ)) (view : View) (own : PubKey) (floor : Vector) (heads : List Entry)
+    (s : List Record) : Type 0 where
   pub chains : (owner : PubKey) → IsChain view owner (log_of owner s)
   pub backed : AllByRecursion (IsBacked blocks own floor heads) s

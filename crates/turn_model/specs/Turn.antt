@@ -1,5 +1,6 @@
 -- A turn: from what an agent knows and what it was given, the set that it answers on, the reply, and what it knows then.
-use Rattle.std.specs.Prelude.{◌≡◌, ◌≤◌, ◌↔◌, ℕ, ◌+◌, nat_lt, Bool, false, ◌||◌, ◌&&◌, not, List, [], ◌∷◌, ◌++◌, length, Contains, None, ◌==◌, if◌then◌else◌, ◌⊎◌}
+use Rattle.std.specs.Prelude.{◌≡◌, ◌≤◌, ◌↔◌, ℕ, ◌+◌, nat_lt, Bool, false, ◌||◌, ◌&&◌, not, List, [], ◌∷◌, ◌++◌, length, Contains, None}
+use Rattle.std.specs.Prelude.{◌==◌, if◌then◌else◌, ◌⊎◌}
 use Rattle.std.specs.Option.{option_map_or}
 use Rattle.ivy_base.specs.declared.key.Key.{Key}
 use Rattle.ivy_base.specs.declared.key.PubKey.{PubKey}
@@ -88,7 +89,8 @@ appended own format now s ops = s ++ linked (heading_over own format now (front 
 
 -- ---- the turn
 
--- What a turn goes by beside what is known: the view, the own key, the signatures that its key has left, and whether its keeper has failed since its start, this turn included
+-- What a turn goes by beside what is known: the view, the own key, the signatures that its key has left, and whether its keeper has failed
+-- since its start, this turn included
 pub record Inputs : Type 0 where
   pub view : View
   pub own : PubKey
@@ -100,8 +102,8 @@ pub record Turned : Type 0 where
   pub reply : Reply
   pub set : List Record
 
--- A plan of operations is refused where no signature or no number is left for it, or the keeper has failed; else its records are appended, and the
--- reply is of the trees before and after them
+-- A plan of operations is refused where no signature or no number is left for it, or the keeper has failed; else its records are appended,
+-- and the reply is of the trees before and after them
 abbrev pub by_plan : Inputs → List Record → Asked → Moment → Plan → Turned
 by_plan a s asked now (Refuse reply) = record { reply = reply; set = s }
 by_plan a s asked now (Nothing reply) = record { reply = reply; set = s }
@@ -130,10 +132,12 @@ may_save a s (Operations ops) = not (a.leaves == 0 || nat_lt most_records (own_s
 
 -- whether a turn on the set tries to save
 abbrev pub tries_save : Inputs → List Record → Asked → Moment → Bool
-tries_save a s asked now = is_changing asked.args && may_save a s (plan (replay s) a.view asked.caller asked.args now a.own (own_seq a.own s + 1))
+tries_save a s asked now = is_changing asked.args
+    && may_save a s (plan (replay s) a.view asked.caller asked.args now a.own (own_seq a.own s + 1))
 
 -- the turn of an agent that knows these records and has these candidates: it is on the largest closed part of what is at hand
-pub record IsTurn (a : Inputs) (known : List Record) (candidates : List Candidate) (asked : Asked) (now : Moment) (turned : Turned) : Type 0 where
+pub record IsTurn (a : Inputs) (known : List Record) (candidates : List Candidate) (asked : Asked) (now : Moment)
+    (turned : Turned) : Type 0 where
   pub taken : List Record
   pub largest : IsClosedPart a.view (IsAtHand known candidates) taken
   pub by_set : turned ≡ turn_on a taken asked now
@@ -163,4 +167,5 @@ BringNothing known candidates = (c : Candidate) → Contains candidates c → (r
 -- Where the candidates bring nothing, there is one turn, and it is on what is known.
 abbrev pub TurnIsOnKnown : Type 0
 TurnIsOnKnown = (a : Inputs) (known : List Record) (candidates : List Candidate) (asked : Asked) (now : Moment) (turned : Turned)
-    → IsClosed a.view known → BringNothing known candidates → IsTurn a known candidates asked now turned ↔ (turned ≡ turn_on a known asked now)
+    → IsClosed a.view known → BringNothing known candidates
+    → IsTurn a known candidates asked now turned ↔ (turned ≡ turn_on a known asked now)

@@ -29,4 +29,5 @@ AllNamesOf (n ∷ ns) (c ∷ cs) = AreNamesOf n c × AllNamesOf ns cs
 -- the names have the record's, under its owner
 pub record HasNameOf (all : List Names) (r : Record) : Type 0 where
   pub some : (names : Names) × Contains all names × (names.owner ≡ r.owner)
-  pub each : AllByRecursion (λ names. names.owner ≡ r.owner → (names.log ≡ head_key_of r.owner) × (records : List Record) × AreNamesOf names records × Contains records r) all
+  pub each : AllByRecursion (λ names. names.owner ≡ r.owner
+      → (names.log ≡ head_key_of r.owner) × (records : List Record) × AreNamesOf names records × Contains records r) all

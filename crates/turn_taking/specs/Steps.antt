@@ -34,8 +34,11 @@ pub record AreTaken (held : Held) (chains : List (List Record)) (new : List Reco
 -- what is taken of chains within the floor
 abbrev pub TakesWithin : Held → List (List Record) → Taken → Type 0
 TakesWithin held chains taken.Behind = lacks_one held (new_of held.front.now chains) ≡ true
-TakesWithin held chains taken.BelowTide = (lacks_one held (new_of held.front.now chains) ≡ false) × (are_above held (new_of held.front.now chains) ≡ false)
-TakesWithin held chains (taken.New records front) = (lacks_one held (new_of held.front.now chains) ≡ false) × (are_above held (new_of held.front.now chains) ≡ true) × AreTaken held chains (records_of records.items) front
+TakesWithin held chains taken.BelowTide =
+    (lacks_one held (new_of held.front.now chains) ≡ false) × (are_above held (new_of held.front.now chains) ≡ false)
+TakesWithin held chains (taken.New records front) =
+    (lacks_one held (new_of held.front.now chains) ≡ false) × (are_above held (new_of held.front.now chains) ≡ true)
+    × AreTaken held chains (records_of records.items) front
 
 -- what is taken of any
 abbrev pub TakesOf : Held → List (List Record) → Taken → Type 0

@@ -25,9 +25,12 @@ pub record IsWithin (view : View) (own : PubKey) (floor v : Vector) : Type 0 whe
   pub named : AllByRecursion (λ e. IsTrue (is_named view e.0)) v
   pub own_log : seq_of v (head_key_of own) ≤ seq_of floor (head_key_of own)
 
--- a turn that goes on from that takes this of the batch: it is behind, or below the basis's tide, or these are the new records, with the front then
+-- a turn that goes on from that takes this of the batch: it is behind, or below the basis's tide, or these are the new records, with the
+-- front then
 abbrev pub Takes : View → PubKey → Vector → Batch → Holding → Taken → Type 0
 Takes view own floor b h taken.Behind = is_behind view own floor h (refresh_with b None) ≡ true
-Takes view own floor b h taken.BelowTide = (is_behind view own floor h (refresh_with b None) ≡ false) × (is_below_tide own floor h (refresh_with b None) ≡ true)
+Takes view own floor b h taken.BelowTide =
+    (is_behind view own floor h (refresh_with b None) ≡ false) × (is_below_tide own floor h (refresh_with b None) ≡ true)
 Takes view own floor b h (taken.New records front) =
-    TakesNew view own floor h (refresh_with b None) (records_of records.items) × (front ≡ joined (with_new h (records_of records.items))) × IsWithin view own floor front
+    TakesNew view own floor h (refresh_with b None) (records_of records.items) × (front ≡ joined (with_new h (records_of records.items)))
+    × IsWithin view own floor front

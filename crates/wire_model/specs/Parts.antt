@@ -9,7 +9,8 @@ Told Fits spell None x now = now ≡ None
 Told Fits spell (Some bytes) x None = HasNoFront Fits spell bytes
 Told Fits spell (Some bytes) x (Some rest) = IsFront Fits spell bytes x rest
 
-pub record Reads {A : Type 0} (Fits : A → Type 0) (spell : A → List ℕ) (before : Option (List ℕ)) (x : A) (now : Option (List ℕ)) : Type 0 where
+pub record Reads {A : Type 0} (Fits : A → Type 0) (spell : A → List ℕ) (before : Option (List ℕ)) (x : A)
+    (now : Option (List ℕ)) : Type 0 where
   pub told : Told Fits spell before x now
 
 -- where there is one, it is such

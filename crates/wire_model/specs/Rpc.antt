@@ -45,7 +45,8 @@ IsCall message c = CallFits c × (message ≡ call c)
 
 -- the message is a call of another RPC version: nothing after the version is looked at
 abbrev pub IsOtherVersion : List ℕ → ℕ → Type 0
-IsOtherVersion message xid = (version : ℕ) × (rest : List ℕ) × (xid < 2 ^ 32) × (version < 2 ^ 32) × (version ≢ 2) × (message ≡ word xid ++ word 0 ++ word version ++ rest)
+IsOtherVersion message xid = (version : ℕ) × (rest : List ℕ) × (xid < 2 ^ 32) × (version < 2 ^ 32) × (version ≢ 2)
+    × (message ≡ word xid ++ word 0 ++ word version ++ rest)
 
 -- ---- the caller (appendix A: AUTH_SYS)
 
@@ -78,7 +79,8 @@ pub record IsIdentity (who : Identity) : Type 0 where
 -- any other credential has no caller
 pub data IsCaller : Auth → Identity → Type 0 where
   none : {body : List ℕ} → IsCaller (record { flavour = 0; body = body }) nobody
-  system : {who : Identity} (stamp : ℕ) (machine : List ℕ) → stamp < 2 ^ 32 → length machine ≤ 255 → IsIdentity who → IsCaller (record { flavour = 1; body = system_body stamp machine who }) who
+  system : {who : Identity} (stamp : ℕ) (machine : List ℕ) → stamp < 2 ^ 32 → length machine ≤ 255 → IsIdentity who
+      → IsCaller (record { flavour = 1; body = system_body stamp machine who }) who
 
 -- ---- replies (9)
 

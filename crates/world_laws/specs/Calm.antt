@@ -1,6 +1,7 @@
 -- Calm scripts, whose ring changes little, and what they may rely on: what was put stays (CFS, SOSP 2001, section 5.1). Here it is proved
 -- that their ring stays. That what was acknowledged is stored and returned is proved in `durability_laws`.
-use Rattle.std.specs.Prelude.{◌≡◌, if◌then◌else◌, ℕ, ◌+◌, ◌<◌, ◌≤◌, true, false, List, [], ◌∷◌, ◌++◌, length, IfSome, Contains, Option, Some, Result, Ok}
+use Rattle.std.specs.Prelude.{◌≡◌, if◌then◌else◌, ℕ, ◌+◌, ◌<◌, ◌≤◌, true, false, List, [], ◌∷◌, ◌++◌, length, IfSome, Contains, Option}
+use Rattle.std.specs.Prelude.{Some, Result, Ok}
 use Rattle.std.specs.List.{AllByRecursion}
 use Rattle.std.specs.Option.{option_map_or}
 use Rattle.ivy_base.specs.declared.key.Key.{Key}
@@ -59,13 +60,15 @@ IsQuiet _ = Unit {0}
 pub data IsCalm (w : World) (r : ℕ) : Since → Command → Since → Type 0 where
   rounds : (since : Since) → w.sessions ≡ [] → IsCalm w r since command.Round (Stopped 0)
   joins : (number : ℕ) → w.sessions ≡ [] → IsCalm w r (Stopped 0) (command.Join number) Joined
-  stops : (count : ℕ) (node : NodeWord) → w.sessions ≡ [] → count + 1 < r → 2 ≤ length (live_in_order w) → IsCalm w r (Stopped count) (command.Stop node) (Stopped (count + 1))
+  stops : (count : ℕ) (node : NodeWord) → w.sessions ≡ [] → count + 1 < r → 2 ≤ length (live_in_order w)
+      → IsCalm w r (Stopped count) (command.Stop node) (Stopped (count + 1))
   other : (count : ℕ) (c : Command) → IsQuiet c → IsCalm w r (Stopped count) c (Stopped count)
 
 -- a calm part of a script, from a world to a world
 pub data Calmly (r : ℕ) : Played → Since → List (List ℕ) → Played → Since → Type 0 where
   none : {w : Played} {since : Since} → Calmly r w since [] w since
-  more : {w mid next : Played} {since between after : Since} {line : List ℕ} {lines : List (List ℕ)} (c : Command) (output : List ℕ) → command_of line ≡ Some c → IsCalm w.0 r since c between
+  more : {w mid next : Played} {since between after : Since} {line : List ℕ} {lines : List (List ℕ)} (c : Command) (output : List ℕ)
+      → command_of line ≡ Some c → IsCalm w.0 r since c between
       → IvyStep w line (Goes mid output) → Calmly r mid between lines next after → Calmly r w since (line ∷ lines) next after
 
 -- ---- what stays
@@ -96,7 +99,8 @@ AreAny lines = Unit {0}
 
 -- the ring is settled after each round, and covered at each later line but between a join and its round
 abbrev pub RingStays : (List (List ℕ) → Type 0) → Type 0
-RingStays AreSo = (r : ℕ) (w : Played) (count : ℕ) (lines : List (List ℕ)) → AreSo lines → IsCalmAt r w (Stopped count) lines → IsCoveredIn w.0 r × (count ≡ 0 → IsSettledIn w.0 r)
+RingStays AreSo = (r : ℕ) (w : Played) (count : ℕ) (lines : List (List ℕ)) → AreSo lines → IsCalmAt r w (Stopped count) lines
+    → IsCoveredIn w.0 r × (count ≡ 0 → IsSettledIn w.0 r)
 
 -- the rank of a post
 abbrev pub post_rank : Post → ℕ
@@ -104,16 +108,21 @@ post_rank p = if is_head p.kind then option_map_or (λ j. j.seq) (hss_judged p.k
 
 -- of each post of which a put was acknowledged an owner of its key holds it, or a newer head
 abbrev pub AckedIsHeld : (List (List ℕ) → Type 0) → Type 0
-AckedIsHeld AreSo = (r : ℕ) (w : Played) (count : ℕ) (lines : List (List ℕ)) (p : Post) → AreSo lines → IsCalmAt r w (Stopped count) lines → Contains w.1.acked p
+AckedIsHeld AreSo = (r : ℕ) (w : Played) (count : ℕ) (lines : List (List ℕ)) (p : Post) → AreSo lines → IsCalmAt r w (Stopped count) lines
+    → Contains w.1.acked p
     → (m : Peer) × IsAmong m (owners place r (live_in_order w.0) (number p.key)) × IsAtLeast (post_rank p) (rank_in w.0 p.key m)
 
 -- so a get of a block gives it
 abbrev pub BlocksAreGiven : (List (List ℕ) → Type 0) → Type 0
-BlocksAreGiven AreSo = (r : ℕ) (w : Played) (next : World) (count : ℕ) (lines : List (List ℕ)) (p : Post) (looks asks : Told) (came : Result (List ℕ) Miss) → AreSo lines → IsCalmAt r w (Stopped count) lines → Contains w.1.acked p → is_head p.kind ≡ false
-    → Fates hss_judged w.0 (asking (ask.Route p.key) looks ++ asking (ask.Get p.key) asks) next → IsGetOfBlock p.key r (entries w.0) (told_all (ask.Route p.key) looks ++ told_all (ask.Get p.key) asks) came → came ≡ Ok p.bytes
+BlocksAreGiven AreSo = (r : ℕ) (w : Played) (next : World) (count : ℕ) (lines : List (List ℕ)) (p : Post) (looks asks : Told)
+    (came : Result (List ℕ) Miss) → AreSo lines → IsCalmAt r w (Stopped count) lines → Contains w.1.acked p → is_head p.kind ≡ false
+    → Fates hss_judged w.0 (asking (ask.Route p.key) looks ++ asking (ask.Get p.key) asks) next
+    → IsGetOfBlock p.key r (entries w.0) (told_all (ask.Route p.key) looks ++ told_all (ask.Get p.key) asks) came → came ≡ Ok p.bytes
 
 -- and a get of a head one of its number or a greater one
 abbrev pub HeadsAreGiven : (List (List ℕ) → Type 0) → Type 0
-HeadsAreGiven AreSo = (r : ℕ) (w : Played) (next : World) (count : ℕ) (lines : List (List ℕ)) (p : Post) (looks asks : Told) (came : Result (List Judged) Miss) → AreSo lines → IsCalmAt r w (Stopped count) lines → Contains w.1.acked p → is_head p.kind ≡ true
-    → Fates hss_judged w.0 (asking (ask.Route p.key) looks ++ asking (ask.Get p.key) asks) next → IsGetOfHead (hss_judged p.key) p.key r (entries w.0) (told_all (ask.Route p.key) looks ++ told_all (ask.Get p.key) asks) came
+HeadsAreGiven AreSo = (r : ℕ) (w : Played) (next : World) (count : ℕ) (lines : List (List ℕ)) (p : Post) (looks asks : Told)
+    (came : Result (List Judged) Miss) → AreSo lines → IsCalmAt r w (Stopped count) lines → Contains w.1.acked p → is_head p.kind ≡ true
+    → Fates hss_judged w.0 (asking (ask.Route p.key) looks ++ asking (ask.Get p.key) asks) next
+    → IsGetOfHead (hss_judged p.key) p.key r (entries w.0) (told_all (ask.Route p.key) looks ++ told_all (ask.Get p.key) asks) came
     → (heads : List Judged) × (j : Judged) × (came ≡ Ok heads) × Contains heads j × (post_rank p ≤ j.seq)

@@ -27,8 +27,10 @@ pub record IsOf (h : HadTurn) (number : ℕ) (s : Session) : Type 0 where
 -- JUKEBOX (10008) and IO (5) of a failed refresh come only with what it needed and couldn't have. SYSTEM_ERR has no cause but memory.
 pub data HasCause (st : Story) (number : ℕ) (s : Session) : Said → Type 0 where
   alone : (given : Option (List ℕ)) → IsByMessage s.standing.view s.message given → HasCause st number s (said_bare given)
-  missed : (xid : ℕ) (asked : Asked) (given : Refresh) (miss : Miss) → Asks s.standing.view s.message xid asked → Refreshes s.standing (brought_in s.parts) s.notes given (FailsBy miss)
+  missed : (xid : ℕ) (asked : Asked) (given : Refresh) (miss : Miss) → Asks s.standing.view s.message xid asked
+      → Refreshes s.standing (brought_in s.parts) s.notes given (FailsBy miss)
       → s.missed ≡ Some miss → HasCause st number s (said_of xid (missed_reply asked miss))
-  turned : (h : HadTurn) (xid : ℕ) (asked : Asked) (given : Refresh) → Contains st.turns h → IsOf h number s → Asks s.standing.view s.message xid asked
+  turned : (h : HadTurn) (xid : ℕ) (asked : Asked) (given : Refresh) → Contains st.turns h → IsOf h number s
+      → Asks s.standing.view s.message xid asked
       → Refreshes s.standing (brought_in s.parts) s.notes given Done → HasCause st number s (said_of xid h.turned.reply)
   no_memory : (xid : ℕ) (asked : Asked) → Asks s.standing.view s.message xid asked → HasCause st number s (said_no_memory xid)

@@ -42,11 +42,26 @@ pub record Change : Type 0 where
   pub work : ℕ
 
 abbrev pub changed : Participant → Change → Participant
-changed p d = record p { agent = record p.agent { pending = d.pending; has_failed = d.has_failed }; keeper = d.keeper; cache = d.cache; made = d.made; printed = d.printed; work = d.work }
+changed p d = record p {
+  agent = record p.agent { pending = d.pending; has_failed = d.has_failed };
+  keeper = d.keeper;
+  cache = d.cache;
+  made = d.made;
+  printed = d.printed;
+  work = d.work;
+}
 
 -- nothing of it
 abbrev pub unchanged : Participant → Change
-unchanged p = record { pending = p.agent.pending; has_failed = p.agent.has_failed; keeper = p.keeper; cache = p.cache; made = p.made; printed = p.printed; work = p.work }
+unchanged p = record {
+  pending = p.agent.pending;
+  has_failed = p.agent.has_failed;
+  keeper = p.keeper;
+  cache = p.cache;
+  made = p.made;
+  printed = p.printed;
+  work = p.work;
+}
 
 -- its keeper holds the same bytes, nothing more is to be published, and its cache has blocks that were met
 pub record IsMildChange (met : List (List ℕ)) (p : Participant) (d : Change) : Type 0 where
@@ -71,7 +86,16 @@ pub record Changes : Type 0 where
 
 abbrev pub changed_by : Changes → Played → Played
 changed_by c w = (
-  record w.0 { nodes = c.nodes; participants = map (λ p. changed p (c.change p)) w.0.participants; views = c.views; replies = c.replies; now = c.now; asked = c.asked; lost = c.lost; met = c.met },
+  record w.0 {
+    nodes = c.nodes;
+    participants = map (λ p. changed p (c.change p)) w.0.participants;
+    views = c.views;
+    replies = c.replies;
+    now = c.now;
+    asked = c.asked;
+    lost = c.lost;
+    met = c.met;
+  },
   record w.1 { acked = c.acked },
 )
 
@@ -99,7 +123,8 @@ MildChangesKeep = (w : Played) (c : Changes) → Keeps w → IsMild w.0 c → Ke
 
 -- So do more blocks that are met: whatever holds over what was met holds over more.
 abbrev pub MoreBlocksKeep : Type 0
-MoreBlocksKeep = (w : World) (st : Story) (met : List (List ℕ)) → Keeps (w, st) → ((b : List ℕ) → Contains w.met b → Contains met b) → Keeps (record w { met = met }, st)
+MoreBlocksKeep = (w : World) (st : Story) (met : List (List ℕ)) → Keeps (w, st) → ((b : List ℕ) → Contains w.met b → Contains met b)
+    → Keeps (record w { met = met }, st)
 
 -- ---- lines without sessions
 

@@ -25,7 +25,8 @@ use Rattle.world_laws.specs.Laws.{CanBeDone, HadMemory, MakesNoSnapshot}
 
 -- ---- room
 
--- What is to be published is one head at most, and beside it no more posts than the own log has records: there is no block of a snapshot among them.
+-- What is to be published is one head at most, and beside it no more posts than the own log has records: there is no block of a snapshot
+-- among them.
 pub record HasFewPosts (k : Kept) : Type 0 where
   pub records : length (filter (λ p. not (is_head p.kind)) k.pending) ≤ seq_of k.floor (head_key_of (own_key hss k.signer))
   pub heads : length (filter (λ p. is_head p.kind) k.pending) ≤ 1
@@ -40,7 +41,8 @@ EmptyPublishesFew = PublishFew empty_world
 
 -- A line that makes no snapshot leaves it so.
 abbrev pub FewPostsCome : Type 0
-FewPostsCome = (w next : Played) (line output : List ℕ) → Keeps w → PublishFew w.0 → MakesNoSnapshot line → IvyStep w line (Goes next output) → PublishFew next.0
+FewPostsCome = (w next : Played) (line output : List ℕ) → Keeps w → PublishFew w.0 → MakesNoSnapshot line
+    → IvyStep w line (Goes next output) → PublishFew next.0
 
 -- each agent has room
 abbrev pub HaveRoom : World → Type 0
@@ -79,15 +81,18 @@ EmptyHasBytes = HasBytes empty_world
 
 -- the line sends these pieces, in a whole call or to open a session
 abbrev pub Sends : List ℕ → List ℕ → List Piece → Type 0
-Sends line log pieces = (command_of line ≡ Some (command.As log pieces)) ⊎ ((session : List ℕ) × (command_of line ≡ Some (command.Open session log pieces)))
+Sends line log pieces = (command_of line ≡ Some (command.As log pieces))
+    ⊎ ((session : List ℕ) × (command_of line ≡ Some (command.Open session log pieces)))
 
 -- They are a message of bytes, whatever the line.
 abbrev pub MessagesAreBytes : Type 0
-MessagesAreBytes = (w : World) (line log : List ℕ) (pieces : List Piece) (s : Sending) → HasBytes w → Sends line log pieces → sending_of w log pieces ≡ Some s → AreBytes s.message
+MessagesAreBytes = (w : World) (line log : List ℕ) (pieces : List Piece) (s : Sending) → HasBytes w → Sends line log pieces
+    → sending_of w log pieces ≡ Some s → AreBytes s.message
 
 -- Where names tell apart the blocks met, a line leaves it so.
 abbrev pub BytesCome : Type 0
-BytesCome = (w next : Played) (line output : List ℕ) → Keeps w → HasBytes w.0 → NamesTellApart (named_bytes next.0) → IvyStep w line (Goes next output) → HasBytes next.0
+BytesCome = (w next : Played) (line output : List ℕ) → Keeps w → HasBytes w.0 → NamesTellApart (named_bytes next.0)
+    → IvyStep w line (Goes next output) → HasBytes next.0
 
 -- ---- lines
 
@@ -98,8 +103,8 @@ Clashes Ends = ⊥
 Clashes Refuses = ⊥
 Clashes Exceeds = ⊥
 
--- In such a world, where agents have room, each line has an outcome in which memory was there and names tell apart, or one in which names clash; of a line that makes a
--- snapshot that asks that what is to be published can be saved.
+-- In such a world, where agents have room, each line has an outcome in which memory was there and names tell apart, or one in which names
+-- clash; of a line that makes a snapshot that asks that what is to be published can be saved.
 abbrev pub FullLines : Type 0
 FullLines = (w : Played) (line : List ℕ) → Keeps w → HaveRoom w.0 → HasBytes w.0 → IfSome (command_of line) (CanBeDone w.0)
     → (outcome : Outcome Played) × IvyStep w line outcome × (HadMemory w line outcome ⊎ Clashes outcome)
@@ -130,11 +135,13 @@ LackedMemory w line Exceeds = ⊥
 
 -- Of each outcome of a line in such a world memory was there and names tell apart, or memory was wanting, or names clash.
 abbrev pub MemoryIsDecided : Type 0
-MemoryIsDecided = (w : Played) (line : List ℕ) (outcome : Outcome Played) → Keeps w → IvyStep w line outcome → HadMemory w line outcome ⊎ (LackedMemory w line outcome ⊎ Clashes outcome)
+MemoryIsDecided = (w : Played) (line : List ℕ) (outcome : Outcome Played) → Keeps w → IvyStep w line outcome
+    → HadMemory w line outcome ⊎ (LackedMemory w line outcome ⊎ Clashes outcome)
 
 -- ---- scripts
 
--- The first lines go on with memory there, and names tell apart; and the line behind them leads to a world that met blocks among which names clash.
+-- The first lines go on with memory there, and names tell apart; and the line behind them leads to a world that met blocks among which
+-- names clash.
 pub record ClashesOn (w : Played) (lines : List (List ℕ)) : Type 0 where
   pub front : List (List ℕ)
   pub line : List ℕ
@@ -150,11 +157,13 @@ pub record ClashesOn (w : Played) (lines : List (List ℕ)) : Type 0 where
 
 -- the one run in which memory is never wanting and names tell apart
 abbrev pub IsFullRun : Played → ℕ → List (List ℕ) → Ran → Type 0
-IsFullRun w number lines ran = Runs (WithLaw IvyStep HadMemory) w number lines ran × ((other : Ran) → Runs (WithLaw IvyStep HadMemory) w number lines other → other ≡ ran)
+IsFullRun w number lines ran = Runs (WithLaw IvyStep HadMemory) w number lines ran
+    × ((other : Ran) → Runs (WithLaw IvyStep HadMemory) w number lines other → other ≡ ran)
 
 -- From such a world there is that run of each script that makes no snapshot, or names clash on the way.
 abbrev pub FullScripts : Type 0
-FullScripts = (w : Played) (number : ℕ) (lines : List (List ℕ)) → Keeps w → PublishFew w.0 → HasBytes w.0 → AllByRecursion (λ line. MakesNoSnapshot (shown line)) lines
+FullScripts = (w : Played) (number : ℕ) (lines : List (List ℕ)) → Keeps w → PublishFew w.0 → HasBytes w.0
+    → AllByRecursion (λ line. MakesNoSnapshot (shown line)) lines
     → ((ran : Ran) × IsFullRun w number lines ran) ⊎ ClashesOn w lines
 
 -- So it is of each script from its beginning.

@@ -23,8 +23,10 @@ AreBytes message = IsTrue (list_all (λ b. nat_lt b 256) message)
 
 -- Where names tell apart and the agent has room for what it may publish, a refresh of a message that is done has a turn.
 abbrev pub TurnsExist : Type 0
-TurnsExist = (c : Scene) (r : ℕ) (p : Participant) (taken : Session) (cache : Cache) (notes : List Note) (given : Refresh) (xid : ℕ) (asked : Asked)
-    → Keeps (c.world, c.story) → IsInHand c r → NamesTellApart (named_bytes c.world) → participant c.world c.session.by ≡ Some p → TakesAll hss_judged r c.session p.cache taken cache
+TurnsExist = (c : Scene) (r : ℕ) (p : Participant) (taken : Session) (cache : Cache) (notes : List Note) (given : Refresh) (xid : ℕ)
+    (asked : Asked)
+    → Keeps (c.world, c.story) → IsInHand c r → NamesTellApart (named_bytes c.world) → participant c.world c.session.by ≡ Some p
+    → TakesAll hss_judged r c.session p.cache taken cache
     → HasRefreshed taken notes given → Asks taken.standing.view taken.message xid asked → AreBytes c.session.message → HasRoom p.agent
     → (end : TurnEnd) × (after : Agent) × (saving : Option Kept) × TurnAt c p taken given asked end after saving
 
@@ -32,16 +34,19 @@ TurnsExist = (c : Scene) (r : ℕ) (p : Participant) (taken : Session) (cache : 
 pub data GoesToItsEnd (r : ℕ) (name : List ℕ) : Scene → Type 0 where
   ends : {c next : Scene} → RunsOut hss_judged r name c next → HasMemoryAt next.session → GoesToItsEnd r name c
   clashes : {c : Scene} → HasClash (named_bytes c.world) → GoesToItsEnd r name c
-  goes_on : {c next : Scene} (count : ℕ) → StepsOn hss_judged r name count c next → HasMemoryAt next.session → GoesToItsEnd r name next → GoesToItsEnd r name c
+  goes_on : {c next : Scene} (count : ℕ) → StepsOn hss_judged r name count c next → HasMemoryAt next.session → GoesToItsEnd r name next
+      → GoesToItsEnd r name c
 
 -- So does each session in hand that refreshes for a message, where its agent has room.
 abbrev pub SessionsGoToTheirEnds : Type 0
-SessionsGoToTheirEnds = (c : Scene) (r : ℕ) (p : Participant) → Keeps (c.world, c.story) → IsInHand c r → c.world.replicas ≡ Some r → c.session.stage ≡ Refreshing
+SessionsGoToTheirEnds = (c : Scene) (r : ℕ) (p : Participant) → Keeps (c.world, c.story) → IsInHand c r → c.world.replicas ≡ Some r
+    → c.session.stage ≡ Refreshing
     → participant c.world c.session.by ≡ Some p → AreBytes c.session.message → HasRoom p.agent → GoesToItsEnd r c.session.by c
 
 -- That is, it has an end in which memory was there, or there are steps to where names clash.
 abbrev pub SessionsEndOrClash : Type 0
-SessionsEndOrClash = (c : Scene) (r : ℕ) (p : Participant) → Keeps (c.world, c.story) → IsInHand c r → c.world.replicas ≡ Some r → c.session.stage ≡ Refreshing
+SessionsEndOrClash = (c : Scene) (r : ℕ) (p : Participant) → Keeps (c.world, c.story) → IsInHand c r → c.world.replicas ≡ Some r
+    → c.session.stage ≡ Refreshing
     → participant c.world c.session.by ≡ Some p → AreBytes c.session.message → HasRoom p.agent
     → ((next : Scene) × RunsOut hss_judged r c.session.by c next × HasMemoryAt next.session)
     ⊎ ((count : ℕ) × (next : Scene) × StepsOn hss_judged r c.session.by count c next × HasClash (named_bytes next.world))

@@ -88,8 +88,11 @@ ShowsReply _ = ⊥
 -- The session of the line, and the number of its call.
 -- Of `as` it is the session that the line begins, of that participant with that message. Of `end S` it is the open session of that name.
 abbrev pub IsAskedBy : Played → Command → ℕ → Session → Type 0
-IsAskedBy w (command.As log pieces) number s = (number ≡ w.1.begun) × (s.by ≡ log) × (message_of w.0.replies s.standing.view pieces ≡ Some s.message)
-IsAskedBy w (command.Finish name) number s = (before : Session) × (session_named w.0 name ≡ Some before) × (number ≡ (began_of w.1 name).number) × (s.by ≡ before.by) × (s.message ≡ before.message)
+IsAskedBy w (command.As log pieces) number s =
+    (number ≡ w.1.begun) × (s.by ≡ log) × (message_of w.0.replies s.standing.view pieces ≡ Some s.message)
+IsAskedBy w (command.Finish name) number s =
+    (before : Session) × (session_named w.0 name ≡ Some before) × (number ≡ (began_of w.1 name).number) × (s.by ≡ before.by)
+    × (s.message ≡ before.message)
 IsAskedBy w _ number s = ⊥
 
 -- Where the steps of the line's call begin: in the world and the story of the line.
@@ -156,4 +159,5 @@ pub record HoldsOf (w : Played) (command : Command) (next : Played) (output : Li
 -- The reply that it shows, if it shows one, is that of the session at the end of its steps, and has its cause.
 -- Each answer in the trail of that session is the fate of its ask, in these steps or in those of the lines before.
 abbrev pub Headline : Played → List ℕ → Outcome Played → Type 0
-Headline w line outcome = (c : Command) (next : Played) (output : List ℕ) → command_of line ≡ Some c → outcome ≡ Goes next output → HoldsOf w c next output
+Headline w line outcome = (c : Command) (next : Played) (output : List ℕ) → command_of line ≡ Some c → outcome ≡ Goes next output
+    → HoldsOf w c next output

@@ -1,5 +1,6 @@
 -- What holds of each world that a script reaches, with its story: whether or not names tell the blocks apart, and where they do.
-use Rattle.std.specs.Prelude.{◌≡◌, ◌≢◌, ◌⊎◌, is_some, ℕ, ◌≤◌, ◌<◌, List, [], ◌∷◌, ◌++◌, length, map, Contains, Option, Some, None, Ok, IfSome, IsTrue}
+use Rattle.std.specs.Prelude.{◌≡◌, ◌≢◌, ◌⊎◌, is_some, ℕ, ◌≤◌, ◌<◌, List, [], ◌∷◌, ◌++◌, length, map, Contains, Option, Some, None, Ok}
+use Rattle.std.specs.Prelude.{IfSome, IsTrue}
 use Rattle.std.specs.List.{AllByRecursion}
 use Rattle.ivy_base.specs.declared.key.Key.{Key}
 use Rattle.ivy_base.specs.Naming.{NamesTellApart, name, head_key_of}
@@ -51,7 +52,8 @@ IsMetPost met p = Contains met p.bytes × HasItsName p
 abbrev pub AreParticipants : World → View → Type 0
 AreParticipants w view = AllByRecursion (Contains (map (λ p. own p.agent) w.participants)) view.members
 
--- The blocks of nodes and caches, and what agents have to publish, are met; and views are those of participants, and have a block that is theirs alone.
+-- The blocks of nodes and caches, and what agents have to publish, are met; and views are those of participants, and have a block that is
+-- theirs alone.
 pub record BlocksAreMet (w : World) : Type 0 where
   pub held : AllByRecursion (λ n. IsStore n.blocks × AllByRecursion (λ e. Contains w.met e.1.bytes) n.blocks) w.nodes
   pub pending : AllByRecursion (λ p. AllByRecursion (IsMetPost w.met) p.agent.pending) w.participants
@@ -76,7 +78,8 @@ pub record AreSignedOnce (signer : Signer) (made : ℕ) (reach : ℕ) (heads : L
   pub below : AllByRecursion (λ h. (h.0 < made) × (h.1.seq ≤ reach)) signed
   pub one_each : (g h : ℕ × Stamp) → Contains signed g → Contains signed h → (g.0 ≡ h.0) ⊎ (g.1.seq ≡ h.1.seq) → g ≡ h
 
--- The heads that left an agent are signed once each, by what the agent counts; and with them those that its keeper still holds, by what the keeper counts.
+-- The heads that left an agent are signed once each, by what the agent counts; and with them those that its keeper still holds, by what the
+-- keeper counts.
 pub record SignsOnce (p : Participant) (k : Kept) : Type 0 where
   pub same : (k.signer.id ≡ p.agent.signer.id) × (k.signer.seed ≡ p.agent.signer.seed) × (k.signer.sets ≡ p.agent.signer.sets)
   pub saved : p.agent.signer.made ≤ k.signer.made
@@ -115,14 +118,16 @@ pub record IsSound (met : List (List ℕ)) (p : Participant) (k : Knowing) (view
 
 -- before it enters a view it knows its log's opening
 abbrev pub IsSoundIn : List (List ℕ) → Participant → Knowing → Option View → Type 0
-IsSoundIn met p k None = (r : Record) × (k.known ≡ r ∷ []) × (p.agent.floor ≡ own_entry r ∷ []) × StandsAmong met r × IsChain (record { members = own p.agent ∷ []; former = [] }) (own p.agent) (r ∷ [])
+IsSoundIn met p k None = (r : Record) × (k.known ≡ r ∷ []) × (p.agent.floor ≡ own_entry r ∷ []) × StandsAmong met r
+    × IsChain (record { members = own p.agent ∷ []; former = [] }) (own p.agent) (r ∷ [])
 IsSoundIn met p k (Some view) = IsSound met p k view
 
 -- the head is over one of these records
 abbrev pub NamesOneOf : Signer → List Record → List ℕ → Type 0
 NamesOneOf signer log bytes = (number : ℕ) × (r : Record) × Contains log r × (bytes ≡ sealed_with signer (number, (own_entry r).1))
 
--- what a keeper holds gives a closed and verified set again: after a failed save its posts' blocks may not be met yet, but are from the restart on
+-- what a keeper holds gives a closed and verified set again: after a failed save its posts' blocks may not be met yet, but are from the
+-- restart on
 pub record IsSoundKept (met : List (List ℕ)) (p : Participant) (now : Knowing) (k : Kept) (view : View) : Type 0 where
   pub known : List Record
   pub by_floor : IsKnown view k.floor known
@@ -136,7 +141,8 @@ pub record IsSoundKept (met : List (List ℕ)) (p : Participant) (now : Knowing)
 
 -- before its first view a keeper names its log's opening, which is what is known
 abbrev pub IsSoundKeptIn : List (List ℕ) → Participant → Knowing → Kept → Option View → Type 0
-IsSoundKeptIn met p now k None = (r : Record) × (k.floor ≡ own_entry r ∷ []) × StandsAmong met r × IsChain (record { members = own p.agent ∷ []; former = [] }) (own p.agent) (r ∷ [])
+IsSoundKeptIn met p now k None = (r : Record) × (k.floor ≡ own_entry r ∷ []) × StandsAmong met r
+    × IsChain (record { members = own p.agent ∷ []; former = [] }) (own p.agent) (r ∷ [])
     × AllByRecursion (NamesOneOf k.signer (r ∷ [])) (p.left ++ heads_by k.pending) × (now.known ≡ r ∷ [])
 IsSoundKeptIn met p now k (Some view) = IsSoundKept met p now k view
 
@@ -144,14 +150,15 @@ IsSoundKeptIn met p now k (Some view) = IsSoundKept met p now k view
 abbrev pub BeganFresh : Session → Holding → Type 0
 BeganFresh s of = (s.standing.to_load ≡ None) × (of.basis ≡ fresh_basis)
 
--- How a session's agent stands since the session began with that holding: as it was; or all that it knows is held, which isn't less; or what was held is
--- dropped, which comes only where there was a basis or a snapshot to load.
+-- How a session's agent stands since the session began with that holding: as it was; or all that it knows is held, which isn't less; or
+-- what was held is dropped, which comes only where there was a basis or a snapshot to load.
 pub data KeepsUp (s : Session) (of : Holding) (a : Agent) (known : List Record) : Type 0 where
   still : a.to_load ≡ s.standing.to_load → joined a.holding ≡ s.standing.held → a.floor ≡ s.standing.floor → KeepsUp s of a known
   grown : a.to_load ≡ None → HoldsAll s.standing.view known a.holding → Dominates (joined a.holding) s.standing.held → KeepsUp s of a known
   dropped : (BeganFresh s of → ⊥) → s.starts ≡ 0 → a.to_load ≡ None → a.holding.basis ≡ fresh_basis → KeepsUp s of a known
 
--- A session's standing is what its agent knew and held then; what it knew is known still, and the heads that it was brought count as received.
+-- A session's standing is what its agent knew and held then; what it knew is known still, and the heads that it was brought count as
+-- received.
 pub record IsSoundSession (w : World) (st : Story) (s : Session) (b : Began) : Type 0 where
   pub by : Participant
   pub is_by : participant w s.by ≡ Some by
@@ -166,13 +173,17 @@ pub record IsSoundSession (w : World) (st : Story) (s : Session) (b : Began) : T
   pub anew : 1 ≤ s.starts → (by.agent.to_load ≡ None) × (by.agent.holding.basis ≡ fresh_basis)
   pub stays_fresh : BeganFresh s of → (by.agent.to_load ≡ None) × (by.agent.holding.basis ≡ fresh_basis)
   pub received : (e : Entry) → Contains (all_heads (brought_in s.parts)) e → Contains (knowing_of st s.by).received e
-  pub blocks : (key : Key) (bytes : List ℕ) → Contains (brought_in s.parts) (BlockOf key (Ok bytes)) → (name bytes ≡ key) × Contains w.met bytes
+  pub blocks : (key : Key) (bytes : List ℕ) → Contains (brought_in s.parts) (BlockOf key (Ok bytes))
+      → (name bytes ≡ key) × Contains w.met bytes
 
 pub record AreSound (w : World) (st : Story) : Type 0 where
   pub agents : AllByRecursion (λ p. IsSoundIn w.met p (knowing_of st p.name) p.agent.view) w.participants
   pub keepers : AllByRecursion (IsKeptSo (λ p k. IsSoundKeptIn w.met p (knowing_of st p.name) k k.view)) w.participants
-  pub to_load : AllByRecursion (λ p. IfSome p.agent.view (λ view. IfSome p.agent.to_load (λ root. (p.agent.holding ≡ nothing_held) × IsSnapshotOf w.met view (known_of st p.name) root))) w.participants
-  pub snapshots : AllByRecursion (λ p. IfSome p.agent.view (λ view. IfSome p.agent.snapshot (IsSnapshotOf w.met view (known_of st p.name)))) w.participants
+  pub to_load : AllByRecursion (λ p. IfSome p.agent.view
+      (λ view. IfSome p.agent.to_load (λ root. (p.agent.holding ≡ nothing_held) × IsSnapshotOf w.met view (known_of st p.name) root)))
+      w.participants
+  pub snapshots : AllByRecursion (λ p. IfSome p.agent.view (λ view. IfSome p.agent.snapshot (IsSnapshotOf w.met view (known_of st p.name))))
+      w.participants
   pub sessions : AllByRecursion (λ s. IsSoundSession w st s.session (began_of st s.name)) w.sessions
 
 -- ---- the whole
@@ -232,14 +243,16 @@ pub record GoesOn (w : World) (r : ℕ) (s : Session) : Type 0 where
 
 -- open sessions have different numbers, and neither they nor turns have one of a call that hasn't begun
 pub record AreNumbered (w : World) (st : Story) : Type 0 where
-  pub apart : (s t : NamedSession) → Contains w.sessions s → Contains w.sessions t → (began_of st s.name).number ≡ (began_of st t.name).number → s ≡ t
+  pub apart : (s t : NamedSession) → Contains w.sessions s → Contains w.sessions t
+      → (began_of st s.name).number ≡ (began_of st t.name).number → s ≡ t
   pub sessions : AllByRecursion (λ s. (began_of st s.name).number < st.begun) w.sessions
   pub turns : AllByRecursion (λ h. h.began.number < st.begun) st.turns
 
 -- there is nothing before there is a ring, which has a node
 abbrev pub HasRing : World → Option ℕ → Type 0
 HasRing w None = (w.nodes ≡ []) × (w.participants ≡ []) × (w.sessions ≡ [])
-HasRing w (Some r) = (1 ≤ r) × (w.nodes ≢ []) × AllByRecursion (λ n. n.ring.replicas ≡ r) w.nodes × AllByRecursion (λ s. GoesOn w r s.session) w.sessions
+HasRing w (Some r) = (1 ≤ r) × (w.nodes ≢ []) × AllByRecursion (λ n. n.ring.replicas ≡ r) w.nodes
+    × AllByRecursion (λ s. GoesOn w r s.session) w.sessions
 
 -- the views that the participant's agent entered, and that its keeper holds, are of participants
 pub record EntersOwned (w : World) (p : Participant) : Type 0 where
@@ -289,4 +302,5 @@ pub record OnlyPublishes (w : World) (r : ℕ) (s : Session) : Type 0 where
 -- No agent has a snapshot or a basis. So it is until a line makes a snapshot.
 pub record HasNoSnapshot (w : World) : Type 0 where
   pub kept : AllByRecursion (IsKeptSo (λ p k. k.snapshot ≡ None)) w.participants
-  pub agents : AllByRecursion (λ p. (p.agent.snapshot ≡ None) × (p.agent.to_load ≡ None) × (p.agent.holding.basis ≡ fresh_basis)) w.participants
+  pub agents : AllByRecursion (λ p. (p.agent.snapshot ≡ None) × (p.agent.to_load ≡ None)
+      × (p.agent.holding.basis ≡ fresh_basis)) w.participants

@@ -1,5 +1,6 @@
 -- Which lines go on, end the run, are refused or meet a limit: it is told by the world and the line alone.
-use Rattle.std.specs.Prelude.{◌≡◌, ℕ, nat_lt, nat_le, Bool, true, List, ◌++◌, map, length, sum_by, Option, Some, None, is_some, if◌then◌else◌}
+use Rattle.std.specs.Prelude.{◌≡◌, ℕ, nat_lt, nat_le, Bool, true, List, ◌++◌, map, length, sum_by, Option, Some, None, is_some}
+use Rattle.std.specs.Prelude.{if◌then◌else◌}
 use Rattle.ivy_base.specs.declared.key.PubKey.{PubKey}
 use Rattle.log_model.specs.View.{have_own_head_keys}
 use Rattle.session_model.specs.Sessions.{Session}
@@ -56,7 +57,8 @@ session_kind counts (Some s) = if counts then Going else Refused
 
 abbrev pub join_kind : World → ℕ → Option ℕ → Kind
 join_kind w node None = Refused
-join_kind w node (Some r) = if is_known_id (map peer_of w.nodes) (peer_numbered node) then Refused else if nat_le 256 (length w.nodes) then Limited else Going
+join_kind w node (Some r) = if is_known_id (map peer_of w.nodes) (peer_numbered node) then Refused else if nat_le 256
+    (length w.nodes) then Limited else Going
 
 abbrev pub round_kind : Option ℕ → Kind
 round_kind None = Refused
@@ -98,6 +100,8 @@ within_limit_kind w (Some c) = if nat_lt most_bytes (sum_by (λ b. length b) w.0
 abbrev pub first_kind : Played → Option Command → Kind
 first_kind w c = if is_end c then Ending else within_limit_kind w c
 
--- Each outcome of a line is of the line's kind: no two cases of a command overlap, and a line that is refused, meets a limit or ends the run does nothing else.
+-- Each outcome of a line is of the line's kind: no two cases of a command overlap, and a line that is refused, meets a limit or ends the
+-- run does nothing else.
 abbrev pub LineHasOneKind : Type 0
-LineHasOneKind = (w : Played) (line : List ℕ) (outcome : Outcome Played) → IvyStep w line outcome → kind outcome ≡ first_kind w (command_of line)
+LineHasOneKind = (w : Played) (line : List ℕ) (outcome : Outcome Played) → IvyStep w line outcome
+    → kind outcome ≡ first_kind w (command_of line)

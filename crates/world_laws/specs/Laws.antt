@@ -54,9 +54,11 @@ use Rattle.world_model.specs.Story.{Began, HadTurn, Story, beginning, empty_stor
 use Rattle.world_model.specs.Logs.{Played, Publishes, snapping_in}
 use Rattle.world_model.specs.Calls.{BeginsWith, Sending, reply_line}
 use Rattle.world_model.specs.Step.{Does, IvyStep}
-use Rattle.world_model.specs.Steps.{after_turn, ask_told, heads_by, RunsOut, Scene, Steps, StepsOn, turn_told, turning_of, with_cache, world_after}
+use Rattle.world_model.specs.Steps.{after_turn, ask_told, heads_by, RunsOut, Scene, Steps, StepsOn, turn_told, turning_of, with_cache}
+use Rattle.world_model.specs.Steps.{world_after}
 use Rattle.world_laws.specs.Causes.{IsOf}
-use Rattle.world_laws.specs.Keeps.{BeganFresh, GoesOn, HasNoSnapshot, IsInHand, IsMetHead, IsSoundSession, Keeps, OnlyPublishes, sealed_with}
+use Rattle.world_laws.specs.Keeps.{BeganFresh, GoesOn, HasNoSnapshot, IsInHand, IsMetHead, IsSoundSession, Keeps, OnlyPublishes}
+use Rattle.world_laws.specs.Keeps.{sealed_with}
 use Rattle.world_laws.specs.Headline.{Headline, HoldsOf, IsOnReplay, NewTurns, TurnHolds}
 
 -- ---- blocks met
@@ -67,11 +69,13 @@ ClashIsDecided = (blocks : List (List ℕ)) → NamesTellApart blocks ⊎ HasCla
 
 -- Names that tell more blocks apart tell fewer apart.
 abbrev pub FewerStayApart : Type 0
-FewerStayApart = (blocks more : List (List ℕ)) → ((b : List ℕ) → Contains blocks b → Contains more b) → NamesTellApart more → NamesTellApart blocks
+FewerStayApart = (blocks more : List (List ℕ)) → ((b : List ℕ) → Contains blocks b → Contains more b) → NamesTellApart more
+    → NamesTellApart blocks
 
 -- A line forgets no block that was met.
 abbrev pub MetGrows : Type 0
-MetGrows = (w next : Played) (line output : List ℕ) → IvyStep w line (Goes next output) → (b : List ℕ) → Contains w.0.met b → Contains next.0.met b
+MetGrows = (w next : Played) (line output : List ℕ) → IvyStep w line (Goes next output) → (b : List ℕ) → Contains w.0.met b
+    → Contains next.0.met b
 
 -- a command that shows something, or sets the moment or a loss to come, and nothing else
 abbrev pub IsStill : Command → Type 0
@@ -97,60 +101,90 @@ LinesKeep = (w next : Played) (line output : List ℕ) → Keeps w → IvyStep w
 
 -- what steps of a session in hand leave: such a world and such a session, and each turn in them is on the replay
 abbrev pub StepLeaves : Scene → Scene → ℕ → Type 0
-StepLeaves c next r = Keeps (next.world, next.story) × IsInHand next r × (more : List HadTurn) × NewTurns c.story next.story more × ((h : HadTurn) → Contains more h → TurnHolds h)
+StepLeaves c next r = Keeps (next.world, next.story) × IsInHand next r × (more : List HadTurn) × NewTurns c.story next.story more
+    × ((h : HadTurn) → Contains more h → TurnHolds h)
 
 -- a step leaves that
 abbrev pub StepsKeep : Type 0
-StepsKeep = (c next : Scene) (r : ℕ) → Keeps (c.world, c.story) → IsInHand c r → c.world.replicas ≡ Some r → Steps hss_judged r c.session.by c next → StepLeaves c next r
+StepsKeep = (c next : Scene) (r : ℕ) → Keeps (c.world, c.story) → IsInHand c r → c.world.replicas ≡ Some r
+    → Steps hss_judged r c.session.by c next → StepLeaves c next r
 
 -- Steps of it that are no get and no turn: an ask of a put, settling, and the end where memory is wanting.
 abbrev pub PutsKeep : Type 0
-PutsKeep = (c : Scene) (r : ℕ) (p : Participant) (node : Peer) (question : Ask) (answer : Answer) (world : World) (heard : Session) (cache : Cache) → Keeps (c.world, c.story) → IsInHand c r
-    → c.world.replicas ≡ Some r → participant c.world c.session.by ≡ Some p → c.session.stage ≢ Refreshing → FateOf hss_judged c.world node question answer world
+PutsKeep = (c : Scene) (r : ℕ) (p : Participant) (node : Peer) (question : Ask) (answer : Answer) (world : World) (heard : Session)
+    (cache : Cache) → Keeps (c.world, c.story) → IsInHand c r
+    → c.world.replicas ≡ Some r → participant c.world c.session.by ≡ Some p → c.session.stage ≢ Refreshing
+    → FateOf hss_judged c.world node question answer world
     → Hears hss_judged r c.session p.cache node question answer heard cache
-    → (let next : Scene = record { world = with_participant world (record p { cache = cache }); story = ask_told c.story p.name c.session heard; session = heard; began = c.began } in
+    → (let next : Scene = record {
+      world = with_participant world (record p { cache = cache });
+      story = ask_told c.story p.name c.session heard;
+      session = heard;
+      began = c.began;
+    } in
     Keeps (next.world, next.story) × IsInHand next r × (next.story.turns ≡ c.story.turns))
 
 -- so does an ask of a get by which nothing is brought yet
 abbrev pub GetsGoOnKeep : Type 0
-GetsGoOnKeep = (c : Scene) (r : ℕ) (p : Participant) (node : Peer) (question : Ask) (answer : Answer) (world : World) (heard : Session) (cache : Cache) → Keeps (c.world, c.story) → IsInHand c r
-    → c.world.replicas ≡ Some r → participant c.world c.session.by ≡ Some p → c.session.stage ≡ Refreshing → heard.parts ≡ c.session.parts → FateOf hss_judged c.world node question answer world
+GetsGoOnKeep = (c : Scene) (r : ℕ) (p : Participant) (node : Peer) (question : Ask) (answer : Answer) (world : World) (heard : Session)
+    (cache : Cache) → Keeps (c.world, c.story) → IsInHand c r
+    → c.world.replicas ≡ Some r → participant c.world c.session.by ≡ Some p → c.session.stage ≡ Refreshing → heard.parts ≡ c.session.parts
+    → FateOf hss_judged c.world node question answer world
     → Hears hss_judged r c.session p.cache node question answer heard cache
-    → (let next : Scene = record { world = with_participant world (record p { cache = cache }); story = ask_told c.story p.name c.session heard; session = heard; began = c.began } in
+    → (let next : Scene = record {
+      world = with_participant world (record p { cache = cache });
+      story = ask_told c.story p.name c.session heard;
+      session = heard;
+      began = c.began;
+    } in
     Keeps (next.world, next.story) × IsInHand next r × (next.story.turns ≡ c.story.turns))
 
 abbrev pub SettlingKeeps : Type 0
-SettlingKeeps = (c : Scene) (r : ℕ) (p : Participant) (after : Agent) (t : Session) → Keeps (c.world, c.story) → IsInHand c r → participant c.world c.session.by ≡ Some p → Settles p.agent c.session after t
-    → (let next : Scene = record c { world = with_participant c.world (record p { agent = after }); session = t } in Keeps (next.world, next.story) × IsInHand next r)
+SettlingKeeps = (c : Scene) (r : ℕ) (p : Participant) (after : Agent) (t : Session) → Keeps (c.world, c.story) → IsInHand c r
+    → participant c.world c.session.by ≡ Some p → Settles p.agent c.session after t
+    → (let next : Scene = record c { world = with_participant c.world (record p { agent = after }); session = t } in Keeps
+    (next.world, next.story) × IsInHand next r)
 
 -- so does a step at which what is at hand is taken, and then memory is wanting
 abbrev pub LackingStepsKeep : Type 0
-LackingStepsKeep = (c : Scene) (r : ℕ) (p : Participant) (taken t : Session) (cache : Cache) → Keeps (c.world, c.story) → IsInHand c r → participant c.world c.session.by ≡ Some p
+LackingStepsKeep = (c : Scene) (r : ℕ) (p : Participant) (taken t : Session) (cache : Cache) → Keeps (c.world, c.story) → IsInHand c r
+    → participant c.world c.session.by ≡ Some p
     → TakesSome hss_judged r c.session p.cache taken cache → LacksMemory taken t
     → (let next : Scene = with_cache hss_judged r c p t cache in Keeps (next.world, next.story) × IsInHand next r)
 
 -- so does an ask of a get that is over with it, by which something is brought: the refresh goes on, or has failed
 abbrev pub GetsBringKeep : Type 0
-GetsBringKeep = (c : Scene) (r : ℕ) (p : Participant) (node : Peer) (question : Ask) (answer : Answer) (world : World) (heard t : Session) (cache : Cache) → Keeps (c.world, c.story) → IsInHand c r
+GetsBringKeep = (c : Scene) (r : ℕ) (p : Participant) (node : Peer) (question : Ask) (answer : Answer) (world : World) (heard t : Session)
+    (cache : Cache) → Keeps (c.world, c.story) → IsInHand c r
     → c.world.replicas ≡ Some r → participant c.world c.session.by ≡ Some p → c.session.stage ≡ Refreshing → heard.parts ≢ c.session.parts
-    → FateOf hss_judged c.world node question answer world → Hears hss_judged r c.session p.cache node question answer heard cache → Fails heard t
-    → (let next : Scene = record { world = with_participant world (record p { cache = cache }); story = ask_told c.story p.name c.session t; session = t; began = c.began } in
+    → FateOf hss_judged c.world node question answer world → Hears hss_judged r c.session p.cache node question answer heard cache
+    → Fails heard t
+    → (let next : Scene = record {
+      world = with_participant world (record p { cache = cache });
+      story = ask_told c.story p.name c.session t;
+      session = t;
+      began = c.began;
+    } in
     Keeps (next.world, next.story) × IsInHand next r × (next.story.turns ≡ c.story.turns))
 
 -- so does taking what is at hand, after which the refresh goes on
 abbrev pub TakingKeeps : Type 0
-TakingKeeps = (c : Scene) (r : ℕ) (p : Participant) (taken : Session) (cache : Cache) → Keeps (c.world, c.story) → IsInHand c r → participant c.world c.session.by ≡ Some p
+TakingKeeps = (c : Scene) (r : ℕ) (p : Participant) (taken : Session) (cache : Cache) → Keeps (c.world, c.story) → IsInHand c r
+    → participant c.world c.session.by ≡ Some p
     → TakesSome hss_judged r c.session p.cache taken cache
     → (let next : Scene = with_cache hss_judged r c p taken cache in Keeps (next.world, next.story) × IsInHand next r)
 
 -- so do more heads that a participant received, which were met
 abbrev pub ReceivingKeeps : Type 0
-ReceivingKeeps = (w : World) (st : Story) (name : List ℕ) (heads : List Entry) → Keeps (w, st) → AllByRecursion (IsMetHead w.met) heads → Keeps (w, receiving st name heads)
+ReceivingKeeps = (w : World) (st : Story) (name : List ℕ) (heads : List Entry) → Keeps (w, st) → AllByRecursion (IsMetHead w.met) heads
+    → Keeps (w, receiving st name heads)
 
 -- so does an ask whose answer isn't heard, since memory is wanting
 abbrev pub VainAsksKeep : Type 0
-VainAsksKeep = (c : Scene) (r : ℕ) (p : Participant) (node : Peer) (question : Ask) (answer : Answer) (world : World) (heard t : Session) (cache : Cache) → Keeps (c.world, c.story) → IsInHand c r
-    → c.world.replicas ≡ Some r → participant c.world c.session.by ≡ Some p → FateOf hss_judged c.world node question answer world → Hears hss_judged r c.session p.cache node question answer heard cache
+VainAsksKeep = (c : Scene) (r : ℕ) (p : Participant) (node : Peer) (question : Ask) (answer : Answer) (world : World) (heard t : Session)
+    (cache : Cache) → Keeps (c.world, c.story) → IsInHand c r
+    → c.world.replicas ≡ Some r → participant c.world c.session.by ≡ Some p → FateOf hss_judged c.world node question answer world
+    → Hears hss_judged r c.session p.cache node question answer heard cache
     → LacksMemory c.session t → Keeps (world, c.story) × IsInHand (record c { world = world; session = t }) r
 
 abbrev pub LackingKeeps : Type 0
@@ -158,37 +192,51 @@ LackingKeeps = (c : Scene) (r : ℕ) (t : Session) → IsInHand c r → LacksMem
 
 -- so does a step of a session that only publishes, which has no turn
 abbrev pub PublishingKeeps : Type 0
-PublishingKeeps = (c next : Scene) (r : ℕ) → Keeps (c.world, c.story) → OnlyPublishes c.world r c.session → c.world.replicas ≡ Some r → Steps hss_judged r c.session.by c next
+PublishingKeeps = (c next : Scene) (r : ℕ) → Keeps (c.world, c.story) → OnlyPublishes c.world r c.session → c.world.replicas ≡ Some r
+    → Steps hss_judged r c.session.by c next
     → Keeps (next.world, next.story) × OnlyPublishes next.world r next.session × (next.story.turns ≡ c.story.turns)
 
 -- ---- calls that begin
 
 -- a session that begins is in hand
 abbrev pub CallsBegin : Type 0
-CallsBegin = (w : Played) (r : ℕ) (s : Sending) (t : Session) → Keeps w → w.0.replicas ≡ Some r → participant w.0 s.by.name ≡ Some s.by → s.by.agent.view ≡ Some s.view → BeginsWith w.0 s t
+CallsBegin = (w : Played) (r : ℕ) (s : Sending) (t : Session) → Keeps w → w.0.replicas ≡ Some r → participant w.0 s.by.name ≡ Some s.by
+    → s.by.agent.view ≡ Some s.view → BeginsWith w.0 s t
     → IsInHand (record { world = w.0; story = having_begun w.1; session = t; began = beginning w.1 s.by.name }) r
 
 -- so the line that opens a session leaves such a world
 abbrev pub OpenLineKeeps : Type 0
-OpenLineKeeps = (session log : List ℕ) (pieces : List Piece) (w next : Played) (output : List ℕ) → Keeps w → Does hss_judged w (command.Open session log pieces) (Goes next output) → Keeps next
+OpenLineKeeps = (session log : List ℕ) (pieces : List Piece) (w next : Played) (output : List ℕ) → Keeps w
+    → Does hss_judged w (command.Open session log pieces) (Goes next output) → Keeps next
 
 -- ---- turns
 
 -- a turn that is answered
 abbrev pub AnsweredTurnsKeep : Type 0
-AnsweredTurnsKeep = (c : Scene) (r : ℕ) (p : Participant) (view : View) (reply : Reply) (applied : ℕ) (after : Agent) (saving : Option Kept) (t : Session) (turned : Turned) → Keeps (c.world, c.story) → IsInHand c r
+AnsweredTurnsKeep = (c : Scene) (r : ℕ) (p : Participant) (view : View) (reply : Reply) (applied : ℕ) (after : Agent) (saving : Option Kept)
+    (t : Session) (turned : Turned) → Keeps (c.world, c.story) → IsInHand c r
     → c.world.replicas ≡ Some r → participant c.world c.session.by ≡ Some p → p.agent.view ≡ Some view
     → TakesTurn (turning_of c.world p view) c.session (Answered reply applied) after saving t → turned.reply ≡ reply
     → (NamesTellApart (named_bytes c.world)
     → IsTurnIn (named_bytes c.world) (turning_of c.world p view) c.session c.began.knew (known_of c.story p.name) turned)
-    → StepLeaves c (record { world = world_after c.world (record (after_turn p after saving) { work = applied }); story = turn_told c p view after turned; session = t; began = c.began }) r
+    → StepLeaves c (record {
+      world = world_after c.world (record (after_turn p after saving) { work = applied });
+      story = turn_told c p view after turned;
+      session = t;
+      began = c.began;
+    }) r
 
 -- a turn that is refused
 abbrev pub RefusedTurnsKeep : Type 0
-RefusedTurnsKeep = (c : Scene) (r : ℕ) (p : Participant) (view : View) (end : TurnEnd) (after : Agent) (saving : Option Kept) (t : Session) → Keeps (c.world, c.story) → IsInHand c r
+RefusedTurnsKeep = (c : Scene) (r : ℕ) (p : Participant) (view : View) (end : TurnEnd) (after : Agent) (saving : Option Kept) (t : Session)
+    → Keeps (c.world, c.story) → IsInHand c r
     → c.world.replicas ≡ Some r → participant c.world c.session.by ≡ Some p → p.agent.view ≡ Some view → IsRefusal end
     → TakesTurn (turning_of c.world p view) c.session end after saving t
-    → StepLeaves c (record c { world = world_after c.world (after_turn p after saving); session = t; began = record c.began { knew = known_of c.story p.name } }) r
+    → StepLeaves c (record c {
+      world = world_after c.world (after_turn p after saving);
+      session = t;
+      began = record c.began { knew = known_of c.story p.name };
+    }) r
 
 -- ---- replies
 
@@ -197,22 +245,28 @@ abbrev pub HeadlineHolds : Type 0
 HeadlineHolds = (w : Played) (line : List ℕ) (outcome : Outcome Played) → Keeps w → IvyStep w line outcome → Headline w line outcome
 
 abbrev pub EachReplyIsOnReplay : Type 0
-EachReplyIsOnReplay = (w : Played) (number : ℕ) (lines : List (List ℕ)) (ran : Ran) → Keeps w → Runs IvyStep w number lines ran → Runs (WithLaw IvyStep Headline) w number lines ran
+EachReplyIsOnReplay = (w : Played) (number : ℕ) (lines : List (List ℕ)) (ran : Ran) → Keeps w → Runs IvyStep w number lines ran
+    → Runs (WithLaw IvyStep Headline) w number lines ran
 
 -- Each open session can be brought to its end, in the same steps whatever is told of it: it says something, and this world is left.
 abbrev pub EachSessionEnds : Type 0
 EachSessionEnds = (w : World) (r : ℕ) (s : Session) → HasStory Keeps w → w.replicas ≡ Some r → GoesOn w r s
     → (next : World) × (t : Session) × (said : Said) × (t.stage ≡ Over (Some said))
-    × ((st : Story) (b : Began) → (told : Story) × RunsOut hss_judged r s.by (record { world = w; story = st; session = s; began = b }) (record { world = next; story = told; session = t; began = b }))
+    × ((st : Story) (b : Began) → (told : Story)
+    × RunsOut hss_judged r s.by (record { world = w; story = st; session = s; began = b })
+    (record { world = next; story = told; session = t; began = b }))
 
--- What is to be published has a spelling, where the command makes a snapshot: more posts than a word counts can't be saved, and then nothing is defined.
+-- What is to be published has a spelling, where the command makes a snapshot: more posts than a word counts can't be saved, and then
+-- nothing is defined.
 abbrev pub CanBeDone : World → Command → Type 0
-CanBeDone w (command.Snap log) = IfSome (participant w log) (λ p. IfSome p.agent.view (λ view. IfSome (snapping_in p view).1 (λ k. ArePostsSpelled k.pending)))
+CanBeDone w (command.Snap log) = IfSome (participant w log)
+    (λ p. IfSome p.agent.view (λ view. IfSome (snapping_in p view).1 (λ k. ArePostsSpelled k.pending)))
 CanBeDone w _ = Unit {0}
 
 -- A world has an outcome of each such line, and one whichever story fits it.
 abbrev pub EachLineDoesSomething : Type 0
-EachLineDoesSomething = (w : World) (line : List ℕ) → IfSome (command_of line) (CanBeDone w) → HasStory Keeps w → (outcome : Outcome World) × SeenStep Keeps IvyStep w line outcome
+EachLineDoesSomething = (w : World) (line : List ℕ) → IfSome (command_of line) (CanBeDone w) → HasStory Keeps w
+    → (outcome : Outcome World) × SeenStep Keeps IvyStep w line outcome
 
 -- the line makes no snapshot
 abbrev pub MakesNoSnapshot : List ℕ → Type 0
@@ -220,22 +274,27 @@ MakesNoSnapshot line = (log : List ℕ) → command_of line ≢ Some (command.Sn
 
 -- So each script that makes no snapshot has a run.
 abbrev pub EachScriptHasARun : Type 0
-EachScriptHasARun = (w : World) (number : ℕ) (lines : List (List ℕ)) → AllByRecursion (λ line. MakesNoSnapshot (shown line)) lines → HasStory Keeps w
+EachScriptHasARun = (w : World) (number : ℕ) (lines : List (List ℕ)) → AllByRecursion (λ line. MakesNoSnapshot (shown line)) lines
+    → HasStory Keeps w
     → (ran : Ran) × Runs (SeenStep Keeps IvyStep) w number lines ran
 
 -- ---- one run
 
--- no call was refused for want of memory in this step: what is shown doesn't begin with such a reply, unless by the end of a session that was over before, and no session
--- is over so that wasn't
+-- no call was refused for want of memory in this step: what is shown doesn't begin with such a reply, unless by the end of a session that
+-- was over before, and no session is over so that wasn't
 pub record HasMemoryIn (w next : World) (line output : List ℕ) : Type 0 where
   pub shown : (xid : ℕ) (rest : List ℕ) → output ≡ reply_line (reply xid SystemError) ++ rest
-      → (s : NamedSession) × Contains w.sessions s × (command_of line ≡ Some (command.Finish s.name)) × (s.session.stage ≡ Over (Some (said_no_memory xid)))
+      → (s : NamedSession) × Contains w.sessions s × (command_of line ≡ Some (command.Finish s.name))
+      × (s.session.stage ≡ Over (Some (said_no_memory xid)))
   pub sessions : AllByRecursion (λ s. (xid : ℕ) → s.session.stage ≡ Over (Some (said_no_memory xid)) → Contains w.sessions s) next.sessions
 
--- two worlds that a line leads to, in both of which memory was there, are one, and so are their outputs, where names tell apart what was met
+-- two worlds that a line leads to, in both of which memory was there, are one, and so are their outputs, where names tell apart what was
+-- met
 abbrev pub StepsAreOne : Type 0
-StepsAreOne = (w one other : Played) (line text words : List ℕ) → Keeps w → NamesTellApart (named_bytes one.0) → NamesTellApart (named_bytes other.0)
-    → IvyStep w line (Goes one text) → IvyStep w line (Goes other words) → HasMemoryIn w.0 one.0 line text → HasMemoryIn w.0 other.0 line words → (one ≡ other) × (text ≡ words)
+StepsAreOne = (w one other : Played) (line text words : List ℕ) → Keeps w → NamesTellApart (named_bytes one.0)
+    → NamesTellApart (named_bytes other.0)
+    → IvyStep w line (Goes one text) → IvyStep w line (Goes other words) → HasMemoryIn w.0 one.0 line text
+    → HasMemoryIn w.0 other.0 line words → (one ≡ other) × (text ≡ words)
 
 -- the session isn't over for want of memory
 abbrev pub HasMemoryAt : Session → Type 0
@@ -243,20 +302,27 @@ HasMemoryAt s = (xid : ℕ) → s.stage ≢ Over (Some (said_no_memory xid))
 
 -- So are the scenes that a step of a session in hand leads to, and many steps, and all up to the end.
 abbrev pub SessionsStepOnce : Type 0
-SessionsStepOnce = (c one other : Scene) (r : ℕ) → Keeps (c.world, c.story) → IsInHand c r → c.world.replicas ≡ Some r → NamesTellApart (named_bytes c.world)
-    → Steps hss_judged r c.session.by c one → Steps hss_judged r c.session.by c other → HasMemoryAt one.session → HasMemoryAt other.session → one ≡ other
+SessionsStepOnce = (c one other : Scene) (r : ℕ) → Keeps (c.world, c.story) → IsInHand c r → c.world.replicas ≡ Some r
+    → NamesTellApart (named_bytes c.world)
+    → Steps hss_judged r c.session.by c one → Steps hss_judged r c.session.by c other → HasMemoryAt one.session → HasMemoryAt other.session
+    → one ≡ other
 
 abbrev pub ManyStepsAreOne : Type 0
-ManyStepsAreOne = (c one other : Scene) (r count : ℕ) → Keeps (c.world, c.story) → IsInHand c r → c.world.replicas ≡ Some r → NamesTellApart (named_bytes one.world)
-    → StepsOn hss_judged r c.session.by count c one → StepsOn hss_judged r c.session.by count c other → HasMemoryAt one.session → HasMemoryAt other.session → one ≡ other
+ManyStepsAreOne = (c one other : Scene) (r count : ℕ) → Keeps (c.world, c.story) → IsInHand c r → c.world.replicas ≡ Some r
+    → NamesTellApart (named_bytes one.world)
+    → StepsOn hss_judged r c.session.by count c one → StepsOn hss_judged r c.session.by count c other → HasMemoryAt one.session
+    → HasMemoryAt other.session → one ≡ other
 
 abbrev pub SessionsEndOnce : Type 0
-SessionsEndOnce = (c one other : Scene) (r : ℕ) → Keeps (c.world, c.story) → IsInHand c r → c.world.replicas ≡ Some r → NamesTellApart (named_bytes one.world)
-    → RunsOut hss_judged r c.session.by c one → RunsOut hss_judged r c.session.by c other → HasMemoryAt one.session → HasMemoryAt other.session → one ≡ other
+SessionsEndOnce = (c one other : Scene) (r : ℕ) → Keeps (c.world, c.story) → IsInHand c r → c.world.replicas ≡ Some r
+    → NamesTellApart (named_bytes one.world)
+    → RunsOut hss_judged r c.session.by c one → RunsOut hss_judged r c.session.by c other → HasMemoryAt one.session
+    → HasMemoryAt other.session → one ≡ other
 
 -- What is published alone leads to one world in any case.
 abbrev pub PublishingIsOne : Type 0
-PublishingIsOne = (r : ℕ) (w : Played) (p : Participant) (one other : Played) → Publishes hss_judged r w p one → Publishes hss_judged r w p other → one ≡ other
+PublishingIsOne = (r : ℕ) (w : Played) (p : Participant) (one other : Played) → Publishes hss_judged r w p one
+    → Publishes hss_judged r w p other → one ≡ other
 
 -- ---- leaving out
 
@@ -267,14 +333,17 @@ pub record AgreeOnMembers (view : View) (heads others : Key → List Stamp) (met
 
 -- then they have the same candidates, whatever other logs there are
 abbrev pub OtherLogsDontCount : Type 0
-OtherLogsDontCount = (view : View) (grounds : Grounds) (others : Key → List Stamp) (more : List (List ℕ)) (started : Vector) (candidates : List Candidate)
+OtherLogsDontCount = (view : View) (grounds : Grounds) (others : Key → List Stamp) (more : List (List ℕ)) (started : Vector)
+    (candidates : List Candidate)
     → AgreeOnMembers view grounds.heads others grounds.met more → AreCandidatesOf grounds view started candidates
     → AreCandidatesOf (record grounds { heads = others; met = more }) view started candidates
 
 -- two turns of equal views, agents, sets, calls and moments give equal replies
 abbrev pub AlikeTurnsAnswerAlike : Type 0
-AlikeTurnsAnswerAlike = (g h : HadTurn) (one : IsOnReplay g) (other : IsOnReplay h) → g.view ≡ h.view → one.taken ≡ other.taken → own g.by.agent ≡ own h.by.agent
-    → left_of g.by.agent.signer ≡ left_of h.by.agent.signer → g.by.agent.has_failed ≡ h.by.agent.has_failed → fails_next g.by.keeper ≡ fails_next h.by.keeper
+AlikeTurnsAnswerAlike = (g h : HadTurn) (one : IsOnReplay g) (other : IsOnReplay h) → g.view ≡ h.view → one.taken ≡ other.taken
+    → own g.by.agent ≡ own h.by.agent
+    → left_of g.by.agent.signer ≡ left_of h.by.agent.signer → g.by.agent.has_failed ≡ h.by.agent.has_failed
+    → fails_next g.by.keeper ≡ fails_next h.by.keeper
     → one.asked ≡ other.asked → g.now ≡ h.now → g.turned.reply ≡ h.turned.reply
 
 -- ---- what is saved and loaded
@@ -285,7 +354,8 @@ KeptOnce = (k l : Kept) → IsKept k → IsKept l → kept_bytes k ≡ kept_byte
 
 -- A line that makes no snapshot leaves a world without one so.
 abbrev pub NoSnapshotComes : Type 0
-NoSnapshotComes = (w next : Played) (line output : List ℕ) → Keeps w → HasNoSnapshot w.0 → MakesNoSnapshot line → IvyStep w line (Goes next output) → HasNoSnapshot next.0
+NoSnapshotComes = (w next : Played) (line output : List ℕ) → Keeps w → HasNoSnapshot w.0 → MakesNoSnapshot line
+    → IvyStep w line (Goes next output) → HasNoSnapshot next.0
 
 -- ---- keys
 
@@ -296,15 +366,19 @@ pub record AreLeft (w : World) (p : Participant) (k : Kept) : Type 0 where
   pub signed : List (ℕ × Stamp)
   pub left : p.left ≡ map (sealed_with k.signer) signed
 
--- The heads that left an agent were each signed under a number of its own: two over records of one number, or signed by the same leaves, are one.
+-- The heads that left an agent were each signed under a number of its own: two over records of one number, or signed by the same leaves,
+-- are one.
 abbrev pub LeafSignsOnce : Type 0
-LeafSignsOnce = (w : Played) (p : Participant) (k : Kept) → Keeps w → Contains w.0.participants p → IsKept k → p.keeper.kept ≡ Some (kept_bytes k) → (signed : AreLeft w.0 p k)
-    × ((g h : ℕ × Stamp) → Contains signed.signed g → Contains signed.signed h → (g.1.seq ≡ h.1.seq) ⊎ (leaves_used k.signer.sets g.0 ≡ leaves_used k.signer.sets h.0) → g ≡ h)
+LeafSignsOnce = (w : Played) (p : Participant) (k : Kept) → Keeps w → Contains w.0.participants p → IsKept k
+    → p.keeper.kept ≡ Some (kept_bytes k) → (signed : AreLeft w.0 p k)
+    × ((g h : ℕ × Stamp) → Contains signed.signed g → Contains signed.signed h
+    → (g.1.seq ≡ h.1.seq) ⊎ (leaves_used k.signer.sets g.0 ≡ leaves_used k.signer.sets h.0) → g ≡ h)
 
 -- the public keys that signature n has, from the top down, each signed by the leaf above it (RFC 8554, section 6.2)
 abbrev pub keys_signed : PrivateKey → List Set → ℕ → List (List ℕ)
 keys_signed key [] n = []
-keys_signed key (set ∷ lower) n = (let leaf = leaf_used key.set (set ∷ lower) n in signed_lower key leaf set ∷ keys_signed (lower_key key leaf set) lower n)
+keys_signed key (set ∷ lower) n = (let leaf = leaf_used key.set (set ∷ lower) n in signed_lower key leaf set
+    ∷ keys_signed (lower_key key leaf set) lower n)
 
 abbrev pub keys_by : Signer → ℕ → List (List ℕ)
 keys_by signer n = keys_of signer.sets
@@ -313,26 +387,32 @@ keys_by signer n = keys_of signer.sets
     keys_of [] = []
     keys_of (set ∷ lower) = keys_signed (record { set = set; id = signer.id; seed = signer.seed }) lower n
 
--- A leaf above the lowest level has signed one message, the key below it: two signatures that use the same leaves down to a level have the same keys signed there.
+-- A leaf above the lowest level has signed one message, the key below it: two signatures that use the same leaves down to a level have the
+-- same keys signed there.
 abbrev pub UpperLeavesSignOnce : Type 0
-UpperLeavesSignOnce = (signer : Signer) (n m levels : ℕ) → take levels (leaves_used signer.sets n) ≡ take levels (leaves_used signer.sets m) → take levels (keys_by signer n) ≡ take levels (keys_by signer m)
+UpperLeavesSignOnce = (signer : Signer) (n m levels : ℕ) → take levels (leaves_used signer.sets n) ≡ take levels (leaves_used signer.sets m)
+    → take levels (keys_by signer n) ≡ take levels (keys_by signer m)
 
 -- a head that is to leave was signed under a number below that which the keeper's bytes have
 abbrev pub HeadsAreSavedFirst : Type 0
-HeadsAreSavedFirst = (w : Played) (p : Participant) (k : Kept) (bytes : List ℕ) → Keeps w → Contains w.0.participants p → IsKept k → p.keeper.kept ≡ Some (kept_bytes k) → Contains (heads_by p.agent.pending) bytes
+HeadsAreSavedFirst = (w : Played) (p : Participant) (k : Kept) (bytes : List ℕ) → Keeps w → Contains w.0.participants p → IsKept k
+    → p.keeper.kept ≡ Some (kept_bytes k) → Contains (heads_by p.agent.pending) bytes
     → (number : ℕ) × (newest : Stamp) × (bytes ≡ sealed_with k.signer (number, newest)) × (number < k.signer.made)
 
 -- ---- one truth
 
 -- Where names tell the blocks apart, a floor names one set of records among them.
 abbrev pub KnownIsOne : Type 0
-KnownIsOne = (met : List (List ℕ)) (view : View) (floor : Vector) (known other : List Record) → NamesTellApart met → IsKnown view floor known → IsKnown view floor other
+KnownIsOne = (met : List (List ℕ)) (view : View) (floor : Vector) (known other : List Record) → NamesTellApart met
+    → IsKnown view floor known → IsKnown view floor other
     → Stand met known → Stand met other → known ≡ other
 
 -- each log has a key of its own, and each judged head that was met was made by its log's agent
 pub record IsHonest (w : World) : Type 0 where
-  pub own_keys : (p q : Participant) → Contains w.participants p → Contains w.participants q → head_key_of (own p.agent) ≡ head_key_of (own q.agent) → p ≡ q
-  pub own_heads : (bytes : List ℕ) (log : Key) (j : Judged) → Contains w.met bytes → hss_judged log bytes ≡ Some j → (p : Participant) × Contains w.participants p × (log ≡ head_key_of (own p.agent)) × Contains p.left bytes
+  pub own_keys : (p q : Participant) → Contains w.participants p → Contains w.participants q
+      → head_key_of (own p.agent) ≡ head_key_of (own q.agent) → p ≡ q
+  pub own_heads : (bytes : List ℕ) (log : Key) (j : Judged) → Contains w.met bytes → hss_judged log bytes ≡ Some j
+      → (p : Participant) × Contains w.participants p × (log ≡ head_key_of (own p.agent)) × Contains p.left bytes
 
 -- the chain that the keeper of a log's agent names
 pub record IsKeptLog (w : World) (q : Participant) (log : List Record) : Type 0 where
@@ -345,22 +425,28 @@ pub record IsKeptLog (w : World) (q : Participant) (log : List Record) : Type 0 
 
 -- what an agent knows of a log is the beginning of that chain
 abbrev pub OneTruth : Type 0
-OneTruth = (w : Played) (p q : Participant) (view : View) (log : List Record) → Keeps w → IsHonest w.0 → Contains w.0.participants p → Contains w.0.participants q
-    → p.agent.view ≡ Some view → (kept : IsKeptLog w.0 q log) → NamesTellApart (named_bytes w.0 ++ map (λ post. post.bytes) kept.kept.pending) → IsPrefixOf (log_of (own q.agent) (known_of w.1 p.name)) log
+OneTruth = (w : Played) (p q : Participant) (view : View) (log : List Record) → Keeps w → IsHonest w.0 → Contains w.0.participants p
+    → Contains w.0.participants q
+    → p.agent.view ≡ Some view → (kept : IsKeptLog w.0 q log)
+    → NamesTellApart (named_bytes w.0 ++ map (λ post. post.bytes) kept.kept.pending)
+    → IsPrefixOf (log_of (own q.agent) (known_of w.1 p.name)) log
 
 -- ---- refreshes end in turns
 
 -- what a refresh gives a turn is tied to the heads and the blocks that it was brought
 abbrev pub RefreshBrings : Type 0
-RefreshBrings = (c : Scene) (r : ℕ) (notes : List Note) (given : Refresh) → Keeps (c.world, c.story) → NamesTellApart (named_bytes c.world) → IsInHand c r → HasRefreshed c.session notes given
+RefreshBrings = (c : Scene) (r : ℕ) (notes : List Note) (given : Refresh) → Keeps (c.world, c.story) → NamesTellApart (named_bytes c.world)
+    → IsInHand c r → HasRefreshed c.session notes given
     → Brings (grounds_of (named_bytes c.world) c.session c.began.knew) c.session.standing.view given
 
 -- Its turn is that of the definition: this is what its agent knows now, and it may turn so.
 abbrev pub RefreshMayTurn : Type 0
-RefreshMayTurn = (c : Scene) (p : Participant) (r : ℕ) (notes : List Note) (given : Refresh) → Keeps (c.world, c.story) → NamesTellApart (named_bytes c.world) → IsInHand c r
+RefreshMayTurn = (c : Scene) (p : Participant) (r : ℕ) (notes : List Note) (given : Refresh) → Keeps (c.world, c.story)
+    → NamesTellApart (named_bytes c.world) → IsInHand c r
     → participant c.world c.session.by ≡ Some p → HasRefreshed c.session notes given
     → Knows c.session.standing.view p.agent.floor p.agent.holding (known_of c.story p.name)
-    × MayTurn (grounds_of (named_bytes c.world) c.session c.began.knew) c.session.standing.view (own p.agent) (known_of c.story p.name) given
+    × MayTurn (grounds_of (named_bytes c.world) c.session c.began.knew) c.session.standing.view (own p.agent)
+    (known_of c.story p.name) given
 
 -- the session has just had a turn that was answered
 pub record HasTurned (c next : Scene) : Type 0 where
@@ -370,18 +456,22 @@ pub record HasTurned (c next : Scene) : Type 0 where
 
 -- Once a refresh is done the next step is its turn, where memory is there: it is answered, or the session begins anew.
 abbrev pub RefreshEndsInTurn : Type 0
-RefreshEndsInTurn = (c next : Scene) (r : ℕ) (notes : List Note) (given : Refresh) → Keeps (c.world, c.story) → NamesTellApart (named_bytes c.world) → c.world.replicas ≡ Some r → IsInHand c r
-    → HasRefreshed c.session notes given → Steps hss_judged r c.session.by c next → HasTurned c next ⊎ (next.session.starts ≡ c.session.starts + 1) ⊎ LacksMemory c.session next.session
+RefreshEndsInTurn = (c next : Scene) (r : ℕ) (notes : List Note) (given : Refresh) → Keeps (c.world, c.story)
+    → NamesTellApart (named_bytes c.world) → c.world.replicas ≡ Some r → IsInHand c r
+    → HasRefreshed c.session notes given → Steps hss_judged r c.session.by c next
+    → HasTurned c next ⊎ (next.session.starts ≡ c.session.starts + 1) ⊎ LacksMemory c.session next.session
 
 -- A session begins anew once at most: its second turn isn't refused.
 abbrev pub SecondTurnIsAnswered : Type 0
-SecondTurnIsAnswered = (c : Scene) (p : Participant) (r : ℕ) (view : View) (end : TurnEnd) (after : Agent) (saving : Option Kept) (t : Session) → Keeps (c.world, c.story) → NamesTellApart (named_bytes c.world)
+SecondTurnIsAnswered = (c : Scene) (p : Participant) (r : ℕ) (view : View) (end : TurnEnd) (after : Agent) (saving : Option Kept)
+    (t : Session) → Keeps (c.world, c.story) → NamesTellApart (named_bytes c.world)
     → c.world.replicas ≡ Some r → IsInHand c r → participant c.world c.session.by ≡ Some p → p.agent.view ≡ Some view
     → TakesTurn (turning_of c.world p view) c.session end after saving t → IsRefusal end → c.session.starts ≡ 0
 
 -- where the session began with no snapshot to load and no basis the turn is answered at once
 abbrev pub FreshTurnsAreAnswered : Type 0
-FreshTurnsAreAnswered = (c next : Scene) (r : ℕ) (notes : List Note) (given : Refresh) → Keeps (c.world, c.story) → NamesTellApart (named_bytes c.world) → c.world.replicas ≡ Some r → IsInHand c r
+FreshTurnsAreAnswered = (c next : Scene) (r : ℕ) (notes : List Note) (given : Refresh) → Keeps (c.world, c.story)
+    → NamesTellApart (named_bytes c.world) → c.world.replicas ≡ Some r → IsInHand c r
     → (sound : IsSoundSession c.world c.story c.session c.began) → BeganFresh c.session sound.of
     → HasRefreshed c.session notes given → Steps hss_judged r c.session.by c next → HasTurned c next ⊎ LacksMemory c.session next.session
 
@@ -389,17 +479,20 @@ FreshTurnsAreAnswered = (c next : Scene) (r : ℕ) (notes : List Note) (given : 
 
 -- A participant publishes all that its agent has to: the world that is left keeps what it should, and no turn was had.
 abbrev pub WholePublishingKeeps : Type 0
-WholePublishingKeeps = (w : Played) (r : ℕ) (p : Participant) (next : Played) → Keeps w → w.0.replicas ≡ Some r → participant w.0 p.name ≡ Some p → Publishes hss_judged r w p next
+WholePublishingKeeps = (w : Played) (r : ℕ) (p : Participant) (next : Played) → Keeps w → w.0.replicas ≡ Some r
+    → participant w.0 p.name ≡ Some p → Publishes hss_judged r w p next
     → Keeps next × (next.1.turns ≡ w.1.turns)
 
 -- ---- lines of calls
 
 -- Many steps of a session in hand leave such a world and such a session, and so do all up to the end; each turn in them is on the replay.
 abbrev pub ManyStepsKeep : Type 0
-ManyStepsKeep = (c next : Scene) (r count : ℕ) → Keeps (c.world, c.story) → IsInHand c r → c.world.replicas ≡ Some r → StepsOn hss_judged r c.session.by count c next → StepLeaves c next r
+ManyStepsKeep = (c next : Scene) (r count : ℕ) → Keeps (c.world, c.story) → IsInHand c r → c.world.replicas ≡ Some r
+    → StepsOn hss_judged r c.session.by count c next → StepLeaves c next r
 
 abbrev pub AllStepsKeep : Type 0
-AllStepsKeep = (c next : Scene) (r : ℕ) → Keeps (c.world, c.story) → IsInHand c r → c.world.replicas ≡ Some r → RunsOut hss_judged r c.session.by c next → StepLeaves c next r
+AllStepsKeep = (c next : Scene) (r : ℕ) → Keeps (c.world, c.story) → IsInHand c r → c.world.replicas ≡ Some r
+    → RunsOut hss_judged r c.session.by c next → StepLeaves c next r
 
 -- the commands by which sessions go on
 abbrev pub IsCall : Command → Type 0
@@ -410,28 +503,33 @@ IsCall _ = ⊥
 
 -- They leave such a world, and the headline holds of them.
 abbrev pub CallLinesKeep : Type 0
-CallLinesKeep = (c : Command) (w next : Played) (output : List ℕ) → IsCall c → Keeps w → Does hss_judged w c (Goes next output) → Keeps next × HoldsOf w c next output
+CallLinesKeep = (c : Command) (w next : Played) (output : List ℕ) → IsCall c → Keeps w → Does hss_judged w c (Goes next output)
+    → Keeps next × HoldsOf w c next output
 
 -- In no other command a turn is had, whatever the world.
 abbrev pub OthersHaveNoTurn : Type 0
-OthersHaveNoTurn = (c : Command) (w next : Played) (output : List ℕ) → (IsCall c → ⊥) → Does hss_judged w c (Goes next output) → next.1.turns ≡ w.1.turns
+OthersHaveNoTurn = (c : Command) (w next : Played) (output : List ℕ) → (IsCall c → ⊥) → Does hss_judged w c (Goes next output)
+    → next.1.turns ≡ w.1.turns
 
 -- ---- what turns save
 
 -- What may be saved of an agent may be of what a turn makes of it, and what is then saved may be.
 abbrev pub TurnsAreSaved : Type 0
-TurnsAreSaved = (view : View) (a after : Agent) (h : Holding) (fails : Bool) (written : List Record) (saving : Option Kept) → a.view ≡ Some view → IsKept (kept_of a) → MayTake hss view a h
+TurnsAreSaved = (view : View) (a after : Agent) (h : Holding) (fails : Bool) (written : List Record) (saving : Option Kept)
+    → a.view ≡ Some view → IsKept (kept_of a) → MayTake hss view a h
     → Becomes hss view a h fails written after saving → IsKept (kept_of after) × IfSome saving IsKept
 
 -- ---- snapshots that are made
 
 -- What an agent holds of a closed set has a spelling as a snapshot.
 abbrev pub HeldIsSpelled : Type 0
-HeldIsSpelled = (view : View) (floor : Vector) (h : Holding) (known : List Record) → IsView view → HasKeys view → Knows view floor h known → IsBasisSpelled (basis_of h)
+HeldIsSpelled = (view : View) (floor : Vector) (h : Holding) (known : List Record) → IsView view → HasKeys view → Knows view floor h known
+    → IsBasisSpelled (basis_of h)
 
 -- The line that makes a snapshot leaves such a world.
 abbrev pub SnapLinesKeep : Type 0
-SnapLinesKeep = (log : List ℕ) (w next : Played) (output : List ℕ) → Keeps w → Does hss_judged w (command.Snap log) (Goes next output) → Keeps next
+SnapLinesKeep = (log : List ℕ) (w next : Played) (output : List ℕ) → Keeps w → Does hss_judged w (command.Snap log) (Goes next output)
+    → Keeps next
 
 -- ---- one run, where memory was there
 
@@ -444,7 +542,8 @@ HadMemory w line Exceeds = Unit {0}
 
 -- So each script has one run at most of which that holds all along.
 abbrev pub FullRunsAreOne : Type 0
-FullRunsAreOne = (w : Played) (number : ℕ) (lines : List (List ℕ)) (first second : Ran) → Keeps w → Runs (WithLaw IvyStep HadMemory) w number lines first
+FullRunsAreOne = (w : Played) (number : ℕ) (lines : List (List ℕ)) (first second : Ran) → Keeps w
+    → Runs (WithLaw IvyStep HadMemory) w number lines first
     → Runs (WithLaw IvyStep HadMemory) w number lines second → first ≡ second
 
 -- ---- refreshes end
@@ -452,15 +551,19 @@ FullRunsAreOne = (w : Played) (number : ℕ) (lines : List (List ℕ)) (first se
 -- what this refresh was brought leads to its end: whatever comes of what it wants, and of what it wants then, it comes to want nothing
 pub data EndsAtLast (s : Standing) : List Brought → Type 0 where
   refresh_comes_to : {brought : List Brought} (notes : List Note) (given : Refresh) (end : RefreshEnd) → Refreshes s brought notes given end
-      → ((want : Want) (came : Brought) → end ≡ Needs want → IsOfWant want came → EndsAtLast s (brought ++ came ∷ [])) → EndsAtLast s brought
+      → ((want : Want) (came : Brought) → end ≡ Needs want → IsOfWant want came → EndsAtLast s (brought ++ came ∷ []))
+      → EndsAtLast s brought
 
 -- So does whatever a refresh was brought, whether or not names tell apart.
 abbrev pub RefreshesEnd : Type 0
-RefreshesEnd = (s : Standing) (brought : List Brought) (notes : List Note) (given : Refresh) (end : RefreshEnd) → Refreshes s brought notes given end → EndsAtLast s brought
+RefreshesEnd = (s : Standing) (brought : List Brought) (notes : List Note) (given : Refresh) (end : RefreshEnd)
+    → Refreshes s brought notes given end → EndsAtLast s brought
 
 -- Nothing more is to be asked for a refresh: with what is at hand it is done, or it has failed and its session is over.
 pub data RefreshIsOver (r : ℕ) (c : Scene) : Type 0 where
-  is_done : (p : Participant) (taken : Session) (cache : Cache) (notes : List Note) (given : Refresh) → participant c.world c.session.by ≡ Some p → TakesAll hss_judged r c.session p.cache taken cache → HasRefreshed taken notes given → RefreshIsOver r c
+  is_done : (p : Participant) (taken : Session) (cache : Cache) (notes : List Note) (given : Refresh)
+      → participant c.world c.session.by ≡ Some p → TakesAll hss_judged r c.session p.cache taken cache → HasRefreshed taken notes given
+      → RefreshIsOver r c
   has_failed : (said : Said) (miss : Miss) → c.session.stage ≡ Over (Some said) → c.session.missed ≡ Some miss → RefreshIsOver r c
 
 -- Where memory is there a refresh of a session in hand comes to that, whether or not names tell apart.
@@ -468,10 +571,13 @@ abbrev pub RefreshesRunOut : Type 0
 RefreshesRunOut = (c : Scene) (r : ℕ) → Keeps (c.world, c.story) → IsInHand c r → c.world.replicas ≡ Some r → c.session.stage ≡ Refreshing
     → (count : ℕ) × (next : Scene) × StepsOn hss_judged r c.session.by count c next × HasMemoryAt next.session × RefreshIsOver r next
 
--- And where names tell apart and the turn of such a refresh exists, the next step is there: that turn, or the session begins anew after its refusal.
+-- And where names tell apart and the turn of such a refresh exists, the next step is there: that turn, or the session begins anew after its
+-- refusal.
 abbrev pub DoneRefreshesStep : Type 0
-DoneRefreshesStep = (c : Scene) (r : ℕ) (p : Participant) (taken : Session) (cache : Cache) (notes : List Note) (given : Refresh) (xid : ℕ) (asked : Asked) (end : TurnEnd) (after : Agent) (saving : Option Kept)
-    → Keeps (c.world, c.story) → IsInHand c r → c.world.replicas ≡ Some r → NamesTellApart (named_bytes c.world) → participant c.world c.session.by ≡ Some p → TakesAll hss_judged r c.session p.cache taken cache
+DoneRefreshesStep = (c : Scene) (r : ℕ) (p : Participant) (taken : Session) (cache : Cache) (notes : List Note) (given : Refresh) (xid : ℕ)
+    (asked : Asked) (end : TurnEnd) (after : Agent) (saving : Option Kept)
+    → Keeps (c.world, c.story) → IsInHand c r → c.world.replicas ≡ Some r → NamesTellApart (named_bytes c.world)
+    → participant c.world c.session.by ≡ Some p → TakesAll hss_judged r c.session p.cache taken cache
     → HasRefreshed taken notes given → Asks taken.standing.view taken.message xid asked
     → Turns hss given (turning_of c.world p taken.standing.view) asked end after saving
     → (next : Scene) × Steps hss_judged r c.session.by c next × HasMemoryAt next.session
@@ -480,17 +586,23 @@ DoneRefreshesStep = (c : Scene) (r : ℕ) (p : Participant) (taken : Session) (c
 abbrev pub TurnAt : Scene → Participant → Session → Refresh → Asked → TurnEnd → Agent → Option Kept → Type 0
 TurnAt c p taken given asked end after saving = Turns hss given (turning_of c.world p taken.standing.view) asked end after saving
 
--- A session goes to its end with memory there; or names clash on the way; or its refresh is done, and it goes on so by whatever turn there is of it.
+-- A session goes to its end with memory there; or names clash on the way; or its refresh is done, and it goes on so by whatever turn there
+-- is of it.
 pub data GoesFully (r : ℕ) (name : List ℕ) : Scene → Type 0 where
   ends : {c next : Scene} → RunsOut hss_judged r name c next → HasMemoryAt next.session → GoesFully r name c
   clashes : {c : Scene} → HasClash (named_bytes c.world) → GoesFully r name c
-  goes_on : {c next : Scene} (count : ℕ) → StepsOn hss_judged r name count c next → HasMemoryAt next.session → GoesFully r name next → GoesFully r name c
-  has_turn : {c : Scene} (p : Participant) (taken : Session) (cache : Cache) (notes : List Note) (given : Refresh) (xid : ℕ) (asked : Asked) → participant c.world name ≡ Some p → TakesAll hss_judged r c.session p.cache taken cache
+  goes_on : {c next : Scene} (count : ℕ) → StepsOn hss_judged r name count c next → HasMemoryAt next.session → GoesFully r name next
+      → GoesFully r name c
+  has_turn : {c : Scene} (p : Participant) (taken : Session) (cache : Cache) (notes : List Note) (given : Refresh) (xid : ℕ) (asked : Asked)
+      → participant c.world name ≡ Some p → TakesAll hss_judged r c.session p.cache taken cache
       → HasRefreshed taken notes given → Asks taken.standing.view taken.message xid asked
       → (leads : (end : TurnEnd) (after : Agent) (saving : Option Kept) → TurnAt c p taken given asked end after saving → Scene)
-      → ((end : TurnEnd) (after : Agent) (saving : Option Kept) (turn : TurnAt c p taken given asked end after saving) → Steps hss_judged r name c (leads end after saving turn) × HasMemoryAt (leads end after saving turn).session)
-      → ((end : TurnEnd) (after : Agent) (saving : Option Kept) (turn : TurnAt c p taken given asked end after saving) → GoesFully r name (leads end after saving turn)) → GoesFully r name c
+      → ((end : TurnEnd) (after : Agent) (saving : Option Kept) (turn : TurnAt c p taken given asked end after saving)
+      → Steps hss_judged r name c (leads end after saving turn) × HasMemoryAt (leads end after saving turn).session)
+      → ((end : TurnEnd) (after : Agent) (saving : Option Kept) (turn : TurnAt c p taken given asked end after saving)
+      → GoesFully r name (leads end after saving turn)) → GoesFully r name c
 
 -- So does each session in hand that refreshes.
 abbrev pub SessionsGoFully : Type 0
-SessionsGoFully = (c : Scene) (r : ℕ) → Keeps (c.world, c.story) → IsInHand c r → c.world.replicas ≡ Some r → c.session.stage ≡ Refreshing → GoesFully r c.session.by c
+SessionsGoFully = (c : Scene) (r : ℕ) → Keeps (c.world, c.story) → IsInHand c r → c.world.replicas ≡ Some r → c.session.stage ≡ Refreshing
+    → GoesFully r c.session.by c

@@ -20,7 +20,8 @@ pub record IsThisVersion (message : List ℕ) (xid : ℕ) : Type 0 where
 
 -- Each message is one of these: a call, a call of another version, or no call.
 abbrev pub EachMessageIsOne : Type 0
-EachMessageIsOne = (message : List ℕ) → ((c : CallMessage) × IsThisCall message c) ⊎ ((xid : ℕ) × IsThisVersion message xid) ⊎ IsNoCall message
+EachMessageIsOne = (message : List ℕ)
+    → ((c : CallMessage) × IsThisCall message c) ⊎ ((xid : ℕ) × IsThisVersion message xid) ⊎ IsNoCall message
 
 -- the message alone has this reply, or none, and no other, and reaches no turn
 pub record IsAnswered (view : View) (message : List ℕ) (given : Option (List ℕ)) : Type 0 where
@@ -36,4 +37,5 @@ pub record IsAsked (view : View) (message : List ℕ) (xid : ℕ) (asked : Asked
 
 -- One of the two becomes of each message, in each view.
 abbrev pub EachMessageBecomesOne : Type 0
-EachMessageBecomesOne = (view : View) (message : List ℕ) → ((given : Option (List ℕ)) × IsAnswered view message given) ⊎ ((xid : ℕ) × (asked : Asked) × IsAsked view message xid asked)
+EachMessageBecomesOne = (view : View) (message : List ℕ)
+    → ((given : Option (List ℕ)) × IsAnswered view message given) ⊎ ((xid : ℕ) × (asked : Asked) × IsAsked view message xid asked)

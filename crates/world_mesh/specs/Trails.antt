@@ -32,7 +32,8 @@ module _ (judged : Key → List ℕ → Option Judged) where
   -- What becomes of an ask: it has its fate, the same in each world with these nodes; and a peer that was never made is silent, and no
   -- node is changed.
   pub data Becomes (here : NodesState) (node : Peer) (question : Ask) : Answer → NodesState → Type 0 where
-    fated : {given : Answer} {there : NodesState} → ((w : World) → IsNodesOf w here → FateOf judged w node question given (with_nodes w there))
+    fated : {given : Answer} {there : NodesState}
+        → ((w : World) → IsNodesOf w here → FateOf judged w node question given (with_nodes w there))
         → Becomes here node question given there
     nobody : (IsAmong node (made_peers here) → ⊥) → Becomes here node question answer.Silent here
 

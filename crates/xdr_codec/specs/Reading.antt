@@ -25,7 +25,8 @@ FixedFault n bytes _ = ⊥
 
 -- opaque data of at most so many bytes, whose count stands in front
 abbrev pub OpaqueFault : ℕ → List ℕ → XdrFault → Type 0
-OpaqueFault most bytes Short = (length bytes < 4) ⊎ ((n : ℕ) × (rest : List ℕ) × IsFront IsWord word bytes n rest × (n ≤ most) × FixedFault n rest Short)
+OpaqueFault most bytes Short = (length bytes < 4)
+    ⊎ ((n : ℕ) × (rest : List ℕ) × IsFront IsWord word bytes n rest × (n ≤ most) × FixedFault n rest Short)
 OpaqueFault most bytes TooLong = (n : ℕ) × (rest : List ℕ) × IsFront IsWord word bytes n rest × (most < n)
 OpaqueFault most bytes Padding = (n : ℕ) × (rest : List ℕ) × IsFront IsWord word bytes n rest × (n ≤ most) × FixedFault n rest Padding
 OpaqueFault most bytes _ = ⊥
