@@ -22,6 +22,17 @@
 //!   the script language;
 //! - `ann R W STREAM`, `ben R W STREAM`: a link of that agent over these nodes.
 //!
+//! Two lines try what has no input:
+//! - `ring`: five nodes are made, and three own a key. Two threads put 20 content blocks each, ask by ask. Node 5 joins, and can't
+//!   again; node 0 stops, and can't again, and is silent from then on. Both threads get all that they put. One thread makes a round
+//!   while the other puts 20 blocks more. After a round nodes 1 and 2 stop, so that two of three owners may be gone; after another
+//!   one two threads get all 60 blocks. Each line of the answer is a part of this, the same whatever the schedule.
+//! - `host`: what is outside the program, each once, where a line says what was met: the keepers of a folder, that names which are
+//!   none are refused, what a new keeper keeps and what it keeps after two saves, that a name isn't given twice, and a save whose
+//!   folder is gone; whether the clock is beyond the year 2020; and a link with both ends in threads. Of it, what the server read;
+//!   that it came to its end, though the client was still there and nobody asked the ports for a further link, and then the ports
+//!   to theirs; what the client read until the server hung up; the link's number; and ports that are to end before they listen.
+//!
 //! The answer to a line that changes a world is `changed`. Empty lines and those that begin with `#` are written as they are. `no
 //! answer` stands for other lines, and for want of memory.
 //!
@@ -31,13 +42,17 @@
 
 mod agents;
 mod gated;
+mod host;
 mod link;
+mod live;
 mod served;
 mod slow;
 mod stored;
 mod world;
 
 use gated::serve_gated;
+use ivy_host::HostClock;
+use ivy_io::Clock;
 use ivy_server::Ended;
 use served::{Served, serve_line, serve_slowly};
 use std::alloc::Global;
@@ -46,12 +61,25 @@ use std::sync::Wait;
 use stored::{Stored, serve_stored};
 use world::{Who, World};
 
+/// The first second of the year 2020.
+const YEAR_2020: u32 = 1_577_836_800;
+
+// What is sent to a thread is known to be fit for it of the host's runtime, which is named nowhere but here.
 fn main(rt: HostRuntime) -> io::Result<()> {
     let alloc = rt.alloc();
     let mut world = None;
     for line in rt.lines(alloc) {
         let line = line?;
-        world = answer(&rt, alloc, world, line.as_str())?;
+        match line.as_str() {
+            "ring" => live::put_to_trial(&rt, alloc)?,
+            "host" => {
+                host::files::put_to_trial(&rt, alloc)?;
+                let (sec, _) = HostClock::new(rt).now();
+                println!(rt; "clock: beyond 2020: {}", sec >= YEAR_2020)?;
+                host::links::put_to_trial(&rt, alloc)?;
+            }
+            line => world = answer(&rt, alloc, world, line)?,
+        }
     }
     Ok(())
 }

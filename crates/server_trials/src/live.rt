@@ -1,22 +1,19 @@
 //! A ring behind locks, which two threads ask at once.
-//!
-//! Each line is a part of one trial. Five nodes are made, and three own a key. Two threads put 20 content blocks each, ask by
-//! ask. Node 5 joins, and can't again; node 0 stops, and can't again, and is silent from then on. Both threads get all that
-//! they put. One thread makes a round while the other puts 20 blocks more. After a round nodes 1 and 2 stop, so that two of
-//! three owners may be gone; after another one two threads get all 60 blocks. The answers are worked out by hand, and are the
-//! same whatever the schedule.
-#![tactic(auto)]
 
 mod client;
 mod trial;
 
 use ivy_base::Memory;
+use std::alloc::Global;
 use std::io;
+use std::sync::Wait;
+use std::thread::Threads;
 use trial::{Told, run_trial};
 
-fn main(rt: HostRuntime) -> io::Result<()> {
-    match run_trial(&rt, rt.alloc()) {
-        Ok(told) => show(&rt, &told),
+/// Puts the ring to trial.
+pub fn put_to_trial<R: Print + Threads + Wait + Sync>(rt: &R, alloc: Global) -> io::Result<()> {
+    match run_trial(rt, alloc) {
+        Ok(told) => show(rt, &told),
         Err(Memory) => println!(rt; "out of memory"),
     }
 }

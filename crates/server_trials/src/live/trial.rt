@@ -2,7 +2,7 @@
 
 ghost use Rattle.std.specs.Prelude.{◌≤◌};
 
-use crate::client::{get_all, is_silent, put_all};
+use super::client::{get_all, is_silent, put_all};
 use dht_ids::{Peer, node_id};
 use ivy_base::Memory;
 use ring_run::LiveRing;
