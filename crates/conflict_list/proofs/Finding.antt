@@ -23,7 +23,7 @@ use Rattle.conflict_list.proofs.MarkedLemmas.{In, IsOf, in_map}
 use Rattle.conflict_list.proofs.Places.{all_at, all_contained, at_one, at_some, below_or_at, at_read, in_all, in_more, spelled_at}
 
 -- of two in conflict, the second doesn't know the first
-not_known : (r s : Record) → in_conflict r s ≡ true → knows s r ≡ false
+pub not_known : (r s : Record) → in_conflict r s ≡ true → knows s r ≡ false
 not_known r s h =
     let apart = both_true (touch r s) (are_concurrent r s) h in
     let ways = both_true (not (knows r s)) (not (knows s r)) apart.1 in
@@ -129,6 +129,11 @@ all_lanes rs i logs of ms number lanes found le are ours so_far m u within clash
     let log = is.1 in
     so_far m (u.0, u.1, u.2, omega (arith, le, lane, log)) within clash
 
+-- where a number has no marks there is nothing to be found
+pub none_under : (rs : List kept.Record) (i : ℕ) (ms group : List Marked) (number : ℕ) (found : List ℕ) → length group ≡ 0 → ((m : Marked) → Contains ms m → m.number ≡ number → Contains group m)
+    → AreFound rs i (λ m. Contains ms m × (m.number ≡ number) × (i < m.place)) found
+none_under rs i ms group number found none gathers m u within clash = let lt = (gathers m u.0 u.1).1 in absurd (omega (arith, none, lt))
+
 -- ---- all numbers
 
 pub number_more : (rs : List kept.Record) (i : ℕ) (ms : List Marked) (ks : List ℕ) (x k : ℕ) (found more : List ℕ) → At ks x k
@@ -159,4 +164,4 @@ all_found rs of ms i r ks found sorted stand spelled ours ks_are so_far moved j 
     let looked : Contains ks (number meet.0) = subst (λ (l : List ℕ). Contains l (number meet.0)) (sym ks_are) (in_map number (looks r.op) meet.0 meet.1) in
     let there : Contains (numbers_of s.op) (number meet.0) = in_map number (marks s.op) meet.0 meet.2 in
     let mark = marked (get_or of j 0) j (number meet.0) in
-    Contains-permutation found sorted j moved (so_far mark (ours.each j s (number meet.0) within other.1 there, looked, less) within clash)
+    Contains-permutation found sorted j moved (so_far mark (ours.each i j s (number meet.0) less within clash other.1 there, looked, less) within clash)

@@ -7,4 +7,5 @@ pub mod Growing
 pub mod LogLemmas
 pub mod MarkedLemmas
 pub mod Finding
+pub mod LateLemmas
 pub mod Rows

@@ -1,5 +1,5 @@
 -- The records under their numbers: one record more, in order, and parts of them.
-use Rattle.std.proofs.Common.{◌≡◌, ℕ, ◌+◌, ◌-◌, ◌<◌, ◌≤◌, ◌^◌, true, false, List, [], ◌++◌, length, get_or, take, drop, map, min, sym, ap, ◌∙◌, subst, ⊎_elim, arith, Contains, length-take, length-drop, leb, ltb, leb-true, IsPermutation}
+use Rattle.std.proofs.Common.{◌≡◌, ℕ, ◌+◌, ◌-◌, ◌<◌, ◌≤◌, ◌^◌, true, false, Bool, List, [], ◌++◌, length, get_or, take, drop, map, min, sym, ap, ◌∙◌, subst, ⊎_elim, arith, Contains, length-take, length-drop, leb, ltb, leb-true, IsPermutation}
 use Rattle.std.specs.List.{All}
 use Rattle.std.specs.List.Sorted.{IsNonDecreasingBy, IsPartitionPoint}
 use Rattle.std.proofs.lemmas.Bool.{cases_lt, ltb-true, ltb-false, leb-false}
@@ -10,7 +10,7 @@ use Rattle.log_records.specs.declared.record.Record as kept
 use Rattle.conflict_list.specs.declared.marked.Marked.{Marked}
 use Rattle.conflict_list.specs.Numbers.{numbers_of}
 use Rattle.conflict_list.specs.Order.{marked, order, order_of}
-use Rattle.conflict_list.specs.Tables.{AreMarked, At, IsMarkOf, IsRun}
+use Rattle.conflict_list.specs.Tables.{AreLate, AreMarked, At, Clashing, IsMarkOf, IsRun}
 use Rattle.conflict_list.proofs.Places.{all_at, all_contained, at_contains, at_one, below_or_at}
 
 pub in_map : {X Y : Type 0} (f : X → Y) (xs : List X) (x : X) → Contains xs x → Contains (map f xs) (f x)
@@ -25,14 +25,14 @@ in_map f xs x c = (
 pub marked_more : (rs : List kept.Record) (of : List ℕ) (n : ℕ) (ms more : List Marked) (ks : List ℕ) (r : kept.Record) (log : ℕ) → At rs n r → AreMarked rs of n ms
     → log ≡ get_or of n 0 → log < 2 ^ 32 → ks ≡ numbers_of r.op → more ≡ ms ++ map (marked log n) ks → AreMarked rs of (n + 1) more
 marked_more rs of n ms more ks r log here so_far is fits ks_are added = record {
-  each = λ j s k lt stand c. ⊎_elim (λ less. earlier j s k less stand c) (λ now. latest j s k now stand c) (below_or_at j n lt);
+  each = λ i j s k before lt clash stand c. ⊎_elim (λ less. earlier i j s k before less clash stand c) (λ now. latest j s k now stand c) (below_or_at j n lt);
   only = subst (λ (l : List Marked). All (IsMarkOf (n + 1) of) l) (sym added) (All-append (IsMarkOf (n + 1) of) ms (map (marked log n) ks)
       (All-weaker (IsMarkOf n of) (IsMarkOf (n + 1) of) (λ m h. (let lt = h.0 in omega (arith, lt), h.1, h.2)) ms so_far.only)
       (All-map (IsMarkOf (n + 1) of) (marked log n) ks (λ k d lt. (omega arith, is, fits))));
 }
   where
-    earlier : (j : ℕ) (s : kept.Record) (k : ℕ) → j < n → At rs j s → Contains (numbers_of s.op) k → Contains more (marked (get_or of j 0) j k)
-    earlier j s k less stand c = subst (λ (l : List Marked). Contains l (marked (get_or of j 0) j k)) (sym added) (Contains-append_left ms (map (marked log n) ks) (marked (get_or of j 0) j k) (so_far.each j s k less stand c))
+    earlier : (i j : ℕ) (s : kept.Record) (k : ℕ) → i < j → j < n → Clashing rs i j → At rs j s → Contains (numbers_of s.op) k → Contains more (marked (get_or of j 0) j k)
+    earlier i j s k before less clash stand c = subst (λ (l : List Marked). Contains l (marked (get_or of j 0) j k)) (sym added) (Contains-append_left ms (map (marked log n) ks) (marked (get_or of j 0) j k) (so_far.each i j s k before less clash stand c))
 
     latest : (j : ℕ) (s : kept.Record) (k : ℕ) → j ≡ n → At rs j s → Contains (numbers_of s.op) k → Contains more (marked (get_or of j 0) j k)
     latest j s k now stand c =
@@ -43,14 +43,25 @@ marked_more rs of n ms more ks r log here so_far is fits ks_are added = record {
 
 pub none_marked : (rs : List kept.Record) (of : List ℕ) (ms : List Marked) → ms ≡ [] → AreMarked rs of 0 ms
 none_marked rs of ms none = record {
-  each = λ j s k lt stand c. absurd (omega (arith, lt));
+  each = λ i j s k before lt clash stand c. absurd (omega (arith, lt));
   only = subst (All (IsMarkOf 0 of)) (sym none) (λ k d lt. absurd (omega (arith, lt)));
+}
+
+-- a record that isn't late has no marks
+pub unmarked_more : (rs : List kept.Record) (of : List ℕ) (n : ℕ) (ms : List Marked) (late : List Bool) → n < length rs → AreLate rs (length rs) late → get_or late n false ≡ false
+    → AreMarked rs of n ms → AreMarked rs of (n + 1) ms
+unmarked_more rs of n ms late within lates early so_far = record {
+  each = λ i j s k before lt clash stand c. ⊎_elim
+      (λ less. so_far.each i j s k before less clash stand c)
+      (λ now. absurd (cc (sym (lates i j before stand.0 clash) ∙ (ap (λ (x : ℕ). get_or late x false) now ∙ early))))
+      (below_or_at j n lt);
+  only = All-weaker (IsMarkOf n of) (IsMarkOf (n + 1) of) (λ m h. (let lt = h.0 in omega (arith, lt), h.1, h.2)) ms so_far.only;
 }
 
 -- in another order
 pub marked_sorted : (rs : List kept.Record) (of : List ℕ) (n : ℕ) (ms more : List Marked) → IsPermutation ms more → AreMarked rs of n ms → AreMarked rs of n more
 marked_sorted rs of n ms more p h = record {
-  each = λ j s k lt stand c. Contains-permutation ms more (marked (get_or of j 0) j k) p (h.each j s k lt stand c);
+  each = λ i j s k before lt clash stand c. Contains-permutation ms more (marked (get_or of j 0) j k) p (h.each i j s k before lt clash stand c);
   only = All-permutation (IsMarkOf n of) ms more p h.only;
 }
 

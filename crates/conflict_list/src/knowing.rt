@@ -34,7 +34,7 @@ pub fn knows(one: &Record, key: &Key, other: &Record, other_key: &Key) -> bool
 }
 
 /// How far the record knows a log: its own up to itself. `key` is the head key of its own log.
-fn reach_of(one: &Record, key: &Key, log: &Key) -> u32
+pub fn reach_of(one: &Record, key: &Key, log: &Key) -> u32
     requires key { key.now ≡ head_key_of one.now.owner }
     requires of_others { stamp_at one.now.vector key.now ≡ None }
     ensures { result ≡ seq_of (full_vector (record_of one.now)) log.now }

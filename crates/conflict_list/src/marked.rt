@@ -6,7 +6,7 @@ ghost use Rattle.std.specs.List.Sorted.{IsNonDecreasingBy};
 ghost use Rattle.log_model.specs.Spelling.{HasSpelling};
 ghost use Rattle.log_records.specs.Records.{records_of};
 ghost use Rattle.conflict_list.specs.Order.{marked, order, order_of};
-ghost use Rattle.conflict_list.specs.Tables.{AreMarked};
+ghost use Rattle.conflict_list.specs.Tables.{AreLate, AreMarked};
 ghost use Rattle.conflict_list.specs.declared.marked.Marked.{Marked};
 
 use crate::numbers::set_numbers;
@@ -24,33 +24,73 @@ pub struct Marked {
     pub place: u32,
 }
 
-/// Each record under each of its numbers, ascending by number, then by log, then by place. The error is want of memory.
-pub fn marked_of(alloc: Global, records: &[Record], of: &[u32]) -> Result<Vec<Marked>, Memory>
+/// Each late record under each of its numbers, ascending by number, then by log, then by place. The error is want of memory.
+pub fn marked_of(
+    alloc: Global,
+    records: &[Record],
+    of: &[u32],
+    late: &[bool],
+) -> Result<Vec<Marked>, Memory>
     requires few { length records.now < 2 ^ 32 }
     requires long { length of.now ≡ length records.now }
+    requires long_late { length late.now ≡ length records.now }
+    requires late { AreLate records.now (length records.now) late.now }
     requires spelled { AllByRecursion HasSpelling (records_of records.now) }
     ensures marked { IfOk result (λ list. AreMarked records.now of.now (length records.now) list.items) }
     ensures ascending { IfOk result (λ list. IsNonDecreasingBy order list.items) }
 {
-    let mut list = marked_in_turn(alloc, records, of)?;
+    let mut list = marked_in_turn(alloc, records, of, late)?;
     list.sort_unstable_by_key(|mark| mark.order());
     Ok(list)
 }
 
-/// Each record under each of its numbers. The error is want of memory.
-fn marked_in_turn(alloc: Global, records: &[Record], of: &[u32]) -> Result<Vec<Marked>, Memory>
+/// Each late record under each of its numbers. The error is want of memory.
+fn marked_in_turn(
+    alloc: Global,
+    records: &[Record],
+    of: &[u32],
+    late: &[bool],
+) -> Result<Vec<Marked>, Memory>
     requires few { length records.now < 2 ^ 32 }
     requires long { length of.now ≡ length records.now }
+    requires long_late { length late.now ≡ length records.now }
+    requires late { AreLate records.now (length records.now) late.now }
     requires spelled { AllByRecursion HasSpelling (records_of records.now) }
     ensures { IfOk result (λ list. AreMarked records.now of.now (length records.now) list.items) }
 {
     let mut list = Vec::new(alloc);
     let mut numbers = Vec::new(alloc);
     'records: for place in 0..records.len() {
-        set_numbers(&mut numbers, &records[place].op)?;
-        mark(&mut list, numbers.as_slice(), of[place], place as u32)?;
+        mark_late(&mut list, &mut numbers, records, of, late, place)?;
     }
     Ok(list)
+}
+
+/// Adds the record at that place under each of its numbers, if it is late. `numbers` is room for the work. The error is want
+/// of memory.
+fn mark_late(
+    list: &mut Vec<Marked>,
+    numbers: &mut Vec<u64>,
+    records: &[Record],
+    of: &[u32],
+    late: &[bool],
+    place: usize,
+) -> Result<(), Memory>
+    requires few { length records.now < 2 ^ 32 }
+    requires place { place < length records.now }
+    requires long { length of.now ≡ length records.now }
+    requires long_late { length late.now ≡ length records.now }
+    requires late { AreLate records.now (length records.now) late.now }
+    requires spelled { AllByRecursion HasSpelling (records_of records.now) }
+    requires so_far { AreMarked records.now of.now place list.old.items }
+    ensures { OnOk result (AreMarked records.now of.now (place + 1) list.new.items) }
+{
+    if !late[place] {
+        return Ok(());
+    }
+    set_numbers(numbers, &records[place].op)?;
+    mark(list, numbers.as_slice(), of[place], place as u32)?;
+    Ok(())
 }
 
 /// Adds the record at that place, of the log at that place, under each of the numbers. The error is want of memory.

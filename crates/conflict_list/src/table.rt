@@ -1,16 +1,17 @@
 //! Where the later records are found that are in conflict with one.
 
-ghost use Rattle.std.specs.Prelude.{◌≡◌, ℕ, ◌+◌, ◌<◌, ◌≤◌, ◌^◌, length, Contains, IfOk, OnOk, slice_index};
+ghost use Rattle.std.specs.Prelude.{◌≡◌, ℕ, ◌+◌, ◌<◌, ◌≤◌, ◌^◌, length, Contains, IsTrue, IfOk, OnOk, slice_index};
 ghost use Rattle.std.specs.List.{All, AllByRecursion};
 ghost use Rattle.std.specs.List.Sorted.{IsNonDecreasingBy};
 ghost use Rattle.log_model.specs.Spelling.{HasSpelling};
 ghost use Rattle.log_records.specs.Records.{records_of};
 ghost use Rattle.conflict_list.specs.declared.marked.Marked.{Marked};
 ghost use Rattle.conflict_list.specs.Order.{order};
-ghost use Rattle.conflict_list.specs.Tables.{AreFound, HasKey, IsMarkOf, IsRun, KnowsAt, Stays};
+ghost use Rattle.conflict_list.specs.Tables.{AreFound, Grow, HasKey, IsMarkOf, IsRun, KnowsAt, Stays};
 ghost use Rattle.conflict_list.specs.Whole.{IsTable};
 
 use crate::knowing::knows;
+use crate::late::late_of;
 use crate::logs::{Logs, all_go_on, logs_of};
 use crate::marked::{Marked, between, marked_of, order_of};
 use crate::numbers::set_looks;
@@ -36,9 +37,19 @@ pub fn table_of(alloc: Global, records: &[Record]) -> Result<Table, Memory>
         return Err(Memory);
     }
     let logs = logs_of(alloc, records)?;
-    let grow = all_go_on(records, logs.of.as_slice());
-    let marks = marked_of(alloc, records, logs.of.as_slice())?;
+    let late = late_of(alloc, records, &logs)?;
+    let marks = marked_of(alloc, records, logs.of.as_slice(), late.as_slice())?;
+    let grow = are_growing(records, logs.of.as_slice(), marks.as_slice());
     Ok(Table { logs, grow, marks })
+}
+
+/// Whether each record is seen to know all that the one before it in its log knows. Where there are no marks none is looked at.
+fn are_growing(records: &[Record], of: &[u32], marks: &[Marked]) -> bool
+    requires long { length of.now ≡ length records.now }
+    requires spelled { AllByRecursion HasSpelling (records_of records.now) }
+    ensures { IsTrue result → Grow records.now of.now (length records.now) }
+{
+    !marks.is_empty() && all_go_on(records, of)
 }
 
 impl Table {
@@ -81,6 +92,9 @@ impl Table {
             order_of(number, 0, 0),
             order_of(number, u32::MAX, u32::MAX),
         );
+        if group.is_empty() {
+            return Ok(());
+        }
         'logs: for lane in 0..self.logs.list.len() {
             let run = run_of(group, number, lane as u32, i as u32);
             self.add_run(records, i, run, found)?;
