@@ -1,5 +1,5 @@
 -- The steps of a whole call in a calm script, where of each log a head was put: it refreshes so, or it is past that and has missed nothing.
-use Rattle.std.proofs.Common.{◌≡◌, ◌⊎◌, inl, inr, ⊎_elim, ℕ, Bool, true, false, cond, List, ◌∷◌, ◌++◌, map, Option, Some, None, Ok, refl, sym, ap, ◌∙◌, subst, Contains}
+use Rattle.std.proofs.Common.{◌≡◌, ◌⊎◌, inl, inr, ⊎_elim, ℕ, Bool, true, false, cond, List, [], ◌∷◌, ◌++◌, map, Option, Some, None, Ok, refl, sym, ap, ◌∙◌, subst, Contains}
 use Rattle.std.specs.List.{AllByRecursion}
 use Rattle.std.specs.Str.{bytes_eq}
 use Rattle.std.proofs.lemmas.List.{append-nil}
@@ -11,7 +11,7 @@ use Rattle.ivy_base.specs.Naming.{NamesTellApart, head_key_of, name}
 use Rattle.dhash_model.specs.Signed.{hss_judged}
 use Rattle.log_model.specs.Vector.{Stamp, stamp_at}
 use Rattle.log_model.specs.View.{View}
-use Rattle.log_model.proofs.Lists.{each, each_from}
+use Rattle.log_model.proofs.Lists.{each, each_from, in_cons, in_nothing}
 use Rattle.ring_model.proofs.Lists.{all_weaker}
 use Rattle.dht_ids.specs.declared.ask.Answer.{Answer}
 use Rattle.dht_ids.specs.declared.ask.Ask.{Ask}
@@ -48,7 +48,7 @@ use Rattle.world_model.specs.Steps.{Acts, RunsOut, Scene, Steps, acked_by, after
 use Rattle.world_model.specs.Steps.Acts.{asks, asks_in_vain, is_refused, settles, turns}
 use Rattle.world_model.specs.Steps.RunsOut.{is_over as runs_over, more as runs_more}
 use Rattle.world_model.specs.Steps.Steps.{acts, lacks_memory}
-use Rattle.world_model.specs.Story.{Story, beginning, having_begun, known_of}
+use Rattle.world_model.specs.Story.{HadTurn, Story, beginning, having_begun, known_of}
 use Rattle.world_model.specs.World.{Participant, World, named_bytes, participant, with_participant}
 use Rattle.world_laws.specs.Keeps.{AreParticipants, Keeps}
 use Rattle.world_laws.proofs.CalmNodes.{HeldStays, same_rings}
@@ -136,6 +136,47 @@ module _ (r : ℕ) where
   pub runs_past : {name : List ℕ} {c next : Scene} → RunsOut hss_judged r name c next → IsPast c.session → next.session.missed ≡ None
   runs_past (runs_over said over) past = past.1
   runs_past (runs_more step rest) past = runs_past rest (step_past past step)
+
+-- ---- turns that are told
+
+-- each turn is an old one, or names told apart what was met before it
+abbrev pub AreApart : List HadTurn → List HadTurn → Type 0
+AreApart old now = (h : HadTurn) → Contains now h → Contains old h ⊎ NamesTellApart h.met
+
+none_new : (old now : List HadTurn) → now ≡ old → AreApart old now
+none_new old now same h c = inl (subst (λ (l : List HadTurn). Contains l h) same c)
+
+one_new : (old : List HadTurn) (had : HadTurn) → NamesTellApart had.met → AreApart old (old ++ had ∷ [])
+one_new old had apart h c = ⊎_elim (λ earlier. inl earlier)
+    (λ new. inr (⊎_elim (λ same. subst (λ (x : HadTurn). NamesTellApart x.met) same apart) (λ none. absurd (in_nothing h none)) (in_cons had [] h new)))
+    (Contains-append_cases old (had ∷ []) h c)
+
+both_apart : (old mid now : List HadTurn) → AreApart old mid → AreApart mid now → AreApart old now
+both_apart old mid now first second h c = ⊎_elim (λ within. first h within) (λ apart. inr apart) (second h c)
+
+module _ (r : ℕ) where
+  -- past its refresh a session has no turn
+  acts_told : {p : Participant} {c next : Scene} → (c.session.stage ≡ Refreshing → ⊥) → Acts hss_judged r p c next → next.story.turns ≡ c.story.turns
+  acts_told past (asks node question given next heard t cache fate hears goes) = refl
+  acts_told past (asks_in_vain node question given next heard t cache fate hears lacking) = refl
+  acts_told past (turns view reply applied after saving t turned in_view takes replies is_turn) = absurd (past (turn_refreshes takes))
+  acts_told past (is_refused view end after saving t in_view refusal takes) = refl
+  acts_told past (settles after t is) = refl
+
+  step_told : {name : List ℕ} {c next : Scene} → IsPast c.session → Steps hss_judged r name c next → next.story.turns ≡ c.story.turns
+  step_told past (acts p taken cache next is_p takes act) = acts_told (λ e. past.0 (sym (takes_all_same takes).0 ∙ e)) act
+  step_told past (lacks_memory p taken t cache is_p takes lacking) = refl
+
+  pub past_told : {name : List ℕ} {c next : Scene} → RunsOut hss_judged r name c next → IsPast c.session → next.story.turns ≡ c.story.turns
+  past_told (runs_over said over) past = refl
+  past_told (runs_more step rest) past = past_told rest (step_past r past step) ∙ step_told past step
+
+  acts_apart : {p : Participant} {c next : Scene} → NamesTellApart (named_bytes c.world) → Acts hss_judged r p c next → AreApart c.story.turns next.story.turns
+  acts_apart apart (asks node question given next heard t cache fate hears goes) = none_new _ _ refl
+  acts_apart apart (asks_in_vain node question given next heard t cache fate hears lacking) = none_new _ _ refl
+  acts_apart {c = c} apart (turns view reply applied after saving t turned in_view takes replies is_turn) = one_new c.story.turns _ apart
+  acts_apart apart (is_refused view end after saving t in_view refusal takes) = none_new _ _ refl
+  acts_apart apart (settles after t is) = none_new _ _ refl
 
 -- ---- in it
 
@@ -384,6 +425,19 @@ module _ (r : ℕ) (w : Played) (world : IsCalmWorld r w) (backed : IsBackedWorl
       not_over : Refreshing ≡ Over said → ⊥
       not_over e = cc e
   runs_on {name_by} (runs_more step rest) named h = ⊎_elim (λ on. runs_on rest on.1 on.0) (λ past. runs_past r rest past) (step_on name_by named step h)
+
+  -- so before each turn of it names tell apart what was met
+  step_apart : {name_by : List ℕ} {c next : Scene} → c.session.by ≡ name_by → IsInCall c → Steps hss_judged r name_by c next → AreApart c.story.turns next.story.turns
+  step_apart {name_by} {c} {next} named h (acts p taken cache _ is_p takes act) =
+      let mid = in_call c h name_by named p taken cache is_p takes in
+      acts_apart r (names_of (with_cache hss_judged r c p taken cache).world mid.met_same mid.keys_same) act
+  step_apart named h (lacks_memory p taken t cache is_p takes lacking) = none_new _ _ refl
+
+  pub runs_apart : {name_by : List ℕ} {c next : Scene} → RunsOut hss_judged r name_by c next → c.session.by ≡ name_by → IsInCall c → AreApart c.story.turns next.story.turns
+  runs_apart (runs_over said over) named h = none_new _ _ refl
+  runs_apart {name_by} {c} {next} (runs_more {between = between} step rest) named h =
+      both_apart c.story.turns between.story.turns next.story.turns (step_apart named h step)
+      (⊎_elim (λ on. runs_apart rest on.1 on.0) (λ past. none_new _ _ (past_told r rest past)) (step_on name_by named step h))
 
   -- ---- it begins
 

@@ -1,56 +1,43 @@
 -- No line forgets a block or a public key.
-use Rattle.std.proofs.Common.{◌≡◌, ⊎_elim, ℕ, Bool, true, false, cond, List, [], ◌∷◌, ◌++◌, map, find, Option, Some, None, refl, sym, ap, ◌∙◌, subst, Contains}
+use Rattle.std.proofs.Common.{◌≡◌, ⊎_elim, ℕ, Bool, true, false, cond, List, [], ◌∷◌, ◌++◌, map, find, Some, refl, sym, ap, ◌∙◌, subst, Contains}
 use Rattle.std.specs.Prelude.{is_some}
 use Rattle.std.specs.Str.{bytes_eq}
 use Rattle.std.proofs.lemmas.List.Elements.{Contains-append_left, Contains-append_right, Contains-append_cases}
-use Rattle.ivy_base.specs.declared.key.Key.{Key}
 use Rattle.ivy_base.specs.declared.key.PubKey.{PubKey}
 use Rattle.ivy_base.specs.Naming.{NamesTellApart}
-use Rattle.hash_signature_model.specs.declared.set.Set.{Set}
 use Rattle.hash_signature_model.specs.Signer.{hss_key_of}
 use Rattle.dhash_model.specs.Signed.{hss_judged}
-use Rattle.log_model.specs.View.{View}
+use Rattle.log_model.specs.Record.{Record}
 use Rattle.log_model.proofs.Lists.{each}
-use Rattle.agent_model.specs.Agent.{entered, failed, kept_of, restored}
-use Rattle.agent_model.specs.Views.{Entered, KeeperFailed, entering_with, is_own_member, not_named}
-use Rattle.session_model.specs.Sessions.{Said, Session}
-use Rattle.script_driver.specs.Run.{Ends, Goes, Outcome}
+use Rattle.dht_ids.specs.declared.post.Post.{Post}
+use Rattle.session_model.specs.Sessions.{Said}
+use Rattle.script_driver.specs.Run.{Goes}
 use Rattle.script_model.specs.declared.command.Command.{Command}
-use Rattle.script_model.specs.declared.command.Command.TheVariants as command
-use Rattle.world_model.specs.Agents.{Agent, Entering, Kept, entering, hss, own}
-use Rattle.world_model.specs.Keepers.{asked_to_save, fails_next}
-use Rattle.world_model.specs.Calls.{AsLine, FinishLine, OpenLine, Sending, StepLine, replied, sending_of}
-use Rattle.world_model.specs.Calls.AsLine.{calls}
-use Rattle.world_model.specs.Calls.OpenLine.{opens}
-use Rattle.world_model.specs.Calls.StepLine.{steps}
-use Rattle.world_model.specs.Calls.FinishLine.{ends}
-use Rattle.world_model.specs.Logs.{LogLine, Played, Publishes, RestartLine, SnapLine, ViewLine, after_entering, having_snapped, having_tried, keys_of, snapping_in, use_by, use_line, with_newcomer}
-use Rattle.world_model.specs.Logs.LogLine.{begins}
-use Rattle.world_model.specs.Logs.RestartLine.{nobody as restart_nobody, outside as restart_outside, starts}
-use Rattle.world_model.specs.Logs.SnapLine.{fails as snap_fails, makes as snap_makes, nobody as snap_nobody, outside as snap_outside}
-use Rattle.world_model.specs.Logs.ViewLine.{makes}
-use Rattle.world_model.specs.Steps.{Acts, RunsOut, Scene, Steps, StepsOn, after_turn, having_made, met_by}
-use Rattle.world_model.specs.Steps.Acts.{asks, asks_in_vain, is_refused, settles, turns}
-use Rattle.world_model.specs.Steps.RunsOut.{is_over as runs_over, more as runs_more}
-use Rattle.world_model.specs.Steps.Steps.{acts, lacks_memory}
-use Rattle.world_model.specs.Steps.StepsOn.{is_over as steps_over, more as steps_more, none as steps_none}
+use Rattle.world_model.specs.Agents.{own}
+use Rattle.world_model.specs.Calls.{replied}
+use Rattle.world_model.specs.Logs.{Played, Publishes, afresh}
+use Rattle.world_model.specs.Steps.{Acts, Scene, after_turn}
 use Rattle.world_model.specs.Step.{Does, IvyStep}
-use Rattle.world_model.specs.World.{Participant, World, named_bytes, participant, session_named, view_named, with_participant, without_session}
-use Rattle.world_laws.specs.Calm.{IsQuiet}
+use Rattle.world_model.specs.World.{Participant, World, named_bytes, participant, with_participant}
+use Rattle.world_laws.specs.Effects.{Effect, LaterEffect, Plays, Renews, Touches}
+use Rattle.world_laws.specs.Effects.Effect.{comes, loses, makes_view, of_nodes, opens, plays, renews, shows, times, touches}
+use Rattle.world_laws.specs.Effects.LaterEffect.{publishes, replies}
+use Rattle.world_laws.specs.Effects.Plays.{calls, ends, steps}
+use Rattle.world_laws.specs.Effects.Renews.{enters, starts_again}
+use Rattle.world_laws.specs.Effects.Touches.{fails, plans, snaps, unable}
 use Rattle.world_laws.specs.Keeps.{IsKeptSo, Keeps, SignsOnce}
-use Rattle.world_laws.specs.Laws.{IsStill}
+use Rattle.world_laws.specs.Moves.{Move, Moves}
+use Rattle.world_laws.specs.Moves.Move.{asks, hears, lacks, settles, takes, turns}
 use Rattle.world_laws.proofs.Bringing.{found_named}
-use Rattle.world_laws.proofs.CalmStates.{found_placed}
+use Rattle.world_laws.proofs.CalmLines.{found_before}
+use Rattle.world_laws.proofs.Effects.{by_effects, fates_rest, lines_have_effects, played_moves}
 use Rattle.world_laws.proofs.Frames.{found_mapped, into_map, one_named}
 use Rattle.world_laws.proofs.Growing.{met_grows}
-use Rattle.world_laws.proofs.Lines.{ToSuch}
+use Rattle.world_laws.proofs.Moves.{act_moves, all_moves, runs_move}
+use Rattle.world_laws.proofs.NodeFates.{fate_rest}
+use Rattle.world_laws.proofs.OneSteps.{settles_own, takes_own}
 use Rattle.world_laws.proofs.Placed.{found_some, same_name}
 use Rattle.world_laws.proofs.SignedHeads.{from_map, so_of}
-use Rattle.world_laws.proofs.Still.{still_lines}
-use Rattle.world_laws.proofs.CalmLines.{found_before}
-use Rattle.world_laws.proofs.OneSteps.{settles_own, takes_own}
-use Rattle.completeness_laws.proofs.Steps.{fate_same}
-use Rattle.completeness_laws.proofs.ViewLines.{fates_same}
 
 -- who is found by a name is found by it then, with the same key
 abbrev pub KeysStay : List Participant → List Participant → Type 0
@@ -88,146 +75,86 @@ placed_stay w p q name is_p named owned n o is = (put_in o, found_mapped put_in 
     by true e = owned ∙ ap (λ (x : Participant). own x.agent) (sym (one (same_name o.name q.name e)))
     by false e = refl
 
--- ---- steps
+-- ---- sessions
+
+module _ (ps : List Participant) where
+  abbrev StayIn : World → Type 0
+  StayIn v = KeysStay ps v.participants
+
+  with_one : (w : World) (p q : Participant) (name : List ℕ) → participant w name ≡ Some p → q.name ≡ p.name → own q.agent ≡ own p.agent → StayIn w → StayIn (with_participant w q)
+  with_one w p q name is named owned h = stay_then ps w.participants (with_participant w q).participants h (placed_stay w p q name is named owned)
+
+  asked_stays : (w next : World) → next ≡ record w { nodes = next.nodes; asked = next.asked } → StayIn w → StayIn next
+  asked_stays w next is h = subst StayIn (sym is) h
+
+  move_stays : (r : ℕ) (name : List ℕ) (c next : Scene) → Move hss_judged r name c next → StayIn c.world → StayIn next.world
+  move_stays r name c _ (takes p taken cache is taking) h = with_one c.world p (record p { cache = cache }) name is refl refl h
+  move_stays r name c _ (asks node question answer next fate) h = asked_stays c.world next (fate_rest fate) h
+  move_stays r name c _ (hears p node question answer next heard t cache is fate hearing goes) h =
+      subst (λ (v : World). StayIn (with_participant v (record p { cache = cache }))) (sym (fate_rest fate)) (with_one c.world p (record p { cache = cache }) name is refl refl h)
+  move_stays r name c _ (lacks t lacking) h = h
+  move_stays r name c _ (turns p view end after saving t work story began is in_view taking told) h = with_one c.world p (record (after_turn p after saving) { work = work }) name is refl (takes_own taking) h
+  move_stays r name c _ (settles p after t is settling) h = with_one c.world p (record p { agent = after }) name is refl (settles_own settling) h
+
+  moves_stay : {r : ℕ} {name : List ℕ} {c next : Scene} → Moves hss_judged r name c next → StayIn c.world → StayIn next.world
+  moves_stay {r} {name} on = all_moves (λ (x : Scene). StayIn x.world) (move_stays r name) on
+
+  replied_stay : (w : World) (said : Said) → StayIn w → StayIn (replied w said)
+  replied_stay w said h = by (is_some said.message)
+    where
+      by : (b : Bool) → StayIn (cond b (record w { replies = w.replies ++ record { handle = said.handle; verifier = said.verifier } ∷ [] }) w)
+      by true = h
+      by false = h
+
+  later_stays : {k : Command} (w next : Played) → LaterEffect hss_judged w k next → StayIn w.0 → StayIn next.0
+  later_stays w _ (publishes k alone r p end ringed is over on) h = moves_stay (runs_move on) h
+  later_stays w _ (replies k whole said) h = replied_stay w.0 said h
 
 pub acts_stay : {r : ℕ} (name : List ℕ) {p : Participant} {c next : Scene} → participant c.world name ≡ Some p → Acts hss_judged r p c next → KeysStay c.world.participants next.world.participants
-acts_stay name {p = p} {c = c} is_p (asks node question answer next heard t cache fate hears goes) =
-    subst (λ ps. KeysStay c.world.participants (map (λ (o : Participant). cond (bytes_eq o.name p.name) (record p { cache = cache }) o) ps)) (sym (fate_same fate).0) (placed_stay c.world p (record p { cache = cache }) name is_p refl refl)
-acts_stay name {c = c} is_p (asks_in_vain node question answer next heard t cache fate hears lacking) = equal_stay c.world.participants next.participants (fate_same fate).0
-acts_stay name {p = p} {c = c} is_p (turns view reply applied after saving t turned in_view takes replies is_turn) = placed_stay c.world p (record (after_turn p after saving) { work = applied }) name is_p refl (takes_own takes)
-acts_stay name {p = p} {c = c} is_p (is_refused view end after saving t in_view refusal takes) = placed_stay c.world p (after_turn p after saving) name is_p refl (takes_own takes)
-acts_stay name {p = p} {c = c} is_p (settles after t is) = placed_stay c.world p (record p { agent = after }) name is_p refl (settles_own is)
+acts_stay name {c = c} is_p act = moves_stay c.world.participants (act_moves {name = name} is_p act) (same_stay c.world.participants)
 
-step_stays : {r : ℕ} {name : List ℕ} {c next : Scene} → Steps hss_judged r name c next → KeysStay c.world.participants next.world.participants
-step_stays {r} {name} {c} {next} (acts p taken cache _ is_p takes act) =
-    let mid : World = with_participant c.world (record p { cache = cache }) in
-    let found : participant mid name ≡ Some (record p { cache = cache }) = found_placed c.world name p (record p { cache = cache }) c.world.met is_p refl (λ b h. h) (λ b h. h) in
-    stay_then c.world.participants mid.participants next.world.participants (placed_stay c.world p (record p { cache = cache }) name is_p refl refl) (acts_stay name found act)
-step_stays {name = name} {c = c} (lacks_memory p taken t cache is_p takes lacking) = placed_stay c.world p (record p { cache = cache }) name is_p refl refl
-
-pub steps_stay : {r : ℕ} {name : List ℕ} {count : ℕ} {c next : Scene} → StepsOn hss_judged r name count c next → KeysStay c.world.participants next.world.participants
-steps_stay {c = c} steps_none = same_stay c.world.participants
-steps_stay {c = c} (steps_over said over) = same_stay c.world.participants
-steps_stay (steps_more {count} {c} {between} {next} step rest) = stay_then c.world.participants between.world.participants next.world.participants (step_stays step) (steps_stay rest)
-
-pub runs_stay : {r : ℕ} {name : List ℕ} {c next : Scene} → RunsOut hss_judged r name c next → KeysStay c.world.participants next.world.participants
-runs_stay {c = c} (runs_over said over) = same_stay c.world.participants
-runs_stay (runs_more {c} {between} {next} step rest) = stay_then c.world.participants between.world.participants next.world.participants (step_stays step) (runs_stay rest)
+pub publishes_stay : (r : ℕ) (w : Played) (p : Participant) (next : Played) → Publishes hss_judged r w p next → KeysStay w.0.participants next.0.participants
+publishes_stay r w p next published = subst (λ (v : Played). KeysStay w.0.participants v.0.participants) (sym published.2) (moves_stay w.0.participants (runs_move published.1) (same_stay w.0.participants))
 
 -- ---- lines
 
-replied_stay : (ps : List Participant) (w : World) (said : Said) → KeysStay ps w.participants → KeysStay ps (replied w said).participants
-replied_stay ps w said h = by (is_some said.message)
-  where
-    by : (b : Bool) → KeysStay ps (cond b (record w { replies = w.replies ++ record { handle = said.handle; verifier = said.verifier } ∷ [] }) w).participants
-    by true = h
-    by false = h
+module _ (w : Played) (keeps : Keeps w) where
+  abbrev Stay : World → Type 0
+  Stay v = KeysStay w.0.participants v.participants
 
-pub publishes_stay : (r : ℕ) (w : Played) (p : Participant) (next : Played) → Publishes hss_judged r w p next → KeysStay w.0.participants next.0.participants
-publishes_stay r w p next published = subst (λ (v : Played). KeysStay w.0.participants v.0.participants) (sym published.2) (runs_stay published.1)
+  touched_stays : (name : List ℕ) (p q : Participant) {k : Command} {posts : List Post} → participant w.0 name ≡ Some p → Touches w.0 p name k q posts → Stay (with_participant w.0 q)
+  touched_stays name p _ is (plans count new) = placed_stay w.0 p _ name is refl refl
+  touched_stays name p _ is (unable k saves was) = placed_stay w.0 p p name is refl refl
+  touched_stays name p _ is (fails k saving was now attempt) = placed_stay w.0 p _ name is refl refl
+  touched_stays name p _ is (snaps view was now in_view spelled) = placed_stay w.0 p _ name is refl refl
 
-as_stays : (w : Played) (o : Option Sending) (next : Played) (output : List ℕ) → AsLine hss_judged w o (Goes next output) → KeysStay w.0.participants next.0.participants
-as_stays w _ _ _ (calls s r t end said ringed begins_it runs over) = replied_stay w.0.participants end.world said (runs_stay runs)
-
-open_stays : (w : Played) (name : List ℕ) (o : Option Sending) (next : Played) (output : List ℕ) → OpenLine hss_judged w name o (Goes next output) → KeysStay w.0.participants next.0.participants
-open_stays w name _ _ _ (opens s t closed begins_it) = same_stay w.0.participants
-
-step_line_stays : (w : Played) (name : List ℕ) (count : ℕ) (o : Option Session) (next : Played) (output : List ℕ) → StepLine hss_judged w name count o (Goes next output) → KeysStay w.0.participants next.0.participants
-step_line_stays w name count _ _ _ (steps s r end counts ringed on) = steps_stay on
-
-finish_stays : (w : Played) (name : List ℕ) (o : Option Session) (next : Played) (output : List ℕ) → FinishLine hss_judged w name o (Goes next output) → KeysStay w.0.participants next.0.participants
-finish_stays w name _ _ _ (ends s r end said ringed runs over) = replied_stay w.0.participants (without_session end.world name) said (runs_stay runs)
-
-log_stays : (w : Played) (name id seed : List ℕ) (sets : List Set) (next : Played) (output : List ℕ) → LogLine hss_judged w name id seed sets (Goes next output) → KeysStay w.0.participants next.0.participants
-log_stays w name id seed sets next _ (begins r p _ ringed new is published) =
-    stay_then w.0.participants (w.0.participants ++ p ∷ []) next.0.participants (λ n q found. (q, found_before (λ (x : Participant). bytes_eq x.name n) w.0.participants (p ∷ []) q found, refl)) (publishes_stay r (with_newcomer w p) p next published)
-
-view_stays : (w : Played) (name : List ℕ) (members former : Option (List PubKey)) (next : Played) (output : List ℕ) → ViewLine hss_judged w name members former (Goes next output) → KeysStay w.0.participants next.0.participants
-view_stays w name _ _ _ _ (makes members former r view next new own_keys small ringed is put) = equal_stay w.0.participants next.participants (fates_same put.fates).0
-
--- where the line goes on
-abbrev StayThen : Played → Played → Type 0
-StayThen w next = KeysStay w.0.participants next.0.participants
-
-either : {X : Type 0} (P : X → Type 0) (b : Bool) (x y : X) → P x → P y → P (cond b x y)
-either P true x y f g = f
-either P false x y f g = g
-
-module _ (w : Played) (p : Participant) (name : List ℕ) (is_p : participant w.0 name ≡ Some p) (view : View) where
-  abbrev Enters : Entering × Option Kept → Type 0
-  Enters came = ToSuch (StayThen w) (after_entering w p view came.0 came.1)
-
-  entered_stays : (a : Agent) → own a ≡ own p.agent → (saving : Option Kept) → Enters (Entered a, saving)
-  entered_stays a owned saving = placed_stay w.0 p (record p { agent = a; keeper = asked_to_save p.keeper saving; cache = [] }) name is_p refl owned
-
-  failed_stays : (a : Agent) → own a ≡ own p.agent → (saving : Option Kept) → Enters (KeeperFailed a, saving)
-  failed_stays a owned saving = placed_stay w.0 p (record p { agent = a; keeper = asked_to_save p.keeper saving }) name is_p refl owned
-
-  with_stays : (fails_so : Bool) (o : Option Key) → Enters (entering_with p.agent view fails_so o)
-  with_stays fails_so (Some log) = tt
-  with_stays fails_so None = either Enters p.agent.has_failed _ _ (failed_stays p.agent refl None)
-      (either (λ came. Enters (came, Some (kept_of (entered p.agent view)))) fails_so (KeeperFailed (failed p.agent)) (Entered (entered p.agent view)) (failed_stays (failed p.agent) refl (Some (kept_of (entered p.agent view)))) (entered_stays (entered p.agent view) refl (Some (kept_of (entered p.agent view)))))
-
-  enters_stay : Enters (entering p.agent view (fails_next p.keeper))
-  enters_stay = either Enters (is_own_member hss p.agent view) _ _ (with_stays (fails_next p.keeper) (not_named p.agent view)) tt
-
-use_stays : (w : Played) (name : List ℕ) (o : Option Participant) (view : Option View) → participant w.0 name ≡ o → ToSuch (StayThen w) (use_by w o view)
-use_stays w name None view is = tt
-use_stays w name (Some p) None is = tt
-use_stays w name (Some p) (Some view) is = enters_stay w p name is view
-
-restart_stays : (w : Played) → Keeps w → (name : List ℕ) (o : Option Participant) → participant w.0 name ≡ o → (out : Outcome Played) → RestartLine w o out → ToSuch (StayThen w) out
-restart_stays w keeps name _ is _ restart_nobody = tt
-restart_stays w keeps name _ is _ (restart_outside p out) = tt
-restart_stays w keeps name _ is _ (starts p view k set in_view whole held again) =
-    placed_stay w.0 p (record (having_made (record p { agent = restored k }) k.pending) { cache = [] }) name is refl (λ i. record { 0 = hss_key_of (signs.same.0 i) (signs.same.1 i) (signs.same.2 i) })
-  where
-    signs : SignsOnce p k
-    signs = so_of SignsOnce p k (each (IsKeptSo SignsOnce) w.0.participants p keeps.signs (found_named w.0.participants name p is).0) whole held
-
-snapping_own : (p : Participant) (view : View) → own (snapping_in p view).0.0 ≡ own p.agent
-snapping_own p view = either (λ (t : (Agent × Bool) × Option Kept). own t.0.0 ≡ own p.agent) p.agent.has_failed _ _ refl (either (λ (t : Agent × Bool). own t.0 ≡ own p.agent) (fails_next p.keeper) _ _ refl refl)
-
-snap_stays : (w : Played) (name : List ℕ) (o : Option Participant) → participant w.0 name ≡ o → (out : Outcome Played) → SnapLine hss_judged w o out → ToSuch (StayThen w) out
-snap_stays w name _ is _ snap_nobody = tt
-snap_stays w name _ is _ (snap_outside p out) = tt
-snap_stays w name _ is _ (snap_fails p view in_view none spelled) = placed_stay w.0 p (having_tried p view) name is refl (snapping_own p view)
-snap_stays w name _ is _ (snap_makes p q view r next in_view some ringed made spelled published) =
-    stay_then w.0.participants (with_participant w.0 q).participants next.0.participants
-    (subst (λ (x : Participant). KeysStay w.0.participants (with_participant w.0 x).participants) (sym made) (placed_stay w.0 p (having_snapped p view) name is refl (snapping_own p view)))
-    (publishes_stay r (record (with_participant w.0 q) { met = met_by w.0.met q.agent.pending }, w.1) q next published)
-
-still_stays : (w next : Played) (c : Command) (output : List ℕ) → IsStill c → Does hss_judged w c (Goes next output) → KeysStay w.0.participants next.0.participants
-still_stays w next c output still does = equal_stay w.0.participants next.0.participants (ap (λ (v : World). v.participants) (still_lines w next c output still does).1)
-
-module _ (w next : Played) (output : List ℕ) (keeps : Keeps w) where
-  such : (o : Outcome Played) → ToSuch (StayThen w) o → o ≡ Goes next output → KeysStay w.0.participants next.0.participants
-  such o s e = subst (ToSuch (StayThen w)) e s
-
-  pub command_stays : (c : Command) → IsQuiet c → Does hss_judged w c (Goes next output) → KeysStay w.0.participants next.0.participants
-  command_stays (command.Ring nodes replicas) quiet does = absurd quiet
-  command_stays (command.Log log id seed sets) quiet does = log_stays w log id seed sets next output does
-  command_stays (command.View view members former) quiet does = view_stays w view (keys_of w.0 members) (keys_of w.0 former) next output does
-  command_stays (command.Use log view) quiet does = such (use_line w log view) (use_stays w log (participant w.0 log) (view_named w.0 view) refl) (sym does)
-  command_stays (command.At sec nsec) quiet does = still_stays w next (command.At sec nsec) output tt does
-  command_stays (command.As log pieces) quiet does = as_stays w (sending_of w.0 log pieces) next output does
-  command_stays (command.Open session log pieces) quiet does = open_stays w session (sending_of w.0 log pieces) next output does
-  command_stays (command.Step session count) quiet does = step_line_stays w session count (session_named w.0 session) next output does
-  command_stays (command.Finish session) quiet does = finish_stays w session (session_named w.0 session) next output does
-  command_stays (command.Join number) quiet does = absurd quiet
-  command_stays (command.Stop node) quiet does = absurd quiet
-  command_stays command.Round quiet does = absurd quiet
-  command_stays (command.Lose count) quiet does = absurd quiet
-  command_stays (command.Damage node key offset byte) quiet does = absurd quiet
-  command_stays (command.Snap log) quiet does = such (Goes next output) (snap_stays w log (participant w.0 log) refl (Goes next output) does) refl
-  command_stays (command.Restart log) quiet does = such (Goes next output) (restart_stays w keeps log (participant w.0 log) refl (Goes next output) does) refl
-  command_stays (command.Keep log count new) quiet does = absurd quiet
-  command_stays (command.Show shown) quiet does = still_stays w next (command.Show shown) output tt does
-  command_stays command.Nothing quiet does = still_stays w next command.Nothing output tt does
-  command_stays command.End quiet does = absurd (goes_or_ends does)
+  renewed_stays : (name : List ℕ) (p q : Participant) {k : Command} {posts : List Post} {set : List Record} → participant w.0 name ≡ Some p → Renews w p name k q posts set → Stay (afresh w.0 q)
+  renewed_stays name p q is (enters called view is_view member named was now) = placed_stay w.0 p (record q { cache = [] }) name is refl refl
+  renewed_stays name p q is (starts_again view k set in_view whole held again) =
+      placed_stay w.0 p (record q { cache = [] }) name is refl (λ i. record { 0 = hss_key_of (signs.same.0 i) (signs.same.1 i) (signs.same.2 i) })
     where
-      goes_or_ends : Goes next output ≡ Ends → ⊥
-      goes_or_ends e = cc e
+      signs : SignsOnce p k
+      signs = so_of SignsOnce p k (each (IsKeptSo SignsOnce) w.0.participants p keeps.signs (found_named w.0.participants name p is).0) whole held
+
+  played_stays : {k : Command} {r : ℕ} {name : List ℕ} {c end : Scene} {next : Played} → Plays hss_judged w r k name c end next → (Stay c.world → Stay end.world) → Stay next.0
+  played_stays (calls log pieces s t end sends begins runs over) on = on (same_stay w.0.participants)
+  played_stays (steps name count s end is going) on = on (same_stay w.0.participants)
+  played_stays (ends name s end is runs over) on = on (same_stay w.0.participants)
+
+  effect_stays : {k : Command} (next : Played) → Effect hss_judged w k next → Stay next.0
+  effect_stays _ (shows _ is) = same_stay w.0.participants
+  effect_stays _ (times sec nsec) = same_stay w.0.participants
+  effect_stays _ (loses count) = same_stay w.0.participants
+  effect_stays _ (of_nodes _ ring next is) = equal_stay w.0.participants next.participants (ap (λ (v : World). v.participants) is.rest)
+  effect_stays _ (makes_view name names others members former r view next are also new own_keys small ringed is put) = equal_stay w.0.participants next.participants (ap (λ (v : World). v.participants) (fates_rest put.fates))
+  effect_stays _ (comes name id seed sets new) = λ n q found. (q, found_before (λ (x : Participant). bytes_eq x.name n) w.0.participants _ q found, refl)
+  effect_stays _ (touches k name p q posts is touching) = touched_stays name p q is touching
+  effect_stays _ (renews k name p q posts set is renewing) = renewed_stays name p q is renewing
+  effect_stays _ (opens name log pieces s t new sends begins) = same_stay w.0.participants
+  effect_stays next (plays _ r name c end _ ringed is) = played_stays is (moves_stay w.0.participants (played_moves is))
+
+pub command_stays : (w next : Played) (output : List ℕ) → Keeps w → (c : Command) → Does hss_judged w c (Goes next output) → KeysStay w.0.participants next.0.participants
+command_stays w next output keeps c does = by_effects (λ (v : Played). KeysStay w.0.participants v.0.participants) (effect_stays w keeps) (later_stays w.0.participants) (lines_have_effects w next c output does)
 
 -- who stands in a world in which no name stands twice is found by its name
 pub found_itself : (w : Played) → Keeps w → (p : Participant) → Contains w.0.participants p → participant w.0 p.name ≡ Some p

@@ -1,5 +1,5 @@
 -- A head that left an agent is under its key alone.
-use Rattle.std.proofs.Common.{◌≡◌, suc, true, List, ◌∷◌, ◌++◌, length, Option, Some, None, refl, sym, ap, ◌∙◌, subst, Contains, append_assoc, is_some}
+use Rattle.std.proofs.Common.{◌≡◌, suc, true, List, ◌++◌, length, Option, Some, None, refl, sym, ap, ◌∙◌, subst, Contains, append_assoc, is_some}
 use Rattle.std.specs.Prelude.{ℕ}
 use Rattle.ivy_base.specs.declared.key.Key.{Key}
 use Rattle.ivy_base.specs.declared.key.PubKey.{PubKey}

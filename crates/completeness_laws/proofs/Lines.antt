@@ -20,10 +20,10 @@ use Rattle.world_laws.proofs.LineFits.{Fits, command_fits}
 use Rattle.world_laws.proofs.Lines.{ToSuch}
 use Rattle.world_laws.proofs.Still.{still_lines}
 use Rattle.completeness_laws.proofs.CallLines.{as_so, finish_so, open_so, step_so}
-use Rattle.completeness_laws.proofs.KeysStay.{KeysStay, command_stays, equal_stay, names_stay}
+use Rattle.completeness_laws.proofs.KeysStay.{command_stays, names_stay}
 use Rattle.completeness_laws.proofs.LogLines.{log_so}
 use Rattle.completeness_laws.proofs.RestartLines.{restart_so}
-use Rattle.completeness_laws.proofs.RingLines.{calm_kind, ring_changes, ring_so}
+use Rattle.completeness_laws.proofs.RingLines.{calm_kind, ring_so}
 use Rattle.completeness_laws.proofs.SnapLines.{snap_so}
 use Rattle.completeness_laws.proofs.Steps.{met_apart}
 use Rattle.completeness_laws.proofs.UseLines.{IsThenBacked, use_so}
@@ -44,7 +44,6 @@ module _ (w next : Played) (output : List ℕ) (keeps : Keeps w) (kept : Keeps n
   such o s e = (subst (ToSuch IsThenBacked) e s) kept apart
 
   pub command_so : (c : Command) → IsQuiet c → Fits c → Does hss_judged w c (Goes next output) → IsBackedWorld next.0 next.1
-  command_so (command.Ring nodes replicas) quiet fits does = absurd quiet
   command_so (command.Log log id seed sets) quiet fits does = log_so w keeps log id seed sets fits next output does (met_apart 0 next.0 apart) h
   command_so (command.View view members former) quiet fits does = view_so w view (keys_of w.0 members) (keys_of w.0 former) next output does h
   command_so (command.Use log view) quiet fits does = such (use_line w log view) (use_so w keeps log (participant w.0 log) (view_named w.0 view) refl h) (sym does)
@@ -53,33 +52,21 @@ module _ (w next : Played) (output : List ℕ) (keeps : Keeps w) (kept : Keeps n
   command_so (command.Open session log pieces) quiet fits does = open_so w keeps h session (sending_of w.0 log pieces) next output does
   command_so (command.Step session count) quiet fits does = step_so w keeps h session count (session_named w.0 session) refl next output does apart
   command_so (command.Finish session) quiet fits does = finish_so w keeps h session (session_named w.0 session) refl next output does apart
-  command_so (command.Join number) quiet fits does = absurd quiet
-  command_so (command.Stop node) quiet fits does = absurd quiet
-  command_so command.Round quiet fits does = absurd quiet
-  command_so (command.Lose count) quiet fits does = absurd quiet
-  command_so (command.Damage node key offset byte) quiet fits does = absurd quiet
   command_so (command.Snap log) quiet fits does = such (Goes next output) (snap_so w keeps log (participant w.0 log) refl (Goes next output) does h) refl
   command_so (command.Restart log) quiet fits does = such (Goes next output) (restart_so w keeps log (participant w.0 log) refl (Goes next output) does h) refl
-  command_so (command.Keep log count new) quiet fits does = absurd quiet
   command_so (command.Show shown) quiet fits does = still_so w next (command.Show shown) output tt does h
   command_so command.Nothing quiet fits does = still_so w next command.Nothing output tt does h
   command_so command.End quiet fits does = absurd (goes_or_ends does)
     where
       goes_or_ends : Goes next output ≡ Ends → ⊥
       goes_or_ends e = cc e
+  command_so _ quiet fits does = absurd quiet
 
 -- ---- runs
 
 -- a line of a calm script
 pub calm_line : {r : ℕ} {since after : Since} (w next : Played) (output : List ℕ) (c : Command) → Keeps w → Keeps next → NamesTellApart (named_bytes next.0) → IsCalm w.0 r since c after → Fits c → Does hss_judged w c (Goes next output) → IsBackedWorld w.0 w.1 → IsBackedWorld next.0 next.1
 calm_line w next output c keeps kept apart calm fits does h = ⊎_elim (λ quiet. command_so w next output keeps kept apart h c quiet fits does) (λ ring. ring_so w next output c keeps ring does h) (calm_kind calm)
-
--- it forgets nobody
-pub calm_stays : {r : ℕ} {since after : Since} (w next : Played) (output : List ℕ) (c : Command) → Keeps w → IsCalm w.0 r since c after → Does hss_judged w c (Goes next output) → KeysStay w.0.participants next.0.participants
-calm_stays w next output c keeps calm does = ⊎_elim
-    (λ quiet. command_stays w next output keeps c quiet does)
-    (λ ring. equal_stay w.0.participants next.0.participants (ring_changes (λ kind key bytes. Unit {0}) w next output c ring does).0.participants)
-    (calm_kind calm)
 
 -- what such a line's command does
 pub calm_does : (v mid : Played) (line output : List ℕ) (c : Command) → command_of line ≡ Some c → IvyStep v line (Goes mid output) → Fits c × Does hss_judged v c (Goes mid output)
@@ -93,7 +80,7 @@ module _ (lines_keep : LinesKeep) where
   pub apart_first : {r : ℕ} {v w : Played} {since after : Since} {lines : List (List ℕ)} → Calmly r v since lines w after → Keeps v → NamesTellApart (named_bytes w.0) → NamesTellApart (named_bytes v.0)
   apart_first calmly_none keeps apart = apart
   apart_first (calmly_more {w = v} {mid = mid} {line = line} c output is calm step rest) keeps apart =
-      names_stay v mid line output keeps step (calm_stays v mid output c keeps calm (calm_does v mid line output c is step).1) (apart_first rest (lines_keep v mid line output keeps step) apart)
+      names_stay v mid line output keeps step (command_stays v mid output keeps c (calm_does v mid line output c is step).1) (apart_first rest (lines_keep v mid line output keeps step) apart)
 
   pub runs_backed : {r : ℕ} {v w : Played} {since after : Since} {lines : List (List ℕ)} → Calmly r v since lines w after → Keeps v → NamesTellApart (named_bytes w.0) → IsBackedWorld v.0 v.1 → IsBackedWorld w.0 w.1
   runs_backed calmly_none keeps apart h = h

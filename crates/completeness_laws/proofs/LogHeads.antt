@@ -31,7 +31,7 @@ use Rattle.world_model.specs.Step.{Does, most_bytes}
 use Rattle.world_model.specs.Steps.{met_by}
 use Rattle.world_model.specs.Story.{Story}
 use Rattle.world_model.specs.World.{Participant, World, participant}
-use Rattle.world_laws.specs.Calm.{AreAny, Calmly, IsCalm, IsQuiet, Since, Stopped}
+use Rattle.world_laws.specs.Calm.{AreAny, Calmly, IsCalm, Since, Stopped}
 use Rattle.world_laws.specs.Calm.IsCalm.{joins, other, rounds, stops}
 use Rattle.world_laws.specs.Calm.Calmly.{more as calmly_more, none as calmly_none}
 use Rattle.world_laws.specs.Keeps.{Keeps}
@@ -54,12 +54,11 @@ use Rattle.durability_laws.proofs.States.{kept_ring}
 use Rattle.durability_laws.proofs.Stretches.{IsRingOf, Stretch}
 use Rattle.durability_laws.proofs.Worlds.{IsState, on}
 use Rattle.completeness_laws.specs.Completeness.{CallsMissNothing, FitsItsKey, HaveHeads, LogsHaveHeads}
-use Rattle.completeness_laws.proofs.KeysStay.{KeysStay, command_stays, equal_stay, found_itself, publishes_stay}
+use Rattle.completeness_laws.proofs.KeysStay.{KeysStay, command_stays, found_itself, publishes_stay}
 use Rattle.completeness_laws.proofs.Lines.{calm_does}
 use Rattle.completeness_laws.proofs.NamesStay.{BeginsNone, NobodyComes, command_names, publishes_names}
 use Rattle.completeness_laws.proofs.PublishesAll.{IsPutting, runs_acked}
 use Rattle.completeness_laws.proofs.PutsAcked.{AreFine, all_fine}
-use Rattle.completeness_laws.proofs.RingLines.{ChangesNodes, ChangesRing, ring_changes}
 use Rattle.completeness_laws.proofs.Served.{calls_miss_nothing_behind_heads}
 
 -- ---- a log's first posts
@@ -100,6 +99,12 @@ heads_then v next keeps keys nobody have q among =
   where
     by_name : Participant → List ℕ
     by_name p = p.name
+
+-- a line that begins no log
+others_have : (w next : Played) (output : List ℕ) → Keeps w → Keeps next → HaveHeads w → (c : Command) → BeginsNone c → Does hss_judged w c (Goes next output) → HaveHeads next
+others_have w next output keeps kept h c none does =
+    let nobody = command_names w next output c none does in
+    heads_then w next kept (command_stays w next output keeps c does) nobody (λ x among. let its = h x among in (its.0, nobody.acked its.0 its.1, its.2, its.3))
 
 module _ (ring : Stretch) where
   -- ---- the line that begins a log
@@ -168,52 +173,18 @@ module _ (ring : Stretch) where
   -- ---- each line
 
   module _ (w next : Played) (keeps : Keeps w) (kept : Keeps next) (met : List (List ℕ)) (fits : total met ≤ most_bytes) (more : (b : List ℕ) → Contains next.0.met b → Contains met b) (still : IsRingOf ring w.0) (fine : AreFine met w.0) (output : List ℕ) (h : HaveHeads w) where
-    others : (c : Command) → IsQuiet c → BeginsNone c → Does hss_judged w c (Goes next output) → HaveHeads next
-    others c quiet none does =
-        let nobody = command_names w next output c quiet none does in
-        heads_then w next kept (command_stays w next output keeps c quiet does) nobody (λ x among. let its = h x among in (its.0, nobody.acked its.0 its.1, its.2, its.3))
-
-    command_heads : (c : Command) → IsQuiet c → Fits c → Does hss_judged w c (Goes next output) → HaveHeads next
-    command_heads (command.Log log id seed sets) quiet whole does = log_heads w next keeps kept met fits more still fine log id seed sets whole output does h
-    command_heads (command.Ring nodes replicas) quiet whole does = absurd quiet
-    command_heads (command.View view members former) quiet whole does = others (command.View view members former) quiet tt does
-    command_heads (command.Use log view) quiet whole does = others (command.Use log view) quiet tt does
-    command_heads (command.At sec nsec) quiet whole does = others (command.At sec nsec) quiet tt does
-    command_heads (command.As log pieces) quiet whole does = others (command.As log pieces) quiet tt does
-    command_heads (command.Open session log pieces) quiet whole does = others (command.Open session log pieces) quiet tt does
-    command_heads (command.Step session count) quiet whole does = others (command.Step session count) quiet tt does
-    command_heads (command.Finish session) quiet whole does = others (command.Finish session) quiet tt does
-    command_heads (command.Join number) quiet whole does = absurd quiet
-    command_heads (command.Stop node) quiet whole does = absurd quiet
-    command_heads command.Round quiet whole does = absurd quiet
-    command_heads (command.Lose count) quiet whole does = absurd quiet
-    command_heads (command.Damage node key offset byte) quiet whole does = absurd quiet
-    command_heads (command.Snap log) quiet whole does = others (command.Snap log) quiet tt does
-    command_heads (command.Restart log) quiet whole does = others (command.Restart log) quiet tt does
-    command_heads (command.Keep log count new) quiet whole does = absurd quiet
-    command_heads (command.Show shown) quiet whole does = others (command.Show shown) quiet tt does
-    command_heads command.Nothing quiet whole does = others command.Nothing quiet tt does
-    command_heads command.End quiet whole does = others command.End quiet tt does
-
--- ---- a line that changes the ring
-
-ring_heads : (w next : Played) (output : List ℕ) (c : Command) → Keeps next → ChangesRing c → Does hss_judged w c (Goes next output) → HaveHeads w → HaveHeads next
-ring_heads w next output c kept ring does h =
-    heads_then w next kept (equal_stay w.0.participants next.0.participants change.0.participants)
-    (record { names = ap (map (λ (p : Participant). p.name)) change.0.participants; acked = λ p m. subst (λ st. Contains st.acked p) (sym change.1) m })
-    (λ x among. let its = h x among in (its.0, subst (λ st. Contains st.acked its.0) (sym change.1) its.1, its.2, its.3))
-  where
-    change : ChangesNodes (λ kind key bytes. Unit {0}) w.0 next.0 × (next.1 ≡ w.1)
-    change = ring_changes (λ kind key bytes. Unit {0}) w next output c ring does
+    command_heads : (c : Command) → Fits c → Does hss_judged w c (Goes next output) → HaveHeads next
+    command_heads (command.Log log id seed sets) whole does = log_heads w next keeps kept met fits more still fine log id seed sets whole output does h
+    command_heads c whole does = others_have w next output keeps kept h c tt does
 
 -- ---- runs
 
 module _ (r : ℕ) (w next : Played) (output : List ℕ) (keeps : Keeps w) (kept : Keeps next) (met : List (List ℕ)) (fits : total met ≤ most_bytes) (more : (b : List ℕ) → Contains next.0.met b → Contains met b) (grows : (b : List ℕ) → Contains w.0.met b → Contains met b) where
   line_heads : {since between : Since} {c : Command} → IsCalm w.0 r since c between → Fits c → Does hss_judged w c (Goes next output) → IsState r w.0 w.1 since → HaveHeads w → HaveHeads next
-  line_heads (rounds since none) whole does s h = ring_heads w next output command.Round kept tt does h
-  line_heads (joins number none) whole does s h = ring_heads w next output (command.Join number) kept tt does h
-  line_heads (stops count node none short two) whole does s h = ring_heads w next output (command.Stop node) kept tt does h
-  line_heads (other count c quiet) whole does s h = command_heads (on r count w s) w next keeps kept met fits more s.still (all_fine met w keeps s.good.orderly grows) output h c quiet whole does
+  line_heads (rounds since none) whole does s h = others_have w next output keeps kept h command.Round tt does
+  line_heads (joins number none) whole does s h = others_have w next output keeps kept h (command.Join number) tt does
+  line_heads (stops count node none short two) whole does s h = others_have w next output keeps kept h (command.Stop node) tt does
+  line_heads (other count c quiet) whole does s h = command_heads (on r count w s) w next keeps kept met fits more s.still (all_fine met w keeps s.good.orderly grows) output h c whole does
 
 runs_heads : (r : ℕ) {v w : Played} {since after : Since} {lines : List (List ℕ)} → Calmly r v since lines w after → total w.0.met ≤ most_bytes → AreApart w.0 → Keeps v → HasFacts r v.0 since → IsState r v.0 v.1 since → HaveHeads v → HaveHeads w
 runs_heads r calmly_none fits apart keeps f s h = h

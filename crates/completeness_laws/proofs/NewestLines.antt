@@ -673,7 +673,6 @@ module _ (ring : Stretch) (met : List (List ℕ)) (fits_it : total met ≤ most_
     such next output kept o s same = (subst (ToSuch (λ x. Keeps x → IsFlowing x)) same s) kept
 
     pub command_flow : (c : Command) (next : Played) (output : List ℕ) → Keeps next → Up next.0 → IsQuiet c → Fits c → IsTidyAt w.0 c → Does hss_judged w c (Goes next output) → IsFlowing next
-    command_flow (command.Ring nodes replicas) next output kept up quiet fits tidy does = absurd quiet
     command_flow (command.Log log id seed sets) next output kept up quiet fits tidy does = log_flow log id seed sets fits next output up does
     command_flow (command.View view members former) next output kept up quiet fits tidy does = view_flow view (keys_of w.0 members) (keys_of w.0 former) next output does
     command_flow (command.Use log view) next output kept up quiet fits tidy does = such next output kept (use_line w log view) (use_flow log (participant w.0 log) (view_named w.0 view) refl tidy.0) (sym does)
@@ -682,17 +681,12 @@ module _ (ring : Stretch) (met : List (List ℕ)) (fits_it : total met ≤ most_
     command_flow (command.Open session log pieces) next output kept up quiet fits tidy does = open_flow session (sending_of w.0 log pieces) next output does
     command_flow (command.Step session count) next output kept up quiet fits tidy does = step_line_flow session count (session_named w.0 session) refl next output up does
     command_flow (command.Finish session) next output kept up quiet fits tidy does = finish_flow session (session_named w.0 session) refl next output up does
-    command_flow (command.Join number) next output kept up quiet fits tidy does = absurd quiet
-    command_flow (command.Stop node) next output kept up quiet fits tidy does = absurd quiet
-    command_flow command.Round next output kept up quiet fits tidy does = absurd quiet
-    command_flow (command.Lose count) next output kept up quiet fits tidy does = absurd quiet
-    command_flow (command.Damage node key offset byte) next output kept up quiet fits tidy does = absurd quiet
     command_flow (command.Snap log) next output kept up quiet fits tidy does = snap_flow log (participant w.0 log) refl next output up does
     command_flow (command.Restart log) next output kept up quiet fits tidy does = restart_flow log (participant w.0 log) refl tidy next output does
-    command_flow (command.Keep log count new) next output kept up quiet fits tidy does = absurd quiet
     command_flow (command.Show shown) next output kept up quiet fits tidy does = still_flow next (command.Show shown) output tt does
     command_flow command.Nothing next output kept up quiet fits tidy does = still_flow next command.Nothing output tt does
     command_flow command.End next output kept up quiet fits tidy does = absurd (goes_or_ends does)
       where
         goes_or_ends : Goes next output ≡ Ends → ⊥
         goes_or_ends x = cc x
+    command_flow _ next output kept up quiet fits tidy does = absurd quiet

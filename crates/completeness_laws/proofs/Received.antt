@@ -5,12 +5,9 @@ use Rattle.std.specs.Str.{bytes_eq}
 use Rattle.std.specs.Option.{option_map_or}
 use Rattle.std.proofs.lemmas.List.Elements.{Contains-append_cases}
 use Rattle.ivy_base.specs.declared.key.Key.{Key}
-use Rattle.ivy_base.specs.declared.key.PubKey.{PubKey}
 use Rattle.ivy_base.specs.Naming.{head_key_of}
-use Rattle.log_model.specs.Record.{Record}
 use Rattle.dht_ids.specs.declared.ask.Answer.{Answer}
 use Rattle.dht_ids.specs.declared.ask.Ask.{Ask}
-use Rattle.hash_signature_model.specs.declared.set.Set.{Set}
 use Rattle.dhash_model.specs.Signed.{hss_judged}
 use Rattle.log_model.specs.Vector.{Entry}
 use Rattle.log_model.specs.View.{View}
@@ -18,7 +15,7 @@ use Rattle.log_model.proofs.Lists.{each, each_append, in_cons, in_nothing}
 use Rattle.dht_ids.specs.declared.peer.Peer.{Peer}
 use Rattle.dhash_model.specs.declared.kind.Kind.{Kind}
 use Rattle.dhash_model.specs.declared.kind.Kind.TheVariants.{Content, Head}
-use Rattle.script_driver.specs.Run.{Ends, Goes, Outcome}
+use Rattle.script_driver.specs.Run.{Goes}
 use Rattle.script_model.specs.Lines.{command_of}
 use Rattle.script_model.specs.declared.command.Command.{Command}
 use Rattle.script_model.specs.declared.command.Command.TheVariants as command
@@ -30,41 +27,37 @@ use Rattle.session_model.specs.Sessions.{Cache, Hears, Said, Session}
 use Rattle.session_model.specs.Sessions.Hears.{gets_on, got, puts, puts_on}
 use Rattle.agent_model.specs.Turning.{TurnEnd}
 use Rattle.ivy_base.specs.declared.operation.Moment.{Moment}
-use Rattle.world_model.specs.Agents.{Agent, Entering, Kept, TakesTurn, entering, own}
-use Rattle.world_model.specs.Calls.{AsLine, BeginsWith, FinishLine, OpenLine, Sending, StepLine, replied, scene_of, sending_of}
+use Rattle.world_model.specs.Agents.{Agent, Kept, TakesTurn, own}
+use Rattle.world_model.specs.Calls.{AsLine, BeginsWith, FinishLine, Sending, StepLine, replied, scene_of, sending_of}
 use Rattle.world_model.specs.Calls.AsLine.{calls}
-use Rattle.world_model.specs.Calls.OpenLine.{opens}
 use Rattle.world_model.specs.Calls.StepLine.{steps}
 use Rattle.world_model.specs.Calls.FinishLine.{ends}
-use Rattle.world_model.specs.Keepers.{fails_next}
-use Rattle.world_model.specs.Logs.{LogLine, Played, Publishes, RestartLine, SnapLine, ViewLine, after_entering, afresh_told, keys_of, of_members, to_publish, use_by, use_line, with_newcomer}
-use Rattle.world_model.specs.Logs.LogLine.{begins}
-use Rattle.world_model.specs.Logs.RestartLine.{starts}
-use Rattle.world_model.specs.Logs.SnapLine.{fails as snap_fails, makes as snap_makes}
-use Rattle.world_model.specs.Logs.ViewLine.{makes}
-use Rattle.agent_model.specs.Views.{Entered, KeeperFailed, NotMember, NotNamed}
-use Rattle.world_model.specs.Steps.{Acts, RunsOut, Scene, Steps, StepsOn, met_by, with_cache}
+use Rattle.world_model.specs.Logs.{Played}
+use Rattle.world_model.specs.Steps.{Acts, RunsOut, Scene, Steps, StepsOn, with_cache}
 use Rattle.world_model.specs.Steps.Acts.{asks, asks_in_vain, is_refused, settles, turns}
 use Rattle.world_model.specs.Steps.RunsOut.{is_over as runs_over, more as runs_more}
 use Rattle.world_model.specs.Steps.Steps.{acts, lacks_memory}
 use Rattle.world_model.specs.Steps.StepsOn.{is_over as steps_over, more as steps_more, none as steps_none}
-use Rattle.world_model.specs.Story.{Knowing, Story, began_nothing, began_of, beginning, having_begun, knowing_nothing, knowing_of, known_of, with_knowing}
+use Rattle.world_model.specs.Story.{Knowing, Story, began_of, beginning, having_begun, knowing_nothing, knowing_of, with_knowing}
 use Rattle.world_model.specs.Step.{Does}
-use Rattle.world_model.specs.World.{NamedSession, Participant, World, participant, session_named, view_named, with_participant, without_session, without_sessions_of}
-use Rattle.world_laws.specs.Calm.{AreAny, Calmly, IsCalm, IsCalmAt, IsQuiet, Since, Stopped}
+use Rattle.world_model.specs.World.{NamedSession, Participant, World, session_named, without_session}
+use Rattle.world_laws.specs.Calm.{AreAny, Calmly, IsCalm, IsCalmAt, Since, Stopped}
 use Rattle.world_laws.specs.Calm.IsCalm.{joins, other, rounds, stops}
 use Rattle.world_laws.specs.Calm.Calmly.{more as calmly_more, none as calmly_none}
 use Rattle.world_laws.specs.Keeps.{Keeps}
-use Rattle.world_laws.specs.Laws.{IsStill, LinesKeep}
+use Rattle.world_laws.specs.Effects.{Effect, LaterEffect}
+use Rattle.world_laws.specs.Effects.Effect.{comes, loses, makes_view, of_nodes, opens, plays, renews, shows, times, touches}
+use Rattle.world_laws.specs.Effects.LaterEffect.{publishes, replies as later_replies}
+use Rattle.world_laws.specs.Laws.{IsCall, LinesKeep}
 use Rattle.world_laws.proofs.Bringing.{found_named}
 use Rattle.world_laws.proofs.CalmHeld.{calmly_keeps}
 use Rattle.world_laws.proofs.CalmStates.{IsMore, more_then, same_more}
 use Rattle.world_laws.proofs.CalmLines.{each_filtered}
 use Rattle.world_laws.proofs.CalmRuns.{IsFirst, first_of}
+use Rattle.world_laws.proofs.Effects.{by_effects, lines_have_effects}
 use Rattle.world_laws.proofs.HeadKeys.{block_is_key, one_own_key}
-use Rattle.world_laws.proofs.Lines.{ToSuch}
+use Rattle.world_laws.proofs.HeadlineOfLines.{ends_call, is_call}
 use Rattle.world_laws.proofs.Publishing.{found_knowing}
-use Rattle.world_laws.proofs.Still.{still_lines}
 use Rattle.durability_laws.specs.Laws.{IsWithinLimit}
 use Rattle.durability_laws.proofs.BlockKinds.{AreApart, IsOf, OfContent, OfHeads, fewer_apart, of_more}
 use Rattle.durability_laws.proofs.Facts.{HasFacts}
@@ -80,7 +73,6 @@ use Rattle.completeness_laws.proofs.CallSteps.{IsPast, step_past, takes_all_miss
 use Rattle.completeness_laws.proofs.HeldHeads.{new_or_old}
 use Rattle.completeness_laws.proofs.LeftHeads.{left_under}
 use Rattle.completeness_laws.proofs.Lines.{calm_does}
-use Rattle.completeness_laws.proofs.RingLines.{ChangesRing, ring_changes}
 use Rattle.completeness_laws.proofs.Steps.{fate_same, takes_all_same}
 use Rattle.completeness_laws.proofs.ViewLines.{fates_same}
 
@@ -144,6 +136,61 @@ module _ (Of : Key → List ℕ → Type 0) where
   pub step_told : {r : ℕ} {name : List ℕ} {c next : Scene} → AllHoldOf Of c.world → ToldScene c → Steps hss_judged r name c next → ToldScene next
   step_told {r = r} {c = c} holds h (acts p taken cache next is_p takes act) = acts_told {c = with_cache hss_judged r c p taken cache} (λ id n at. holds id n at) (record { sessions = h.0.sessions; received = h.0.received }, takes_all_heard Of takes h.1) act
   step_told holds h (lacks_memory p taken t cache is_p takes lacking) = (record { sessions = h.0.sessions; received = h.0.received }, lacking_heard Of lacking)
+
+  -- what is only published brings nothing
+  past_told : {r : ℕ} {p : Participant} {c next : Scene} → IsPast c.session → IsToldIn c.world.sessions c.story.participants → Acts hss_judged r p c next → IsToldIn next.world.sessions next.story.participants
+  past_told {p = p} {c = c} past told (asks node question given next heard t cache fate hears goes) = record {
+    sessions = subst (AllByRecursion (λ (s : NamedSession). AreHeardOf Of s.session)) (sym (fate_same fate).2) told.sessions;
+    received = told_with c.story _ told.received (each_append (EntryOf Of) (knowing_of c.story p.name).received _ (received_of c.story p.name told.received) (none_new Of c.session t (parts_fail Of goes ∙ past_parts past hears)));
+  }
+  past_told past told (asks_in_vain node question given next heard t cache fate hears lacking) = record { sessions = subst (AllByRecursion (λ (s : NamedSession). AreHeardOf Of s.session)) (sym (fate_same fate).2) told.sessions; received = told.received }
+  past_told past told (turns view reply applied after saving t turned in_view takes replies is_turn) = absurd (past.0 (turn_refreshes takes))
+  past_told past told (is_refused view end after saving t in_view refusal takes) = absurd (past.0 (turn_refreshes takes))
+  past_told past told (settles after t is) = record { sessions = told.sessions; received = told.received }
+
+  past_step : {r : ℕ} {name : List ℕ} {c next : Scene} → IsPast c.session → IsToldIn c.world.sessions c.story.participants → Steps hss_judged r name c next → IsToldIn next.world.sessions next.story.participants
+  past_step {r = r} {c = c} past told (acts p taken cache next is_p takes act) =
+      past_told {c = with_cache hss_judged r c p taken cache} ((λ e. past.0 (sym (takes_all_same takes).0 ∙ e)), takes_all_missed r takes ∙ past.1) (record { sessions = told.sessions; received = told.received }) act
+  past_step past told (lacks_memory p taken t cache is_p takes lacking) = record { sessions = told.sessions; received = told.received }
+
+  past_runs : {r : ℕ} {name : List ℕ} {c next : Scene} → RunsOut hss_judged r name c next → IsPast c.session → IsToldIn c.world.sessions c.story.participants → IsToldIn next.world.sessions next.story.participants
+  past_runs (runs_over said over) past told = told
+  past_runs {r = r} (runs_more step rest) past told = past_runs rest (step_past r past step) (past_step past told step)
+
+  -- ---- lines by which no session goes on
+
+  abbrev ToldOf : Played → Type 0
+  ToldOf w = IsToldIn w.0.sessions w.1.participants
+
+  pub begun_heard : (w : World) (s : Sending) (t : Session) → BeginsWith w s t → AreHeardOf Of t
+  begun_heard w s _ (begins_alone given by) = tt
+  begun_heard w s _ (begins_refreshing xid asked asks_it) = tt
+
+  effect_told : {k : Command} → (IsCall k → ⊥) → (w next : Played) → ToldOf w → Effect hss_judged w k next → ToldOf next
+  effect_told no_call w _ h (shows _ is) = h
+  effect_told no_call w _ h (times sec nsec) = record { sessions = h.sessions; received = h.received }
+  effect_told no_call w _ h (loses count) = record { sessions = h.sessions; received = h.received }
+  effect_told no_call w _ h (of_nodes _ ring next is) =
+      record { sessions = subst (AllByRecursion (λ (s : NamedSession). AreHeardOf Of s.session)) (sym (ap (λ (v : World). v.sessions) is.rest)) h.sessions; received = h.received }
+  effect_told no_call w _ h (makes_view name names others members former r view next are also new own_keys small ringed is put) =
+      record { sessions = subst (AllByRecursion (λ (s : NamedSession). AreHeardOf Of s.session)) (sym (fates_same put.fates).2) h.sessions; received = h.received }
+  effect_told no_call w _ h (comes name id seed sets new) = record {
+    sessions = h.sessions;
+    received = λ x c. ⊎_elim (λ old. h.received x old) (λ one. ⊎_elim (λ e. subst (λ (y : Knowing). AllByRecursion (EntryOf Of) y.received) e tt) (λ none. absurd (in_nothing x none)) (in_cons _ [] x one)) (Contains-append_cases w.1.participants _ x c);
+  }
+  effect_told no_call w _ h (touches k name p q posts is touching) = record { sessions = h.sessions; received = h.received }
+  effect_told no_call w _ h (renews k name p q posts set is renewing) =
+      record { sessions = each_filtered (λ (s : NamedSession). AreHeardOf Of s.session) _ w.0.sessions h.sessions; received = told_now w.1 p.name set h.received }
+  effect_told no_call w _ h (opens name log pieces s t new sends begins) =
+      record { sessions = each_append (λ (x : NamedSession). AreHeardOf Of x.session) w.0.sessions (record { name = name; session = t } ∷ []) h.sessions (begun_heard w.0 s t begins, tt); received = h.received }
+  effect_told no_call w next h (plays _ r name c end _ ringed is) = absurd (no_call (is_call is))
+
+  later_told : {k : Command} → (IsCall k → ⊥) → (w next : Played) → LaterEffect hss_judged w k next → ToldOf w → ToldOf next
+  later_told no_call w _ (publishes k alone r p end ringed is over runs) h = past_runs runs ((λ e. cc e), refl) (record { sessions = h.sessions; received = h.received })
+  later_told no_call w _ (later_replies k ended said) h = absurd (no_call (ends_call k ended))
+
+  pub other_told : (w next : Played) (output : List ℕ) (c : Command) → (IsCall c → ⊥) → Does hss_judged w c (Goes next output) → ToldOf w → ToldOf next
+  other_told w next output c no_call does h = by_effects ToldOf (λ v effect. effect_told no_call w v h effect) (later_told no_call) (lines_have_effects w next c output does)
 
 -- ---- runs and lines, in such a ring
 
@@ -213,10 +260,6 @@ module _ (ring : Stretch) (last : World) (then_more : IsMore ring.end last) wher
       by true = h
       by false = h
 
-  begun_heard : (w : World) (s : Sending) (t : Session) → BeginsWith w s t → AreHeardOf Held t
-  begun_heard w s _ (begins_alone given by) = tt
-  begun_heard w s _ (begins_refreshing xid asked asks_it) = tt
-
   one_r : (a b : ℕ) → Some a ≡ Some b → a ≡ b
   one_r a b e = cc e
 
@@ -245,10 +288,7 @@ module _ (ring : Stretch) (last : World) (then_more : IsMore ring.end last) wher
         let c : Scene = record { world = w.0; story = having_begun w.1; session = t; began = beginning w.1 s.by.name } in
         let mine : RunsOut hss_judged ring.r s.by.name c end = subst (λ x. RunsOut hss_judged x s.by.name c end) (one_r k ring.r (sym also ∙ ringed)) runs in
         replied_told end.world end.story.participants said
-        (runs_told s.by.name mine (replied_up end.world said up) (record { still = still; good = good_begun w good; step = sent_step ring w.0 s t still begins_it }) (record { sessions = h.sessions; received = h.received }, begun_heard w.0 s t begins_it)).0
-
-    open_told : (name : List ℕ) (o : Option Sending) (next : Played) (output : List ℕ) → OpenLine hss_judged w name o (Goes next output) → ToldIn next
-    open_told name _ _ _ (opens s t closed begins_it) = record { sessions = each_append (λ (x : NamedSession). AreHeardOf Held x.session) w.0.sessions (record { name = name; session = t } ∷ []) h.sessions (begun_heard w.0 s t begins_it, tt); received = h.received }
+        (runs_told s.by.name mine (replied_up end.world said up) (record { still = still; good = good_begun w good; step = sent_step ring w.0 s t still begins_it }) (record { sessions = h.sessions; received = h.received }, begun_heard Held w.0 s t begins_it)).0
 
     step_line_told : (name : List ℕ) (count : ℕ) (o : Option Session) → session_named w.0 name ≡ o → (next : Played) (output : List ℕ) → Up next.0 → StepLine hss_judged w name count o (Goes next output) → ToldIn next
     step_line_told name count _ is _ _ up (steps s k end counts also on) =
@@ -267,114 +307,21 @@ module _ (ring : Stretch) (last : World) (then_more : IsMore ring.end last) wher
         (record { sessions = h.sessions; received = h.received }, session_in (AreHeardOf Held) w.0.sessions name s is h.sessions) in
         replied_told (without_session end.world name) end.story.participants said (record { sessions = each_filtered (λ (x : NamedSession). AreHeardOf Held x.session) _ end.world.sessions told.0.sessions; received = told.0.received })
 
-    -- what is only published brings nothing
-    past_told : {p : Participant} {c next : Scene} → IsPast c.session → IsToldIn Held c.world.sessions c.story.participants → Acts hss_judged ring.r p c next → IsToldIn Held next.world.sessions next.story.participants
-    past_told {p = p} {c = c} past told (asks node question given next heard t cache fate hears goes) = record {
-      sessions = subst (AllByRecursion (λ (s : NamedSession). AreHeardOf Held s.session)) (sym (fate_same fate).2) told.sessions;
-      received = told_with Held c.story _ told.received (each_append (EntryOf Held) (knowing_of c.story p.name).received _ (received_of Held c.story p.name told.received) (none_new Held c.session t (parts_fail Held goes ∙ past_parts past hears)));
-    }
-    past_told past told (asks_in_vain node question given next heard t cache fate hears lacking) = record { sessions = subst (AllByRecursion (λ (s : NamedSession). AreHeardOf Held s.session)) (sym (fate_same fate).2) told.sessions; received = told.received }
-    past_told past told (turns view reply applied after saving t turned in_view takes replies is_turn) = absurd (past.0 (turn_refreshes takes))
-    past_told past told (is_refused view end after saving t in_view refusal takes) = absurd (past.0 (turn_refreshes takes))
-    past_told past told (settles after t is) = record { sessions = told.sessions; received = told.received }
-
-    past_step : {name : List ℕ} {c next : Scene} → IsPast c.session → IsToldIn Held c.world.sessions c.story.participants → Steps hss_judged ring.r name c next → IsToldIn Held next.world.sessions next.story.participants
-    past_step {c = c} past told (acts p taken cache next is_p takes act) =
-        past_told {c = with_cache hss_judged ring.r c p taken cache} ((λ e. past.0 (sym (takes_all_same takes).0 ∙ e)), takes_all_missed ring.r takes ∙ past.1) (record { sessions = told.sessions; received = told.received }) act
-    past_step past told (lacks_memory p taken t cache is_p takes lacking) = record { sessions = told.sessions; received = told.received }
-
-    past_runs : {name : List ℕ} {c next : Scene} → RunsOut hss_judged ring.r name c next → IsPast c.session → IsToldIn Held c.world.sessions c.story.participants → IsToldIn Held next.world.sessions next.story.participants
-    past_runs (runs_over said over) past told = told
-    past_runs (runs_more step rest) past told = past_runs rest (step_past ring.r past step) (past_step past told step)
-
-    publishes_told : (k : ℕ) → k ≡ ring.r → (v : Played) (p : Participant) (next : Played) → ToldIn v → Publishes hss_judged k v p next → ToldIn next
-    publishes_told k same v p next told published =
-        subst ToldIn (sym published.2) (past_runs (subst (λ x. RunsOut hss_judged x p.name (record { world = v.0; story = v.1; session = to_publish v.0 p; began = began_nothing }) published.0) same published.1) ((λ e. cc e), refl) told)
-
-    log_told : (name id seed : List ℕ) (sets : List Set) (next : Played) (output : List ℕ) → LogLine hss_judged w name id seed sets (Goes next output) → ToldIn next
-    log_told name id seed sets next _ (begins k p _ also new is published) = publishes_told k (one_r k ring.r (sym also ∙ ringed)) (with_newcomer w p) p next (record {
-      sessions = h.sessions;
-      received = λ x c. ⊎_elim (λ old. h.received x old) (λ one. ⊎_elim (λ e. subst (λ (y : Knowing). AllByRecursion (EntryOf Held) y.received) e tt) (λ none. absurd (in_nothing x none)) (in_cons _ [] x one)) (Contains-append_cases w.1.participants _ x c);
-    }) published
-
-    view_told : (name : List ℕ) (members former : Option (List PubKey)) (next : Played) (output : List ℕ) → ViewLine hss_judged w name members former (Goes next output) → ToldIn next
-    view_told name _ _ _ _ (makes members former k view next new own_keys small also is put) =
-        record { sessions = subst (AllByRecursion (λ (s : NamedSession). AreHeardOf Held s.session)) (sym (fates_same put.fates).2) h.sessions; received = h.received }
-
-    -- its open sessions are gone
-    afresh_so : (p : Participant) (known : List Record) → IsToldIn Held (without_sessions_of w.0 p.name).sessions (afresh_told w p.name known).participants
-    afresh_so p known = record { sessions = each_filtered (λ (s : NamedSession). AreHeardOf Held s.session) _ w.0.sessions h.sessions; received = told_now Held w.1 p.name known h.received }
-
-    entering_told : (p : Participant) (view : View) (e : Entering) (saving : Option Kept) → ToSuch ToldIn (after_entering w p view e saving)
-    entering_told p view (Entered after) saving = afresh_so p (of_members view (known_of w.1 p.name))
-    entering_told p view NotMember saving = tt
-    entering_told p view (NotNamed log) saving = tt
-    entering_told p view (KeeperFailed after) saving = record { sessions = h.sessions; received = h.received }
-
-    use_told : (o : Option Participant) (view : Option View) → ToSuch ToldIn (use_by w o view)
-    use_told None view = tt
-    use_told (Some p) None = tt
-    use_told (Some p) (Some view) = entering_told p view (entering p.agent view (fails_next p.keeper)).0 (entering p.agent view (fails_next p.keeper)).1
-
-    restart_told : (o : Option Participant) (next : Played) (output : List ℕ) → RestartLine w o (Goes next output) → ToldIn next
-    restart_told _ _ _ (starts p view k set in_view whole held again) = afresh_so p set
-
-    snap_told : (o : Option Participant) (next : Played) (output : List ℕ) → SnapLine hss_judged w o (Goes next output) → ToldIn next
-    snap_told _ _ _ (snap_fails p view in_view none spelled) = record { sessions = h.sessions; received = h.received }
-    snap_told _ _ _ (snap_makes p q view k next in_view some also made spelled published) =
-        publishes_told k (one_r k ring.r (sym also ∙ ringed)) (record (with_participant w.0 q) { met = met_by w.0.met q.agent.pending }, w.1) q next (record { sessions = h.sessions; received = h.received }) published
-
-    still_told : (c : Command) (next : Played) (output : List ℕ) → IsStill c → Does hss_judged w c (Goes next output) → ToldIn next
-    still_told c next output quiet does =
-        let same = still_lines w next c output quiet does in
-        subst (λ st. IsToldIn Held next.0.sessions st.participants) (sym same.0) (subst (λ (v : World). IsToldIn Held v.sessions w.1.participants) (sym same.1) (record { sessions = h.sessions; received = h.received }))
-
-    such : (o : Outcome Played) (next : Played) (output : List ℕ) → ToSuch ToldIn o → o ≡ Goes next output → ToldIn next
-    such o next output s e = subst (ToSuch ToldIn) e s
-
-    pub command_told : (c : Command) (next : Played) (output : List ℕ) → Up next.0 → IsQuiet c → Does hss_judged w c (Goes next output) → ToldIn next
-    command_told (command.Ring nodes replicas) next output up quiet does = absurd quiet
-    command_told (command.Log log id seed sets) next output up quiet does = log_told log id seed sets next output does
-    command_told (command.View view members former) next output up quiet does = view_told view (keys_of w.0 members) (keys_of w.0 former) next output does
-    command_told (command.Use log view) next output up quiet does = such (use_line w log view) next output (use_told (participant w.0 log) (view_named w.0 view)) (sym does)
-    command_told (command.At sec nsec) next output up quiet does = still_told (command.At sec nsec) next output tt does
-    command_told (command.As log pieces) next output up quiet does = as_told log (sending_of w.0 log pieces) next output up does
-    command_told (command.Open session log pieces) next output up quiet does = open_told session (sending_of w.0 log pieces) next output does
-    command_told (command.Step session count) next output up quiet does = step_line_told session count (session_named w.0 session) refl next output up does
-    command_told (command.Finish session) next output up quiet does = finish_told session (session_named w.0 session) refl next output up does
-    command_told (command.Join number) next output up quiet does = absurd quiet
-    command_told (command.Stop node) next output up quiet does = absurd quiet
-    command_told command.Round next output up quiet does = absurd quiet
-    command_told (command.Lose count) next output up quiet does = absurd quiet
-    command_told (command.Damage node key offset byte) next output up quiet does = absurd quiet
-    command_told (command.Snap log) next output up quiet does = snap_told (participant w.0 log) next output does
-    command_told (command.Restart log) next output up quiet does = restart_told (participant w.0 log) next output does
-    command_told (command.Keep log count new) next output up quiet does = absurd quiet
-    command_told (command.Show shown) next output up quiet does = still_told (command.Show shown) next output tt does
-    command_told command.Nothing next output up quiet does = still_told command.Nothing next output tt does
-    command_told command.End next output up quiet does = absurd (goes_or_ends does)
-      where
-        goes_or_ends : Goes next output ≡ Ends → ⊥
-        goes_or_ends e = cc e
+    pub command_told : (c : Command) (next : Played) (output : List ℕ) → Up next.0 → Does hss_judged w c (Goes next output) → ToldIn next
+    command_told (command.As log pieces) next output up does = as_told log (sending_of w.0 log pieces) next output up does
+    command_told (command.Step session count) next output up does = step_line_told session count (session_named w.0 session) refl next output up does
+    command_told (command.Finish session) next output up does = finish_told session (session_named w.0 session) refl next output up does
+    command_told c next output up does = other_told Held w next output c (λ call. call) does h
 
 -- ---- lines
 
--- a line that changes the ring tells nobody
-ring_told : (last : World) (w next : Played) (output : List ℕ) (c : Command) → ChangesRing c → Does hss_judged w c (Goes next output) → IsToldIn (HeldIn last) w.0.sessions w.1.participants → IsToldIn (HeldIn last) next.0.sessions next.1.participants
-ring_told last w next output c ring does h =
-    let change = ring_changes (λ kind key bytes. Unit {0}) w next output c ring does in
-    record {
-      sessions = subst (AllByRecursion (λ (s : NamedSession). AreHeardOf (HeldIn last) s.session)) (sym change.0.sessions) h.sessions;
-      received = subst (λ (st : Story). AllReceivedOf (HeldIn last) st.participants) (sym change.1) h.received;
-    }
-
 module _ (r : ℕ) (last : World) (v mid : Played) (output : List ℕ) (room : IsWithinLimit v.0) (apart : AreApart mid.0) (grows : IsMore v.0 mid.0) (more : IsMore mid.0 last) where
   line_told : {since between : Since} {c : Command} → IsCalm v.0 r since c between → Does hss_judged v c (Goes mid output) → IsState r v.0 v.1 since → IsToldIn (HeldIn last) v.0.sessions v.1.participants → IsToldIn (HeldIn last) mid.0.sessions mid.1.participants
-  line_told (rounds since none) does s h = ring_told last v mid output command.Round tt does h
-  line_told (joins number none) does s h = ring_told last v mid output (command.Join number) tt does h
-  line_told (stops count node none short two) does s h = ring_told last v mid output (command.Stop node) tt does h
+  line_told (rounds since none) does s h = other_told (HeldIn last) v mid output command.Round (λ call. call) does h
+  line_told (joins number none) does s h = other_told (HeldIn last) v mid output (command.Join number) (λ call. call) does h
+  line_told (stops count node none short two) does s h = other_told (HeldIn last) v mid output (command.Stop node) (λ call. call) does h
   line_told (other count c quiet) does s h =
-      command_told (stretch r s.base s.links s.start count s.stands mid.0 apart) last more v s.still.replicas s.still (good_onward (on r count v s) mid.0 apart room grows v.0 v.1 s.good) h c mid output (same_more mid.0) quiet does
+      command_told (stretch r s.base s.links s.start count s.stands mid.0 apart) last more v s.still.replicas s.still (good_onward (on r count v s) mid.0 apart room grows v.0 v.1 s.good) h c mid output (same_more mid.0) does
 
 calmly_told : (r : ℕ) {v w : Played} {since after : Since} {lines : List (List ℕ)} → Calmly r v since lines w after → AreApart w.0 → HasFacts r v.0 since → IsState r v.0 v.1 since → IsToldIn (HeldIn w.0) v.0.sessions v.1.participants → IsToldIn (HeldIn w.0) w.0.sessions w.1.participants
 calmly_told r calmly_none apart f s h = h

@@ -113,23 +113,7 @@ module _ (P : Kind → Key → List ℕ → Type 0) where
       )
   ring_changes w next output command.Round is does =
       (round_changes w.0 next.0 w.0.replicas does.0 output does.1 (beside_goes w.1 does.0 next output does.2), beside_story w.1 does.0 next output does.2)
-  ring_changes w next output (command.Ring nodes replicas) is does = absurd is
-  ring_changes w next output (command.Log log id seed sets) is does = absurd is
-  ring_changes w next output (command.View view members former) is does = absurd is
-  ring_changes w next output (command.Use log view) is does = absurd is
-  ring_changes w next output (command.At sec nsec) is does = absurd is
-  ring_changes w next output (command.As log pieces) is does = absurd is
-  ring_changes w next output (command.Open session log pieces) is does = absurd is
-  ring_changes w next output (command.Step session count) is does = absurd is
-  ring_changes w next output (command.Finish session) is does = absurd is
-  ring_changes w next output (command.Lose count) is does = absurd is
-  ring_changes w next output (command.Damage node key offset byte) is does = absurd is
-  ring_changes w next output (command.Snap log) is does = absurd is
-  ring_changes w next output (command.Restart log) is does = absurd is
-  ring_changes w next output (command.Keep log count new) is does = absurd is
-  ring_changes w next output (command.Show shown) is does = absurd is
-  ring_changes w next output command.Nothing is does = absurd is
-  ring_changes w next output command.End is does = absurd is
+  ring_changes w next output _ is does = absurd is
 
 -- all is so then
 pub ring_so : (w next : Played) (output : List ℕ) (c : Command) → Keeps w → ChangesRing c → Does hss_judged w c (Goes next output) → IsBackedWorld w.0 w.1 → IsBackedWorld next.0 next.1

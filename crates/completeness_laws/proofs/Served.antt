@@ -1,5 +1,5 @@
 -- Each whole call in a calm script, where of each log a head was put, misses nothing.
-use Rattle.std.proofs.Common.{◌≡◌, ⊎_elim, ℕ, List, Option, Some, None, refl, sym, ap, ◌∙◌, subst}
+use Rattle.std.proofs.Common.{◌≡◌, ◌⊎◌, inl, ⊎_elim, Contains, ℕ, List, Option, Some, None, refl, sym, ap, ◌∙◌, subst}
 use Rattle.dhash_model.specs.Signed.{hss_judged}
 use Rattle.log_model.specs.View.{View}
 use Rattle.script_driver.specs.Run.{Goes}
@@ -16,7 +16,7 @@ use Rattle.world_model.specs.Calls.AsLine.{calls}
 use Rattle.world_model.specs.Logs.{Played}
 use Rattle.world_model.specs.Step.{Does}
 use Rattle.world_model.specs.Steps.{RunsOut, Scene}
-use Rattle.world_model.specs.Story.{beginning, having_begun}
+use Rattle.world_model.specs.Story.{HadTurn, beginning, having_begun}
 use Rattle.world_model.specs.World.{Participant, World, participant}
 use Rattle.world_laws.specs.Calm.{AreAny, IsCalmAt, Stopped}
 use Rattle.world_laws.specs.Causes.{HasCause, said_at}
@@ -29,7 +29,7 @@ use Rattle.world_laws.proofs.OneSteps.{GoesWell}
 use Rattle.world_laws.proofs.SessionLinesSteps.{Leads, runs_lead}
 use Rattle.completeness_laws.specs.Completeness.{CallsMissNothingBehindHeads, HaveHeads, IsServed}
 use Rattle.completeness_laws.proofs.CallLines.{IsSentBy, begun_well, sent_by}
-use Rattle.completeness_laws.proofs.CallSteps.{begins_on, runs_on, runs_past}
+use Rattle.completeness_laws.proofs.CallSteps.{AreApart, IsInCall, IsPast, begins_on, past_told, runs_apart, runs_on, runs_past}
 use Rattle.completeness_laws.proofs.Standing.{IsCalmWorld, calm_world}
 use Rattle.completeness_laws.proofs.Whole.{world_backed}
 use Rattle.completeness_laws.proofs.Worlds.{IsBackedWorld}
@@ -79,10 +79,9 @@ module _ (r : ℕ) (w : Played) (keeps : Keeps w) (world : IsCalmWorld r w) (bac
       shown = refl;
       cause = subst (λ st. HasCause st end.began.number end.session said) (sym (ap (λ (n : Played). n.1) next_is)) (said_at_end end r said led.leaves.1 over);
     };
-    missed_nothing = ⊎_elim
-        (λ on. runs_on r w world backed calm.apart calm.no_key have mine first.0 on)
-        (λ past. runs_past r mine past)
-        (begins_on r w world backed calm.apart calm.no_key have keeps s t start well by_name sent.1 begins refl);
+    missed_nothing = ⊎_elim (λ on. runs_on r w world backed calm.apart calm.no_key have mine first.0 on) (λ past. runs_past r mine past) begun;
+    apart = subst (λ (n : Played). AreApart w.1.turns n.1.turns) (sym next_is)
+        (⊎_elim (λ on. runs_apart r w world backed calm.apart calm.no_key have mine first.0 on) (λ past h c. inl (subst (λ (l : List HadTurn). Contains l h) (past_told r mine past) c)) begun);
   }
     where
       start : Scene
@@ -105,6 +104,9 @@ module _ (r : ℕ) (w : Played) (keeps : Keeps w) (world : IsCalmWorld r w) (bac
 
       well : GoesWell r start
       well = begun_well w keeps backed r ringed log pieces s sends t begins
+
+      begun : IsInCall r w world backed calm.apart calm.no_key have start ⊎ IsPast start.session
+      begun = begins_on r w world backed calm.apart calm.no_key have keeps s t start well by_name sent.1 begins refl
 
       first : (t.by ≡ s.by.name) × (t.message ≡ s.message) × (t.standing.view ≡ s.view)
       first = begins_same w.0 s t begins

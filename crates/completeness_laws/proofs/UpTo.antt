@@ -1,5 +1,5 @@
 -- Records up to a head, by what is so of each; and posts that were acknowledged.
-use Rattle.std.proofs.Common.{◌≡◌, inl, inr, ℕ, ◌<◌, ◌^◌, List, [], ◌∷◌, length, Some, sym, ◌∙◌, arith, Contains}
+use Rattle.std.proofs.Common.{◌≡◌, inl, inr, ℕ, ◌<◌, ◌^◌, List, [], length, Some, sym, ◌∙◌, arith, Contains}
 use Rattle.ivy_base.specs.declared.key.Key.{Key}
 use Rattle.ivy_base.specs.declared.key.PubKey.{PubKey}
 use Rattle.wire_model.specs.Xdr.{opaque}

@@ -3,11 +3,11 @@
 -- that stores have room, that nodes that live take puts, and that whole puts are acknowledged; `PutsAreTaken` is proved of those with the
 -- same ring, and isn't so with any lines. `CallsTakeAll` is proved of those with the same ring; with any lines its tidy run need not be its
 -- calm one, and it is proved of one run that is both (`CallsTakeAllInRuns` of `Takes`).
-use Rattle.std.specs.Prelude.{◌≡◌, ◌≢◌, ◌↔◌, ◌≤◌, true, false, ℕ, length, sum_by, List, [], ◌∷◌, ◌++◌, Contains, Option, Some, None}
+use Rattle.std.specs.Prelude.{◌≡◌, ◌≢◌, ◌⊎◌, ◌↔◌, ◌≤◌, true, false, ℕ, length, sum_by, List, [], ◌∷◌, ◌++◌, Contains, Option, Some, None}
 use Rattle.std.specs.Prelude.{is_some, Result, Bool}
 use Rattle.std.specs.List.{AllByRecursion}
 use Rattle.ivy_base.specs.declared.key.Key.{Key}
-use Rattle.ivy_base.specs.Naming.{head_key_of, name}
+use Rattle.ivy_base.specs.Naming.{NamesTellApart, head_key_of, name}
 use Rattle.dht_ids.specs.declared.ask.Answer.{Answer}
 use Rattle.dht_ids.specs.declared.ask.Ask.TheVariants as ask
 use Rattle.dht_ids.specs.declared.peer.Peer.{Peer}
@@ -40,10 +40,12 @@ use Rattle.world_laws.specs.Headline.{IsCaused, IsOnReplay}
 -- ---- no call fails for want of a block
 
 -- What is shown is what a session of the line said, and its refresh missed nothing: so the reply says neither that the client is to try
--- again later, nor an IO error of a block.
+-- again later, nor an IO error of a block. And each turn of the line is on the replay, without a premise.
 pub record IsServed (w : Played) (c : Command) (next : Played) (output : List ℕ) : Type 0 where
   pub caused : IsCaused w c next output
   pub missed_nothing : caused.end.session.missed ≡ None
+  -- Before each turn that the line made, no two different blocks that were met had one name: the headline's premise.
+  pub apart : (h : HadTurn) → Contains next.1.turns h → Contains w.1.turns h ⊎ NamesTellApart h.met
 
 -- of each log a put of a head was acknowledged
 abbrev pub HaveHeads : Played → Type 0

@@ -65,7 +65,8 @@ pub fn heads_name_what_was_put()
 
 /// Laws: in a calm script no whole call fails because a block is missing, if of each log a put of a head was
 /// acknowledged. And none does at all, since a line goes on with a call only while the blocks that were met
-/// are within their limit.
+/// are within their limit. Before each turn of such a call no two different blocks that were met had one name,
+/// so the headline holds of it without a premise.
 pub fn calls_miss_nothing()
     ensures behind_heads { CallsMissNothingBehindHeads AreAny }
     ensures calls { CallsMissNothing AreAny }

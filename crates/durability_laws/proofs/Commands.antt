@@ -1,11 +1,10 @@
 -- Each command that changes no node but by asks of sessions goes on so.
-use Rattle.std.proofs.Common.{◌≡◌, ◌⊎◌, inl, inr, ⊎_elim, ℕ, Bool, true, false, cond, List, [], ◌∷◌, ◌++◌, map, Option, Some, None, Result, Ok, Err, refl, sym, ap, ◌∙◌, subst, nat_lt, Contains, ◌&&◌, is_some}
+use Rattle.std.proofs.Common.{◌≡◌, ◌⊎◌, inl, inr, ⊎_elim, ℕ, Bool, true, false, cond, List, [], ◌∷◌, ◌++◌, map, Option, Some, None, Result, Ok, Err, refl, sym, ap, ◌∙◌, subst, Contains, is_some}
 use Rattle.std.specs.List.{AllByRecursion}
 use Rattle.std.specs.Str.{bytes_eq}
-use Rattle.ivy_base.specs.declared.key.PubKey.{PubKey}
-use Rattle.hash_signature_model.specs.declared.set.Set.{Set}
 use Rattle.dhash_model.specs.Signed.{hss_judged}
 use Rattle.log_model.proofs.Lists.{each, each_append, each_from}
+use Rattle.log_model.specs.Record.{Record}
 use Rattle.log_model.specs.View.{View, view_block, view_name}
 use Rattle.snapshot_model.specs.Spelling.{root_name, snapshot_blocks}
 use Rattle.dht_ids.specs.Asked.{IsForData, told}
@@ -18,51 +17,47 @@ use Rattle.dht_ids.specs.declared.post.Post.{Post}
 use Rattle.dhash_model.specs.Course.{IsCourse, Told, told_all}
 use Rattle.dhash_model.specs.Puts.{EndsPut}
 use Rattle.dhash_model.specs.declared.miss.Miss.{Miss}
-use Rattle.agent_model.specs.Agent.{restored}
+use Rattle.agent_model.specs.Agent.{failed, kept_of, restored}
 use Rattle.agent_model.specs.Others.{basis_of, block_post}
-use Rattle.agent_model.specs.Views.Entering.{Entered, NotMember, NotNamed, KeeperFailed}
-use Rattle.session_model.specs.Sessions.{Said, Session, acknowledged, put_question}
-use Rattle.script_driver.specs.Run.{Outcome, Goes, Ends, Refuses, Exceeds}
+use Rattle.session_model.specs.Sessions.{Said, acknowledged, put_question}
+use Rattle.script_driver.specs.Run.{Goes}
 use Rattle.script_model.specs.declared.command.Command.{Command}
 use Rattle.script_model.specs.declared.command.Command.TheVariants as command
-use Rattle.world_model.specs.Agents.{Agent, Entering, Kept, entering, opened}
-use Rattle.world_model.specs.Keepers.{asked_to_save, fails_next}
-use Rattle.world_model.specs.World.{NamedSession, Participant, World, entries, participant, session_named, view_named, with_participant, with_session, without_session}
-use Rattle.world_model.specs.Story.{Story, began_of, beginning, having_begun}
+use Rattle.world_model.specs.Agents.{Agent, Kept, opened}
+use Rattle.world_model.specs.Keepers.{fails_next}
+use Rattle.world_model.specs.World.{NamedSession, Participant, World, entries, participant, with_participant, with_session, without_session}
+use Rattle.world_model.specs.Story.{Story, began_nothing, began_of}
 use Rattle.world_model.specs.Fates.{Fates, Puts, asking}
 use Rattle.world_model.specs.Fates.Fates.{none as fates_end, more as fates_on}
 use Rattle.world_model.specs.Steps.{RunsOut, Scene, StepsOn, having_made, met_by}
-use Rattle.world_model.specs.Logs.{LogLine, Played, Publishes, RestartLine, SnapLine, ViewLine, acked_view, after_entering, at_line, beside, fresh_signer, goes_if, having_snapped, having_tried, keys_of, newcomer, use_by, with_newcomer, with_view}
-use Rattle.world_model.specs.Logs.LogLine.{before_ring as log_before_ring, known as log_known, begins as log_begins}
-use Rattle.world_model.specs.Logs.ViewLine.{known as view_known, no_members as view_no_members, no_former as view_no_former, one_head_key as view_one_head_key, exceeds as view_exceeds, makes as view_makes}
-use Rattle.world_model.specs.Logs.RestartLine.{nobody as restart_nobody, outside as restart_outside, starts as restart_starts}
-use Rattle.world_model.specs.Logs.SnapLine.{nobody as snap_nobody, outside as snap_outside, fails as snap_fails, makes as snap_makes}
-use Rattle.world_model.specs.Calls.{AsLine, OpenLine, StepLine, FinishLine, Sending, replied, scene_of}
-use Rattle.world_model.specs.Calls.AsLine.{sends_nothing as whole_sends_nothing, calls as whole_calls}
-use Rattle.world_model.specs.Calls.OpenLine.{sends_nothing as opening_sends_nothing, is_open as opening_is_open, opens as opening_opens}
-use Rattle.world_model.specs.Calls.StepLine.{not_open as stepping_not_open, out_of_range as stepping_out_of_range, steps as stepping_steps}
-use Rattle.world_model.specs.Calls.FinishLine.{not_open as finishing_not_open, ends as finishing_ends}
-use Rattle.world_model.specs.Shows.{show_line}
+use Rattle.world_model.specs.Logs.{Played, acked_view, afresh, afresh_told, fresh_signer, newcomer, snapping_in, to_publish, with_view}
+use Rattle.world_model.specs.Calls.{replied, scene_of}
 use Rattle.world_model.specs.Step.{Does}
 use Rattle.round_laws.proofs.Fixing.{fates_first, fates_none as fates_nothing}
-use Rattle.world_laws.proofs.Shows.{shows_are_still}
-use Rattle.world_laws.proofs.Bringing.{found_named}
 use Rattle.world_laws.proofs.Frames.{all_mapped, into_map}
 use Rattle.world_laws.proofs.Lines.{meets_it, meets_more}
 use Rattle.world_laws.proofs.NodeFates.{fate_rest}
 use Rattle.world_laws.proofs.SignedAmong.{met_stays, met_then}
 use Rattle.world_laws.specs.Calm.{IsQuiet}
+use Rattle.world_laws.specs.Effects.{Effect, Effects, IsRingCommand, LaterEffect, Plays, PublishesAlone, Renews, Touches, begun_scene, snapped_in}
+use Rattle.world_laws.specs.Effects.Effect.{comes, loses, makes_view, of_nodes, opens, plays, renews, shows, times, touches}
+use Rattle.world_laws.specs.Effects.Effects.{once, twice}
+use Rattle.world_laws.specs.Effects.LaterEffect.{publishes, replies}
+use Rattle.world_laws.specs.Effects.Plays.{calls, ends, steps}
+use Rattle.world_laws.specs.Effects.Renews.{enters, starts_again}
+use Rattle.world_laws.specs.Effects.Touches.{fails, plans, snaps, unable}
+use Rattle.world_laws.proofs.Effects.{lines_have_effects}
 use Rattle.world_laws.proofs.CalmNodes.{HeldStays, KeepsRings, asked_rings}
 use Rattle.world_laws.proofs.CalmStates.{ArePending, IsMore, IsOwnPost, asked_more, asked_pending, found_placed, made_left, made_own, more_post, more_posts, more_then, placed, placed_more, same_more}
 use Rattle.world_laws.proofs.CalmSteps.{put_data}
 use Rattle.world_laws.proofs.CalmLines.{each_filtered}
-use Rattle.world_laws.proofs.CalmCommands.{PendingStays, either, entering_stays, one_r, session_in, snap_fails_so, snap_posts}
+use Rattle.world_laws.proofs.CalmCommands.{either, one_r, session_in, snap_posts}
 use Rattle.durability_laws.proofs.Holding.{AreOrderly}
 use Rattle.durability_laws.proofs.Stretches.{AreTrue, IsAckHeld, IsRingOf, IsTrueAt, Stretch, put_ends}
 use Rattle.durability_laws.proofs.States.{InStep, good_later, kept_ring, more_heard, still_acked}
 use Rattle.durability_laws.proofs.Steps.{placed_good, placed_ring, put_goes, put_told}
 use Rattle.durability_laws.proofs.Scenes.{runs_go, steps_go}
-use Rattle.durability_laws.proofs.Lines.{LineGoes, changes_go, entries_are, goes_nowhere, goes_then, newcomer_found, newcomer_goes, publishes_go, scene_goes, scene_goes_to, sent_step}
+use Rattle.durability_laws.proofs.Lines.{LineGoes, changes_go, entries_are, goes_nowhere, goes_then, newcomer_goes, publishes_go, scene_goes, scene_goes_to, sent_step}
 
 -- ---- agents
 
@@ -163,137 +158,7 @@ module _ (ring : Stretch) where
         (own (placed w n p q met is_p named grows left) (found_placed w n p q met is_p named grows left) refl (placed_more w n p q met is_p named grows left) g.pending) g;
   }
 
-  -- ---- commands
-
-  abbrev Onward : Played → Outcome Played → Type 0
-  Onward w (Goes next output) = LineGoes ring w.0 w.1 next.0 next.1
-  Onward w Ends = Unit {0}
-  Onward w Refuses = Unit {0}
-  Onward w Exceeds = Unit {0}
-
-  abbrev OnwardIn : Played → Outcome World → Type 0
-  OnwardIn w (Goes next output) = LineGoes ring w.0 w.1 next w.1
-  OnwardIn w Ends = Unit {0}
-  OnwardIn w Refuses = Unit {0}
-  OnwardIn w Exceeds = Unit {0}
-
-  by_function : (w : Played) (o : Outcome World) (outcome : Outcome Played) → outcome ≡ beside w.1 o → OnwardIn w o → Onward w outcome
-  by_function w o outcome does h = subst (Onward w) (sym does) (by o h)
-    where
-      by : (o : Outcome World) → OnwardIn w o → Onward w (beside w.1 o)
-      by (Goes next output) h = h
-      by Ends h = tt
-      by Refuses h = tt
-      by Exceeds h = tt
-
-  still_goes : (w : Played) → LineGoes ring w.0 w.1 w.0 w.1
-  still_goes w = goes_nowhere ring w.0 w.1
-
-  of_at : (w : Played) (sec nsec : ℕ) (t : Bool) → OnwardIn w (goes_if t (record w.0 { now = record { sec = sec; nsec = nsec } }))
-  of_at w sec nsec true = changes_go ring w.0 _ w.1 w.1 refl refl refl refl refl (λ b h. h) (λ h ss. ss) refl
-  of_at w sec nsec false = tt
-
-  -- a log begins
-  of_log : (w : Played) (name id seed : List ℕ) (sets : List Set) (o : Outcome Played) → w.0.replicas ≡ Some ring.r → LogLine hss_judged w name id seed sets o → Onward w o
-  of_log w name id seed sets _ ringed (log_before_ring h) = tt
-  of_log w name id seed sets _ ringed (log_known h) = tt
-  of_log w name id seed sets _ ringed (log_begins s p next also new is published) =
-      let a : Agent = opened (fresh_signer id seed sets) w.0.now in
-      let q : Participant = newcomer name a in
-      let mine : Publishes hss_judged ring.r (with_newcomer w q) q next = subst (λ (x : Participant). Publishes hss_judged ring.r (with_newcomer w x) x next) is (subst (λ k. Publishes hss_judged k (with_newcomer w p) p next) (one_r s ring.r (sym also ∙ ringed)) published) in
-      let came = newcomer_goes ring w q (record { name = name; agent = a; keeper = q.keeper; cache = []; made = []; printed = None; work = 0; left = [] }) refl new in
-      goes_then ring w.0 (with_newcomer w q).0 next.0 w.1 (with_newcomer w q).1 next.1 came (publishes_go ring (with_newcomer w q) q next (newcomer_found ring w q new) mine)
-
-  -- a view is made
-  of_view : (w : Played) (name : List ℕ) (members former : Option (List PubKey)) (o : Outcome Played) → w.0.replicas ≡ Some ring.r → ViewLine hss_judged w name members former o → Onward w o
-  of_view w name _ _ _ ringed (view_known h) = tt
-  of_view w name _ _ _ ringed view_no_members = tt
-  of_view w name _ _ _ ringed view_no_former = tt
-  of_view w name _ _ _ ringed (view_one_head_key members former h) = tt
-  of_view w name _ _ _ ringed (view_exceeds members former h g large) = tt
-  of_view w name _ _ _ ringed (view_makes members former s view next h g small also is put) =
-      goes_then ring w.0 (with_view w.0 name view) next w.1 w.1 _
-      (changes_go ring w.0 (with_view w.0 name view) w.1 w.1 refl refl refl refl refl (λ b c. meets_more w.0.met (view_block view) b c) (λ i ss. ss) refl)
-      (mine s (one_r s ring.r (sym also ∙ ringed)) put)
-    where
-      yes_so : (came : Result Bool Miss) → acknowledged came ≡ true → IsAckHeld ring next (block_post (view_block view)) → AllByRecursion (IsAckHeld ring next) (acked_view view came)
-      yes_so (Ok true) e held = (held, tt)
-      yes_so (Ok false) e held = tt
-      yes_so (Err miss) e held = tt
-
-      no_so : (came : Result Bool Miss) → acknowledged came ≡ false → acked_view view came ≡ []
-      no_so (Ok true) e = absurd cc
-      no_so (Ok false) e = refl
-      no_so (Err miss) e = refl
-
-      mine : (s : ℕ) → s ≡ ring.r → (put : Puts hss_judged (with_view w.0 name view) s (view_name view) (ask.PutBlock (view_name view) (view_block view)) next)
-          → LineGoes ring (with_view w.0 name view) w.1 next (record w.1 { acked = w.1.acked ++ acked_view view put.came })
-      mine s e put = puts_go (with_view w.0 name view) w.1 (view_block view) next (acked_view view put.came) (meets_it w.0.met (view_block view))
-          (record {
-            looks = put.looks;
-            asks = put.asks;
-            came = put.came;
-            fates = put.fates;
-            whole = subst (λ k. IsCourse (view_name view) (ask.PutBlock (view_name view) (view_block view)) (entries (with_view w.0 name view)) (EndsPut k) (told_all (ask.Route (view_name view)) put.looks ++ told_all (ask.PutBlock (view_name view) (view_block view)) put.asks) put.came) e put.whole;
-          })
-          (yes_so put.came) (no_so put.came)
-
-  -- a participant enters a view
-  of_entering : (w : Played) (log : List ℕ) (p : Participant) (view : View) (e : Entering) (saving : Option Kept) → participant w.0 log ≡ Some p → PendingStays p.agent e → Onward w (after_entering w p view e saving)
-  of_entering w log p view (Entered after) saving is_p stays =
-      let q : Participant = record p { agent = after; keeper = asked_to_save p.keeper saving; cache = [] } in
-      goes_then ring w.0 (with_participant w.0 q) _ w.1 w.1 _
-      (placed_goes w.0 w.1 w.1 log p q w.0.met is_p refl (λ b h. h) (λ b h. h) refl
-      (λ v at same more pend. subst (AllByRecursion (IsOwnPost v)) (sym stays) (more_posts w.0 v p.agent.pending more (pend log p is_p))))
-      (changes_go ring (with_participant w.0 q) _ w.1 _ refl refl refl refl refl (λ b h. h) (λ i ss. each_filtered (λ (t : NamedSession). InStep ring (with_participant w.0 q) t.session) _ w.0.sessions ss) refl)
-  of_entering w log p view NotMember saving is_p stays = tt
-  of_entering w log p view (NotNamed other) saving is_p stays = tt
-  of_entering w log p view (KeeperFailed after) saving is_p stays =
-      placed_goes w.0 w.1 w.1 log p (record p { agent = after; keeper = asked_to_save p.keeper saving }) w.0.met is_p refl (λ b h. h) (λ b h. h) refl
-      (λ v at same more pend. subst (AllByRecursion (IsOwnPost v)) (sym stays) (more_posts w.0 v p.agent.pending more (pend log p is_p)))
-
-  of_use : (w : Played) (log : List ℕ) (o : Option Participant) (view : Option View) → participant w.0 log ≡ o → Onward w (use_by w o view)
-  of_use w log (Some p) (Some view) is_p = of_entering w log p view (entering p.agent view (fails_next p.keeper)).0 (entering p.agent view (fails_next p.keeper)).1 is_p (entering_stays p.agent view (fails_next p.keeper))
-  of_use w log (Some p) None is_p = tt
-  of_use w log None view is_p = tt
-
-  -- an agent starts again
-  of_restart : (w : Played) (log : List ℕ) (p : Option Participant) (o : Outcome Played) → participant w.0 log ≡ p → RestartLine w p o → Onward w o
-  of_restart w log _ _ is_p restart_nobody = tt
-  of_restart w log _ _ is_p (restart_outside p h) = tt
-  of_restart w log _ _ is_p (restart_starts p view k set h whole kept known) =
-      let before : Participant = record p { agent = restored k; cache = [] } in
-      let q : Participant = having_made before k.pending in
-      let mid : World = record (with_participant w.0 q) { met = met_by w.0.met k.pending } in
-      goes_then ring w.0 mid _ w.1 w.1 _
-      (placed_goes w.0 w.1 w.1 log p q (met_by w.0.met k.pending) is_p refl (λ b c. met_stays w.0.met (map (λ (x : Post). x.bytes) k.pending) b c) (λ b c. made_left before k.pending b c) refl
-      (λ v at same more pend. made_own v log before w.0.met k.pending at same))
-      (changes_go ring mid _ w.1 _ refl refl refl refl refl (λ b c. c) (λ i ss. each_filtered (λ (t : NamedSession). InStep ring mid t.session) _ w.0.sessions ss) refl)
-
-  -- a snapshot is made
-  of_snap : (w : Played) (log : List ℕ) (p : Option Participant) (o : Outcome Played) → w.0.replicas ≡ Some ring.r → participant w.0 log ≡ p → SnapLine hss_judged w p o → Onward w o
-  of_snap w log _ _ ringed is_p snap_nobody = tt
-  of_snap w log _ _ ringed is_p (snap_outside p h) = tt
-  of_snap w log _ _ ringed is_p (snap_fails p view h tried spelled) =
-      placed_goes w.0 w.1 w.1 log p (having_tried p view) w.0.met is_p refl (λ b c. c) (λ b c. c) refl
-      (λ v at same more pend. subst (AllByRecursion (IsOwnPost v)) (sym (snap_fails_so p.agent (root_name view (basis_of p.agent.holding)) (snapshot_blocks view (basis_of p.agent.holding)) (fails_next p.keeper) tried)) (more_posts w.0 v p.agent.pending more (pend log p is_p)))
-  of_snap w log _ _ ringed is_p (snap_makes p q view s next h tried also is spelled published) =
-      let t : Participant = having_snapped p view in
-      let mid : World = record (with_participant w.0 t) { met = met_by w.0.met t.agent.pending } in
-      let named : t.name ≡ log = (found_named w.0.participants log p is_p).1 in
-      let found : participant mid log ≡ Some t = found_placed w.0 log p t (met_by w.0.met t.agent.pending) is_p refl (λ b c. met_stays w.0.met (map (λ (x : Post). x.bytes) t.agent.pending) b c) (λ b c. c) in
-      let mine : Publishes hss_judged ring.r (mid, w.1) t next =
-      subst (λ (x : Participant). Publishes hss_judged ring.r (record (with_participant w.0 x) { met = met_by w.0.met x.agent.pending }, w.1) x next) is
-      (subst (λ k. Publishes hss_judged k (record (with_participant w.0 q) { met = met_by w.0.met q.agent.pending }, w.1) q next) (one_r s ring.r (sym also ∙ ringed)) published) in
-      goes_then ring w.0 mid next.0 w.1 w.1 next.1
-      (placed_goes w.0 w.1 w.1 log p t (met_by w.0.met t.agent.pending) is_p refl (λ b c. met_stays w.0.met (map (λ (x : Post). x.bytes) t.agent.pending) b c) (λ b c. c) refl
-      (λ v at same more pend. each_from (IsOwnPost v) t.agent.pending (λ post among. (
-        subst (λ m. Contains m post.bytes) (sym same) (met_then w.0.met (map (λ (x : Post). x.bytes) t.agent.pending) post.bytes (into_map (λ (x : Post). x.bytes) t.agent.pending post among)),
-        λ head. (each (IsOwnPost v) p.agent.pending post (more_posts w.0 v p.agent.pending more (pend log p is_p)) (snap_posts p.agent (root_name view (basis_of p.agent.holding)) (snapshot_blocks view (basis_of p.agent.holding)) (fails_next p.keeper) post among head)).1 head,
-      ))))
-      (publishes_go ring (mid, w.1) t next (subst (λ n. participant mid n ≡ Some t) (sym named) found) mine)
-
-  -- ---- calls
+  -- ---- effects
 
   replied_goes : (w : World) (st : Story) (said : Said) → LineGoes ring w st (replied w said) st
   replied_goes w st said = by (is_some said.message)
@@ -302,66 +167,149 @@ module _ (ring : Stretch) where
       by true = changes_go ring w _ st st refl refl refl refl refl (λ b h. h) (λ i ss. ss) refl
       by false = goes_nowhere ring w st
 
-  of_as : (w : Played) (sent : Option Sending) (o : Outcome Played) → w.0.replicas ≡ Some ring.r → AsLine hss_judged w sent o → Onward w o
-  of_as w _ _ ringed whole_sends_nothing = tt
-  of_as w _ _ ringed (whole_calls s k t end said also begins runs over) =
-      let c : Scene = record { world = w.0; story = having_begun w.1; session = t; began = beginning w.1 s.by.name } in
-      let mine : RunsOut hss_judged ring.r s.by.name c end = subst (λ x. RunsOut hss_judged x s.by.name c end) (one_r k ring.r (sym also ∙ ringed)) runs in
-      goes_then ring w.0 end.world (replied end.world said) w.1 end.story end.story
-      (scene_goes ring w.0 w.1 c end refl refl (runs_go ring s.by.name mine) (λ h g. sent_step ring w.0 s t h begins))
-      (replied_goes end.world end.story said)
+  no_ring : (k : Command) → IsQuiet k → IsRingCommand k → ⊥
+  no_ring (command.Ring nodes replicas) quiet ring_it = quiet
+  no_ring (command.Join node) quiet ring_it = quiet
+  no_ring (command.Stop node) quiet ring_it = quiet
+  no_ring command.Round quiet ring_it = quiet
+  no_ring (command.Damage node key offset byte) quiet ring_it = quiet
+  no_ring _ quiet ring_it = ring_it
 
-  of_open : (w : Played) (name : List ℕ) (sent : Option Sending) (o : Outcome Played) → OpenLine hss_judged w name sent o → Onward w o
-  of_open w name _ _ opening_sends_nothing = tt
-  of_open w name _ _ (opening_is_open s h) = tt
-  of_open w name _ _ (opening_opens s t h begins) =
-      changes_go ring w.0 _ w.1 _ refl refl refl refl refl (λ b c. c)
-      (λ i ss. each_append (λ (x : NamedSession). InStep ring w.0 x.session) w.0.sessions (record { name = name; session = t } ∷ []) ss (sent_step ring w.0 s t i begins, tt)) refl
+  module _ (w : Played) (ringed : w.0.replicas ≡ Some ring.r) where
+    abbrev GoesTo : World → Story → Type 0
+    GoesTo next st = LineGoes ring w.0 w.1 next st
 
-  of_step : (w : Played) (name : List ℕ) (count : ℕ) (s : Option Session) (o : Outcome Played) → w.0.replicas ≡ Some ring.r → session_named w.0 name ≡ s → StepLine hss_judged w name count s o → Onward w o
-  of_step w name count _ _ ringed is_s stepping_not_open = tt
-  of_step w name count _ _ ringed is_s (stepping_out_of_range s h) = tt
-  of_step w name count _ _ ringed is_s (stepping_steps s k end h also steps) =
-      let c : Scene = scene_of w s (began_of w.1 name) in
-      let mine : StepsOn hss_judged ring.r s.by count c end = subst (λ x. StepsOn hss_judged x s.by count c end) (one_r k ring.r (sym also ∙ ringed)) steps in
-      scene_goes_to ring w.0 w.1 c end (with_session end.world name end.session) _ refl refl (steps_go ring s.by mine)
-      (λ i g. session_in (InStep ring w.0) w.0.sessions name s is_s g.sessions) refl refl refl refl refl (λ b g. g)
-      (λ ss mine. all_mapped (λ (x : NamedSession). InStep ring end.world x.session) _ end.world.sessions (λ x among. either (bytes_eq x.name name) (InStep ring end.world) x name end.session (each (λ (x : NamedSession). InStep ring end.world x.session) end.world.sessions x ss among) mine)) refl
+    -- a view is made
+    view_goes : (name : List ℕ) (s : ℕ) (view : View) (next : World) → w.0.replicas ≡ Some s → (put : Puts hss_judged (with_view w.0 name view) s (view_name view) (ask.PutBlock (view_name view) (view_block view)) next)
+        → GoesTo next (record w.1 { acked = w.1.acked ++ acked_view view put.came })
+    view_goes name s view next also put =
+        goes_then ring w.0 (with_view w.0 name view) next w.1 w.1 _
+        (changes_go ring w.0 (with_view w.0 name view) w.1 w.1 refl refl refl refl refl (λ b c. meets_more w.0.met (view_block view) b c) (λ i ss. ss) refl)
+        (mine s (one_r s ring.r (sym also ∙ ringed)) put)
+      where
+        yes_so : (came : Result Bool Miss) → acknowledged came ≡ true → IsAckHeld ring next (block_post (view_block view)) → AllByRecursion (IsAckHeld ring next) (acked_view view came)
+        yes_so (Ok true) e held = (held, tt)
+        yes_so (Ok false) e held = tt
+        yes_so (Err miss) e held = tt
 
-  of_finish : (w : Played) (name : List ℕ) (s : Option Session) (o : Outcome Played) → w.0.replicas ≡ Some ring.r → session_named w.0 name ≡ s → FinishLine hss_judged w name s o → Onward w o
-  of_finish w name _ _ ringed is_s finishing_not_open = tt
-  of_finish w name _ _ ringed is_s (finishing_ends s k end said also runs over) =
-      let c : Scene = scene_of w s (began_of w.1 name) in
-      let mine : RunsOut hss_judged ring.r s.by c end = subst (λ x. RunsOut hss_judged x s.by c end) (one_r k ring.r (sym also ∙ ringed)) runs in
-      goes_then ring w.0 (without_session end.world name) (replied (without_session end.world name) said) w.1 _ _
-      (scene_goes_to ring w.0 w.1 c end (without_session end.world name) _ refl refl (runs_go ring s.by mine)
-      (λ i g. session_in (InStep ring w.0) w.0.sessions name s is_s g.sessions) refl refl refl refl refl (λ b g. g)
-      (λ ss mine. each_filtered (λ (x : NamedSession). InStep ring end.world x.session) _ end.world.sessions ss) refl)
-      (replied_goes (without_session end.world name) _ said)
+        no_so : (came : Result Bool Miss) → acknowledged came ≡ false → acked_view view came ≡ []
+        no_so (Ok true) e = absurd cc
+        no_so (Ok false) e = refl
+        no_so (Err miss) e = refl
 
-  -- ---- all of them
+        mine : (s : ℕ) → s ≡ ring.r → (put : Puts hss_judged (with_view w.0 name view) s (view_name view) (ask.PutBlock (view_name view) (view_block view)) next)
+            → LineGoes ring (with_view w.0 name view) w.1 next (record w.1 { acked = w.1.acked ++ acked_view view put.came })
+        mine s e put = puts_go (with_view w.0 name view) w.1 (view_block view) next (acked_view view put.came) (meets_it w.0.met (view_block view))
+            (record {
+              looks = put.looks;
+              asks = put.asks;
+              came = put.came;
+              fates = put.fates;
+              whole = subst (λ k. IsCourse (view_name view) (ask.PutBlock (view_name view) (view_block view)) (entries (with_view w.0 name view)) (EndsPut k) (told_all (ask.Route (view_name view)) put.looks ++ told_all (ask.PutBlock (view_name view) (view_block view)) put.asks) put.came) e put.whole;
+            })
+            (yes_so put.came) (no_so put.came)
 
-  of_command : (w : Played) (c : Command) (outcome : Outcome Played) → w.0.replicas ≡ Some ring.r → IsQuiet c → Does hss_judged w c outcome → Onward w outcome
-  of_command w (command.Ring nodes replicas) outcome ringed quiet does = absurd quiet
-  of_command w (command.Log log id seed sets) outcome ringed quiet does = of_log w log id seed sets outcome ringed does
-  of_command w (command.View view members former) outcome ringed quiet does = of_view w view (keys_of w.0 members) (keys_of w.0 former) outcome ringed does
-  of_command w (command.Use log view) outcome ringed quiet does = subst (Onward w) (sym does) (of_use w log (participant w.0 log) (view_named w.0 view) refl)
-  of_command w (command.At sec nsec) outcome ringed quiet does = by_function w (at_line w.0 sec nsec) outcome does (of_at w sec nsec (nat_lt sec 4294967296 && nat_lt nsec 1000000000))
-  of_command w (command.As log pieces) outcome ringed quiet does = of_as w _ outcome ringed does
-  of_command w (command.Open session log pieces) outcome ringed quiet does = of_open w session _ outcome does
-  of_command w (command.Step session count) outcome ringed quiet does = of_step w session count (session_named w.0 session) outcome ringed refl does
-  of_command w (command.Finish session) outcome ringed quiet does = of_finish w session (session_named w.0 session) outcome ringed refl does
-  of_command w (command.Join number) outcome ringed quiet does = absurd quiet
-  of_command w (command.Stop node) outcome ringed quiet does = absurd quiet
-  of_command w command.Round outcome ringed quiet does = absurd quiet
-  of_command w (command.Lose count) outcome ringed quiet does = absurd quiet
-  of_command w (command.Damage node key offset byte) outcome ringed quiet does = absurd quiet
-  of_command w (command.Snap log) outcome ringed quiet does = of_snap w log (participant w.0 log) outcome ringed refl does
-  of_command w (command.Restart log) outcome ringed quiet does = of_restart w log (participant w.0 log) outcome refl does
-  of_command w (command.Keep log count new) outcome ringed quiet does = absurd quiet
-  of_command w (command.Show shown) outcome ringed quiet does = by_function w (show_line w.0 shown) outcome does (shows_are_still w.0 shown (OnwardIn w) (λ text. still_goes w) tt tt)
-  of_command w command.Nothing outcome ringed quiet does = subst (Onward w) (sym does) (still_goes w)
-  of_command w command.End outcome ringed quiet does = subst (Onward w) (sym does) tt
+    -- a participant of which an agent has the same to publish
+    same_goes : (name : List ℕ) (p q : Participant) → participant w.0 name ≡ Some p → q.name ≡ p.name → q.left ≡ p.left → q.agent.pending ≡ p.agent.pending → GoesTo (with_participant w.0 q) w.1
+    same_goes name p q is named left stays =
+        placed_goes w.0 w.1 w.1 name p q w.0.met is named (λ b h. h) (λ b h. subst (λ l. Contains l b) (sym left) h) refl
+        (λ v at same more pend. subst (AllByRecursion (IsOwnPost v)) (sym stays) (more_posts w.0 v p.agent.pending more (pend name p is)))
+
+    snaps_so : (p : Participant) (view : View) → p.agent.has_failed ≡ false → fails_next p.keeper ≡ false → (snapping_in p view).0.0 ≡ snapped_in p view
+    snaps_so p view was now = by p.agent.has_failed (fails_next p.keeper) was now
+      where
+        by : (before failing : Bool) → before ≡ false → failing ≡ false
+            → (cond {A = (Agent × Bool) × Option Kept} before ((p.agent, false), None) (cond {A = Agent × Bool} failing (failed p.agent, false) (snapped_in p view, true), Some (kept_of (snapped_in p view)))).0.0 ≡ snapped_in p view
+        by false false e f = refl
+        by true failing e f = absurd cc
+        by false true e f = absurd cc
+
+    touched_goes : {k : Command} (name : List ℕ) (p q : Participant) {posts : List Post} → IsQuiet k → participant w.0 name ≡ Some p → Touches w.0 p name k q posts → GoesTo (record (with_participant w.0 q) { met = met_by w.0.met posts }) w.1
+    touched_goes name p _ quiet is (plans count new) = absurd quiet
+    touched_goes name p _ quiet is (unable k saves was) = same_goes name p p is refl refl refl
+    touched_goes name p q quiet is (fails k saving was now attempt) = same_goes name p q is refl refl refl
+    touched_goes name p t quiet is (snaps view was now in_view spelled) =
+        placed_goes w.0 w.1 w.1 name p t (met_by w.0.met t.agent.pending) is refl (λ b c. met_stays w.0.met (map (λ (x : Post). x.bytes) t.agent.pending) b c) (λ b c. c) refl
+        (λ v at same more pend. each_from (IsOwnPost v) t.agent.pending (λ post among. (
+          subst (λ m. Contains m post.bytes) (sym same) (met_then w.0.met (map (λ (x : Post). x.bytes) t.agent.pending) post.bytes (into_map (λ (x : Post). x.bytes) t.agent.pending post among)),
+          λ head. (each (IsOwnPost v) p.agent.pending post (more_posts w.0 v p.agent.pending more (pend name p is)) (snap_posts p.agent (root_name view (basis_of p.agent.holding)) (snapshot_blocks view (basis_of p.agent.holding)) (fails_next p.keeper) post (subst (λ (a : Agent). Contains a.pending post) (sym (snaps_so p view was now)) among) head)).1 head,
+        )))
+
+    renewed_goes : {k : Command} (name : List ℕ) (p q : Participant) {posts : List Post} {set : List Record} → participant w.0 name ≡ Some p → Renews w p name k q posts set → GoesTo (record (afresh w.0 q) { met = met_by w.0.met posts }) (afresh_told w p.name set)
+    renewed_goes name p q is (enters called view is_view member named was now) =
+        let mid : World = with_participant w.0 (record q { cache = [] }) in
+        goes_then ring w.0 mid _ w.1 w.1 _ (same_goes name p (record q { cache = [] }) is refl refl refl)
+        (changes_go ring mid _ w.1 _ refl refl refl refl refl (λ b h. h) (λ i ss. each_filtered (λ (t : NamedSession). InStep ring mid t.session) _ w.0.sessions ss) refl)
+    renewed_goes name p _ is (starts_again view k set in_view whole kept known) =
+        let before : Participant = record p { agent = restored k; cache = [] } in
+        let q : Participant = having_made before k.pending in
+        let mid : World = record (with_participant w.0 q) { met = met_by w.0.met k.pending } in
+        goes_then ring w.0 mid _ w.1 w.1 _
+        (placed_goes w.0 w.1 w.1 name p q (met_by w.0.met k.pending) is refl (λ b c. met_stays w.0.met (map (λ (x : Post). x.bytes) k.pending) b c) (λ b c. made_left before k.pending b c) refl
+        (λ v at same more pend. made_own v name before w.0.met k.pending at same))
+        (changes_go ring mid _ w.1 _ refl refl refl refl refl (λ b c. c) (λ i ss. each_filtered (λ (t : NamedSession). InStep ring mid t.session) _ w.0.sessions ss) refl)
+
+    -- what an effect leaves, and how many replicas there are where publishing follows
+    record Onward (k : Command) (next : Played) : Type 0 where
+      goes : GoesTo next.0 next.1
+      ringed_then : PublishesAlone k → next.0.replicas ≡ Some ring.r
+
+    played_goes : {k : Command} {s : ℕ} {name : List ℕ} {c end : Scene} {next : Played} → s ≡ ring.r → Plays hss_judged w s k name c end next → Onward k next
+    played_goes same (calls log pieces s t end sends begins runs over) = record {
+      goes =
+          let c : Scene = begun_scene w s t in
+          let mine : RunsOut hss_judged ring.r s.by.name c end = subst (λ x. RunsOut hss_judged x s.by.name c end) same runs in
+          scene_goes ring w.0 w.1 c end refl refl (runs_go ring s.by.name mine) (λ h g. sent_step ring w.0 s t h begins);
+      ringed_then = λ alone. absurd alone;
+    }
+    played_goes same (steps name count s end is on) = record {
+      goes =
+          let c : Scene = scene_of w s (began_of w.1 name) in
+          let mine : StepsOn hss_judged ring.r s.by count c end = subst (λ x. StepsOn hss_judged x s.by count c end) same on in
+          scene_goes_to ring w.0 w.1 c end (with_session end.world name end.session) _ refl refl (steps_go ring s.by mine)
+          (λ i g. session_in (InStep ring w.0) w.0.sessions name s is g.sessions) refl refl refl refl refl (λ b g. g)
+          (λ ss mine. all_mapped (λ (x : NamedSession). InStep ring end.world x.session) _ end.world.sessions (λ x among. either (bytes_eq x.name name) (InStep ring end.world) x name end.session (each (λ (x : NamedSession). InStep ring end.world x.session) end.world.sessions x ss among) mine)) refl;
+      ringed_then = λ alone. absurd alone;
+    }
+    played_goes same (ends name s end is runs over) = record {
+      goes =
+          let c : Scene = scene_of w s (began_of w.1 name) in
+          let mine : RunsOut hss_judged ring.r s.by c end = subst (λ x. RunsOut hss_judged x s.by c end) same runs in
+          scene_goes_to ring w.0 w.1 c end (without_session end.world name) _ refl refl (runs_go ring s.by mine)
+          (λ i g. session_in (InStep ring w.0) w.0.sessions name s is g.sessions) refl refl refl refl refl (λ b g. g)
+          (λ ss mine. each_filtered (λ (x : NamedSession). InStep ring end.world x.session) _ end.world.sessions ss) refl;
+      ringed_then = λ alone. absurd alone;
+    }
+
+    effect_goes : {k : Command} → IsQuiet k → (next : Played) → Effect hss_judged w k next → Onward k next
+    effect_goes quiet _ (shows _ is) = record { goes = goes_nowhere ring w.0 w.1; ringed_then = λ alone. ringed }
+    effect_goes quiet _ (times sec nsec) = record { goes = changes_go ring w.0 _ w.1 w.1 refl refl refl refl refl (λ b h. h) (λ h ss. ss) refl; ringed_then = λ alone. ringed }
+    effect_goes quiet _ (loses count) = absurd quiet
+    effect_goes quiet _ (of_nodes k ring_it next is) = absurd (no_ring k quiet ring_it)
+    effect_goes quiet _ (makes_view name names others members former s view next are also_are new own_keys small also is put) = record { goes = view_goes name s view next also put; ringed_then = λ alone. absurd alone }
+    effect_goes quiet _ (comes name id seed sets new) =
+        let a : Agent = opened (fresh_signer id seed sets) w.0.now in
+        let q : Participant = newcomer name a in
+        record { goes = newcomer_goes ring w q (record { name = name; agent = a; keeper = q.keeper; cache = []; made = []; printed = None; work = 0; left = [] }) refl new; ringed_then = λ alone. ringed }
+    effect_goes quiet _ (touches k name p q posts is touching) = record { goes = touched_goes name p q quiet is touching; ringed_then = λ alone. ringed }
+    effect_goes quiet _ (renews k name p q posts set is renewing) = record { goes = renewed_goes name p q is renewing; ringed_then = λ alone. ringed }
+    effect_goes quiet _ (opens name log pieces s t new sends begins) = record {
+      goes = changes_go ring w.0 _ w.1 _ refl refl refl refl refl (λ b c. c)
+          (λ i ss. each_append (λ (x : NamedSession). InStep ring w.0 x.session) w.0.sessions (record { name = name; session = t } ∷ []) ss (sent_step ring w.0 s t i begins, tt)) refl;
+      ringed_then = λ alone. absurd alone;
+    }
+    effect_goes quiet next (plays _ s name c end _ also is) = played_goes (one_r s ring.r (sym also ∙ ringed)) is
+
+    later_goes : {k : Command} (mid next : Played) → Onward k mid → LaterEffect hss_judged mid k next → GoesTo next.0 next.1
+    later_goes mid _ h (publishes k alone s p end also is_p over runs) =
+        let same : s ≡ ring.r = one_r s ring.r (sym also ∙ h.ringed_then alone) in
+        goes_then ring w.0 mid.0 end.world w.1 mid.1 end.story h.goes
+        (publishes_go ring mid p (end.world, end.story) is_p (end, subst (λ x. RunsOut hss_judged x p.name (record { world = mid.0; story = mid.1; session = to_publish mid.0 p; began = began_nothing }) end) same runs, refl))
+    later_goes mid _ h (replies k ended said) = goes_then ring w.0 mid.0 (replied mid.0 said) w.1 mid.1 mid.1 h.goes (replied_goes mid.0 mid.1 said)
+
+    effects_go : {k : Command} {next : Played} → IsQuiet k → Effects hss_judged w k next → GoesTo next.0 next.1
+    effects_go quiet (once {next = next} effect) = (effect_goes quiet next effect).goes
+    effects_go quiet (twice {mid = mid} {next = next} effect later) = later_goes mid next (effect_goes quiet mid effect) later
 
   pub command_goes : (w next : Played) (c : Command) (output : List ℕ) → w.0.replicas ≡ Some ring.r → IsQuiet c → Does hss_judged w c (Goes next output) → LineGoes ring w.0 w.1 next.0 next.1
-  command_goes w next c output ringed quiet does = of_command w c (Goes next output) ringed quiet does
+  command_goes w next c output ringed quiet does = effects_go w ringed quiet (lines_have_effects w next c output does)

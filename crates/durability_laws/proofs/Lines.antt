@@ -1,5 +1,5 @@
 -- Lines that change no node but by asks of sessions: the world goes on so.
-use Rattle.std.proofs.Common.{◌≡◌, ◌⊎◌, ⊎_elim, ℕ, false, List, [], ◌∷◌, map, find, Some, refl, sym, ap, ◌∙◌, subst, Contains, is_some}
+use Rattle.std.proofs.Common.{◌≡◌, ⊎_elim, ℕ, false, List, [], ◌∷◌, map, find, Some, refl, sym, ap, ◌∙◌, subst, Contains, is_some}
 use Rattle.std.specs.Prelude.{fold}
 use Rattle.std.specs.List.{AllByRecursion}
 use Rattle.std.specs.Str.{bytes_eq}

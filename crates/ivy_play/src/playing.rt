@@ -27,7 +27,7 @@ pub type Status = u8;
 /// ends the run. What follows the line `end` is not obeyed.
 ///
 /// A run is defined line by line, by the step of `world_model` together with what is promised of each line
-/// (`PromisedStep` of `stage_laws`). Three things are promised.
+/// (`PromisedStep` of `stage_laws`). Four things are promised.
 ///
 /// The headline, in every run (`Headline` of `world_laws`). Sessions may be open side by side, asks may be lost,
 /// and blocks may be damaged. If no two different blocks have one name, each reply of a turn is the answer of NFS
@@ -38,9 +38,13 @@ pub type Status = u8;
 /// block was damaged, no save failed, and fewer nodes stopped between two rounds than own a key. `IsCalmAt` of
 /// `world_laws` has all conditions. Then:
 /// - every block whose put was acknowledged is stored and can be read;
-/// - no whole call fails because a block is missing;
+/// - no whole call fails because a block is missing, and what it shows is never JUKEBOX or IO;
 /// - a round of maintenance moves each block to its owners;
 /// - in tidy scripts the turn of a whole call takes all that the members have written, and nothing else.
+///
+/// Four statuses have one cause each, by the headline's premise (`StatusesAreTold` of `stage_laws`). Where a line
+/// shows a reply with JUKEBOX or IO, its session's refresh missed what it needed. Where it shows ROFS, no signature
+/// or number was left for what its turn planned. Where it shows SERVERFAULT, a save failed.
 ///
 /// What stands in the world before each line and after it (`Stands` of `stage_laws`):
 /// - in calm scripts the ring is settled after each round, and covered except between a join and its round;

@@ -5,3 +5,4 @@ mod Signing
 pub mod Stands
 pub mod Promised
 pub mod Statuses
+mod Outputs

@@ -1,7 +1,8 @@
 -- Of what is answered on a tree nothing tells of blocks, of the key or of the keeper: neither the reply of a reading call, nor that of a plan, nor that of operations that stand.
-use Rattle.std.proofs.Common.{◌≡◌, ℕ, ◌+◌, Bool, true, false, cond, not, ◌||◌, ◌&&◌, List, [], ◌∷◌, ◌++◌, length, Option, Some, None, Result, Ok, Err, refl}
+use Rattle.std.proofs.Common.{◌≡◌, ◌⊎◌, inl, inr, ⊎_elim, ℕ, ◌+◌, Bool, true, false, cond, not, ◌||◌, ◌&&◌, List, [], ◌∷◌, ◌++◌, length, Option, Some, None, Result, Ok, Err, refl}
 use Rattle.std.specs.Prelude.{is_some, nat_lt, nat_le, ◌==◌, take, drop}
 use Rattle.std.specs.List.{list_all}
+use Rattle.std.proofs.lemmas.Bool.{eqb-true, ltb-true}
 use Rattle.ivy_base.specs.declared.key.Key.{Key}
 use Rattle.ivy_base.specs.declared.key.PubKey.{PubKey}
 use Rattle.ivy_base.specs.declared.operation.Moment.{Moment}
@@ -33,7 +34,7 @@ use Rattle.log_model.specs.Spelling.{most_records}
 use Rattle.ivy_base.specs.declared.format.Format.TheVariants.{One}
 use Rattle.turn_model.specs.Turn.{Asked, Inputs, Turned, appended, bare_tail, by_plan, own_seq}
 use Rattle.nfs_model.specs.Changing.{is_changing}
-use Rattle.stage_laws.specs.Statuses.{AnswersAreByTree, FinishesAreByTree, PlansAreByTree, TurnRefuses, TurnsRefuseSo, is_by_tree, is_of_tree, is_plan_by_tree}
+use Rattle.stage_laws.specs.Statuses.{AnswersAreByTree, FinishesAreByTree, IsSpent, PlansAreByTree, TurnRefuses, TurnsRefuseSo, is_by_tree, is_of_tree, is_plan_by_tree, plan_of_turn}
 use Rattle.stage_laws.specs.Statuses.TurnRefuses.{by_tree, by_key, by_keeper}
 
 -- ---- behind an object and checks
@@ -258,32 +259,42 @@ plans_are_by_tree t view who args now own seq = told_planned _ (plan_is_plain t 
 pub finishes_are_by_tree : FinishesAreByTree
 finishes_are_by_tree before after view who args ops = told_plain _ (finish_is_plain before after view who ops args)
 
+or_cases : (a b : Bool) → (a || b) ≡ true → (a ≡ true) ⊎ (b ≡ true)
+or_cases true b h = inl refl
+or_cases false b h = inr h
+
 module _ (a : Inputs) (s : List Record) (asked : Asked) (now : Moment) where
-  plan_refuses : (p : Plan) → is_plan_by_tree p ≡ true → TurnRefuses a asked (by_plan a s asked now p).reply
-  plan_refuses (Refuse r) h = by_tree h
-  plan_refuses (Nothing r) h = by_tree h
-  plan_refuses (Operations ops) h = of_key (a.leaves == 0 || nat_lt most_records (own_seq a.own s + length ops))
+  spent : (ops : List Op) → (a.leaves == 0 || nat_lt most_records (own_seq a.own s + length ops)) ≡ true → IsSpent a s ops
+  spent ops h = ⊎_elim
+      (λ none. inl (eqb-true a.leaves 0 none))
+      (λ many. inr (ltb-true most_records (own_seq a.own s + length ops) many))
+      (or_cases (a.leaves == 0) (nat_lt most_records (own_seq a.own s + length ops)) h)
+
+  plan_refuses : (p : Plan) → plan_of_turn a s asked now ≡ p → is_plan_by_tree p ≡ true → TurnRefuses a s asked now (by_plan a s asked now p).reply
+  plan_refuses (Refuse r) at h = by_tree h
+  plan_refuses (Nothing r) at h = by_tree h
+  plan_refuses (Operations ops) at h = of_key (a.leaves == 0 || nat_lt most_records (own_seq a.own s + length ops)) refl
     where
       wrote : List Record
       wrote = appended a.own One now s ops
 
       turned_by : Bool → Bool → Turned
-      turned_by spent failed =
-          cond spent (record { reply = reply.Refused status.RoFs (bare_tail asked.args); set = s })
+      turned_by none failed =
+          cond none (record { reply = reply.Refused status.RoFs (bare_tail asked.args); set = s })
           (cond failed (record { reply = reply.Refused status.ServerFault (bare_tail asked.args); set = s })
           (record { reply = finish (replay s) (replay wrote) a.view asked.caller asked.args ops; set = wrote }))
 
-      of_keeper : (failed : Bool) → a.has_failed ≡ failed → TurnRefuses a asked (turned_by false failed).reply
+      of_keeper : (failed : Bool) → a.has_failed ≡ failed → TurnRefuses a s asked now (turned_by false failed).reply
       of_keeper true is = by_keeper refl is
       of_keeper false is = by_tree (finishes_are_by_tree (replay s) (replay wrote) a.view asked.caller asked.args ops)
 
-      of_key : (spent : Bool) → TurnRefuses a asked (turned_by spent a.has_failed).reply
-      of_key true = by_key refl
-      of_key false = of_keeper a.has_failed refl
+      of_key : (none : Bool) → (a.leaves == 0 || nat_lt most_records (own_seq a.own s + length ops)) ≡ none → TurnRefuses a s asked now (turned_by none a.has_failed).reply
+      of_key true is = by_key ops at (spent ops is) refl
+      of_key false is = of_keeper a.has_failed refl
 
 pub turns_refuse_so : TurnsRefuseSo
 turns_refuse_so a s asked now = by (is_changing asked.args)
   where
-    by : (b : Bool) → TurnRefuses a asked (cond b (by_plan a s asked now (plan (replay s) a.view asked.caller asked.args now a.own (own_seq a.own s + 1))) (record { reply = answer (replay s) a.view asked.caller asked.args; set = s })).reply
-    by true = plan_refuses a s asked now (plan (replay s) a.view asked.caller asked.args now a.own (own_seq a.own s + 1)) (plans_are_by_tree (replay s) a.view asked.caller asked.args now a.own (own_seq a.own s + 1))
+    by : (b : Bool) → TurnRefuses a s asked now (cond b (by_plan a s asked now (plan_of_turn a s asked now)) (record { reply = answer (replay s) a.view asked.caller asked.args; set = s })).reply
+    by true = plan_refuses a s asked now (plan_of_turn a s asked now) refl (plans_are_by_tree (replay s) a.view asked.caller asked.args now a.own (own_seq a.own s + 1))
     by false = by_tree (answers_are_by_tree (replay s) a.view asked.caller asked.args)

@@ -4,3 +4,4 @@ pub mod FullRuns
 pub mod Stands
 pub mod Promise
 pub mod Statuses
+pub mod Outputs

@@ -46,7 +46,7 @@ pub fn stage_runs_fully()
 {}
 
 /// Laws and no code: what is promised of a line holds of each line of this stage from such a world: the headline, that calm scripts
-/// are served, and what stands before and after the line. So the step with its promise leads on to such worlds, each line has an
+/// are served, why a reply has a status that no tree gives, and what stands before and after the line. So the step with its promise leads on to such worlds, each line has an
 /// outcome by it, and one that is too long doesn't go on.
 pub fn stage_lines_are_promised()
     ensures promises { StagePromises }
@@ -56,7 +56,8 @@ pub fn stage_lines_are_promised()
 {}
 
 /// Laws and no code: what is answered, planned and finished on a tree is never refused with IO (5), ROFS (30), SERVERFAULT (10006) or
-/// JUKEBOX (10008). So a turn refuses by its trees, or with ROFS, or with SERVERFAULT where its keeper has failed since its start.
+/// JUKEBOX (10008). So a turn refuses by its trees; or with ROFS, where no signature or number is left for the operations that it
+/// plans; or with SERVERFAULT, where its keeper has failed since its start.
 pub fn trees_refuse_by_themselves()
     ensures answers { AnswersAreByTree }
     ensures plans { PlansAreByTree }

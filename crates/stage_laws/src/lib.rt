@@ -12,15 +12,17 @@
 //! - each script has one run in which memory never runs out, or names clash on the way
 //!   ([`stage_runs_fully`]);
 //! - the promise of a line holds of each (`Promise` in `specs/Promise.antt`), so a machine may name the step
-//!   with its promise ([`stage_lines_are_promised`]). It is the headline, service in calm scripts, and what
-//!   stands in the worlds before and after the line (`Stands` in `specs/Stands.antt`);
+//!   with its promise ([`stage_lines_are_promised`]). It is the headline, service in calm scripts, the cause of
+//!   each status that no tree gives (`StatusesAreTold` in `specs/Outputs.antt`), and what stands in the worlds
+//!   before and after the line (`Stands` in `specs/Stands.antt`);
 //! - which statuses of NFS come from the tree alone, and which from blocks, the key or the keeper
 //!   ([`trees_refuse_by_themselves`]).
 //!
-//! Definitions: `specs/Stage.antt`, `specs/Stands.antt`, `specs/Promise.antt`; statements: `specs/Laws.antt`,
-//! `specs/FullRuns.antt`, `specs/Statuses.antt`. Lemmas: `proofs/Stage.antt` (lines), `proofs/Stands.antt` (worlds),
-//! `proofs/Signing.antt` (what leaves sign), `proofs/Promised.antt`, `proofs/Replies.antt` (runs),
-//! `proofs/FullRuns.antt`, `proofs/Statuses.antt`.
+//! Definitions: `specs/Stage.antt`, `specs/Stands.antt`, `specs/Outputs.antt`, `specs/Promise.antt`; statements:
+//! `specs/Laws.antt`, `specs/FullRuns.antt`, `specs/Statuses.antt`. Lemmas: `proofs/Stage.antt` (lines),
+//! `proofs/Stands.antt` (worlds), `proofs/Signing.antt` (what leaves sign), `proofs/Outputs.antt` (what the bytes
+//! of a reply line tell), `proofs/Promised.antt`, `proofs/Replies.antt` (runs), `proofs/FullRuns.antt`,
+//! `proofs/Statuses.antt`.
 #![tactic(auto)]
 
 mod laws;

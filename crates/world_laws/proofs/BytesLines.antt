@@ -22,6 +22,7 @@ use Rattle.world_model.specs.Step.{Does}
 use Rattle.world_model.specs.World.{NamedSession, World, named_bytes, session_named, without_session}
 use Rattle.world_laws.specs.FullRuns.{BytesCome, EmptyHasBytes, GivesBytes, HasBytes, IsOfBytes, IsSaidWell, given_of, MessagesAreBytes, Sends}
 use Rattle.world_laws.specs.FullTurns.{AreBytes}
+use Rattle.world_laws.specs.Effects.{IsOfSessions}
 use Rattle.world_laws.specs.Keeps.{Keeps}
 use Rattle.world_laws.proofs.AllLines.{does_line}
 use Rattle.world_laws.proofs.BytesSteps.{begins_bytes, runs_bytes, steps_bytes}
@@ -30,7 +31,7 @@ use Rattle.world_laws.proofs.LineFits.{Fits, command_fits}
 use Rattle.world_laws.proofs.OneCalls.{begins_by, found_session, replied_named}
 use Rattle.world_laws.proofs.Opening.{sent_by}
 use Rattle.world_laws.proofs.PieceBytes as pieces
-use Rattle.world_laws.proofs.QuietLines.{IsOfSessions, StaysQuiet, quiet_command, runs_same, steps_same}
+use Rattle.world_laws.proofs.QuietLines.{StaysQuiet, quiet_command, runs_same, steps_same}
 
 abbrev SessionOfBytes : NamedSession → Type 0
 SessionOfBytes s = IsOfBytes s.session

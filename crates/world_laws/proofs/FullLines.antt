@@ -30,6 +30,7 @@ use Rattle.world_model.specs.Story.{beginning, having_begun, with_began, without
 use Rattle.world_model.specs.World.{NamedSession, Participant, World, entries, named_bytes, participant, session_named, with_session, without_session}
 use Rattle.world_laws.specs.Causes.{HasCause, said_at}
 use Rattle.world_laws.specs.FullRuns.{Clashes, FullLines, HasBytes, HaveRoom}
+use Rattle.world_laws.specs.Effects.{IsOfSessions}
 use Rattle.world_laws.specs.Keeps.{HasSaid, IsAtStage, Keeps}
 use Rattle.world_laws.specs.Laws.{CanBeDone, HadMemory, HasMemoryIn}
 use Rattle.world_laws.proofs.Apart.{clash_is_decided}
@@ -46,7 +47,7 @@ use Rattle.world_laws.proofs.OneCalls.{begins_by, found_session, replied_named, 
 use Rattle.world_laws.proofs.OneSteps.{GoesWell, over_steps}
 use Rattle.world_laws.proofs.Opening.{sent_by}
 use Rattle.world_laws.proofs.PieceBytes as pieces
-use Rattle.world_laws.proofs.QuietLines.{IsOfSessions, Quietly, quiet_command, runs_same, steps_same}
+use Rattle.world_laws.proofs.QuietLines.{Quietly, quiet_command, runs_same, steps_same}
 use Rattle.world_laws.proofs.SessionLinesSteps.{runs_lead}
 use Rattle.world_laws.proofs.ShownReplies.{cause_shows, lack_shown}
 

@@ -1,7 +1,6 @@
 pub mod Examples
 pub mod Apart
 pub mod Shows
-pub mod Growing
 pub mod LineKinds
 pub mod Leaves
 pub mod Still
@@ -9,6 +8,7 @@ pub mod Bringing
 pub mod NotRefused
 pub mod SecondTurns
 pub mod DoneSteps
+mod NotMisled
 pub mod FirstWorld
 pub mod Alike
 pub mod OtherLogs
@@ -102,6 +102,9 @@ pub mod EachLine
 pub mod CalmNodes
 pub mod CalmPuts
 pub mod CalmStates
+pub mod Moves
+pub mod Effects
+pub mod Growing
 pub mod CalmSteps
 pub mod CalmScenes
 pub mod CalmLines

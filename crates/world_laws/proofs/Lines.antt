@@ -106,22 +106,7 @@ still_lines_keep (command.At sec nsec) still w next output keeps does = by_world
 still_lines_keep (command.Lose count) still w next output keeps does = by_world w.1 (lose_line w.0 count) next output does (lose_keeps w keeps count)
 still_lines_keep (command.Show shown) still w next output keeps does = by_world w.1 (show_line w.0 shown) next output does (shows_are_still w.0 shown (Keeping w.1) (λ text. keeps) tt tt)
 still_lines_keep command.Nothing still w next output keeps does = subst (λ (x : Outcome Played). ToSuch Keeps x) (sym does) keeps
-still_lines_keep (command.Ring nodes replicas) still w next output keeps does = absurd still
-still_lines_keep (command.Log log id seed sets) still w next output keeps does = absurd still
-still_lines_keep (command.View view members former) still w next output keeps does = absurd still
-still_lines_keep (command.Use log view) still w next output keeps does = absurd still
-still_lines_keep (command.As log pieces) still w next output keeps does = absurd still
-still_lines_keep (command.Open session log pieces) still w next output keeps does = absurd still
-still_lines_keep (command.Step session count) still w next output keeps does = absurd still
-still_lines_keep (command.Finish session) still w next output keeps does = absurd still
-still_lines_keep (command.Join number) still w next output keeps does = absurd still
-still_lines_keep (command.Stop at_node) still w next output keeps does = absurd still
-still_lines_keep command.Round still w next output keeps does = absurd still
-still_lines_keep (command.Damage at_node key offset byte) still w next output keeps does = absurd still
-still_lines_keep (command.Snap log) still w next output keeps does = absurd still
-still_lines_keep (command.Restart log) still w next output keeps does = absurd still
-still_lines_keep (command.Keep log count new) still w next output keeps does = absurd still
-still_lines_keep command.End still w next output keeps does = absurd still
+still_lines_keep _ still w next output keeps does = absurd still
 
 -- ---- a node in its place
 

@@ -57,7 +57,7 @@ no_basis {s = s} (fetching basis loads fetches) none = ap (counting s.floor) (no
 not_some : (o : Option Basis) (b : Basis) → o ≡ None → o ≡ Some b → ⊥
 not_some o b none some = cc (sym none ∙ some)
 
-started_held : {s : Standing} {brought : List Brought} {notes : List Note} {given : Refresh} {end : RefreshEnd} → Refreshes s brought notes given end → s.to_load ≡ None → given.started ≡ s.held
+pub started_held : {s : Standing} {brought : List Brought} {notes : List Note} {given : Refresh} {end : RefreshEnd} → Refreshes s brought notes given end → s.to_load ≡ None → given.started ≡ s.held
 started_held {given = given} refreshes none = ⊎_elim (λ held. held) (λ f. absurd (not_some given.basis f.0 (no_basis refreshes none) f.1)) (started_from refreshes)
 
 -- ---- of a session's agent

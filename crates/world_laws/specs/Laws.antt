@@ -14,7 +14,8 @@ use Rattle.log_model.specs.Vector.{Entry, Stamp, Vector, stamp_at}
 use Rattle.log_model.specs.View.{View, IsView}
 use Rattle.log_model.specs.ViewKeys.{HasKeys}
 use Rattle.nfs_model.specs.declared.replies.Reply.{Reply}
-use Rattle.turn_model.specs.Basis.{Holding, Knows}
+use Rattle.turn_model.specs.Basis.{Holding, Knows, fresh_basis}
+use Rattle.turn_model.specs.Candidates.{AreCandidates}
 use Rattle.turn_model.specs.Known.{EndsAt, IsKnown}
 use Rattle.turn_model.specs.Turn.{Asked, Candidate, IsPrefixOf, Turned}
 use Rattle.dht_ids.specs.declared.ask.Answer.{Answer}
@@ -27,12 +28,12 @@ use Rattle.hash_signature_model.specs.declared.keys.PrivateKey.{PrivateKey}
 use Rattle.hash_signature_model.specs.declared.set.Set.{Set}
 use Rattle.hash_signature_model.specs.Signer.{Signer, leaf_used, left_of, lower_key, signed_lower}
 use Rattle.hss_keys.specs.Signer.{leaves_used}
-use Rattle.agent_model.specs.Agent.{kept_of}
+use Rattle.agent_model.specs.Agent.{joined, kept_of}
 use Rattle.agent_model.specs.Others.{basis_of}
 use Rattle.agent_model.specs.SavedBytes.{ArePostsSpelled}
-use Rattle.agent_model.specs.Candidates.{AreCandidatesOf, Brings, Grounds, MayTurn}
+use Rattle.agent_model.specs.Candidates.{AreCandidatesOf, Brings, Grounds, IsMisled, MayTurn, evidence_in}
 use Rattle.agent_model.specs.Turning.{Answered, Becomes, MayTake, TurnEnd, Turns}
-use Rattle.agent_model.specs.Standing.{Refresh, Standing}
+use Rattle.agent_model.specs.Standing.{Refresh, Standing, edges_of}
 use Rattle.session_model.specs.Brought.{Brought, Want}
 use Rattle.session_model.specs.Refreshing.{Needs, Note, RefreshEnd, Refreshes}
 use Rattle.session_model.specs.Sessions.{Cache, Hears, Said, TakesAll, TakesSome, Session, Refreshing, Over}
@@ -474,6 +475,22 @@ FreshTurnsAreAnswered = (c next : Scene) (r : ℕ) (notes : List Note) (given : 
     → NamesTellApart (named_bytes c.world) → c.world.replicas ≡ Some r → IsInHand c r
     → (sound : IsSoundSession c.world c.story c.session c.began) → BeganFresh c.session sound.of
     → HasRefreshed c.session notes given → Steps hss_judged r c.session.by c next → HasTurned c next ⊎ LacksMemory c.session next.session
+
+-- ---- nothing misleads without a snapshot
+
+-- What a session begins with where its agent has no basis: of each log from whose record its refresh starts it holds a record, so it knows
+-- that record's vector, and isn't misled.
+abbrev pub FreshStandingsDontMislead : Type 0
+FreshStandingsDontMislead = (g : Grounds) (view : View) (of : Holding) (owner : PubKey) (records : List Record)
+    → Knows view g.standing.floor of g.knew → of.basis ≡ fresh_basis → g.standing.held ≡ joined of → g.standing.edges ≡ edges_of of
+    → Contains view.members owner → IsMisled g view g.standing.held owner records → ⊥
+
+-- So the candidates of a session that began with no snapshot to load and no basis are told by its heads alone, whatever was met.
+abbrev pub FreshCandidatesAreByHeads : Type 0
+FreshCandidatesAreByHeads = (w : World) (st : Story) (s : Session) (b : Began) (met : List (List ℕ)) (notes : List Note) (given : Refresh)
+    (candidates : List Candidate) → (sound : IsSoundSession w st s b) → BeganFresh s sound.of → HasRefreshed s notes given
+    → AreCandidatesOf (grounds_of met s b.knew) s.standing.view given.started candidates
+    → AreCandidates (evidence_in (grounds_of met s b.knew) s.standing.view) candidates
 
 -- ---- publishing as a whole
 

@@ -8,3 +8,5 @@ pub mod Frames
 pub mod Calm
 pub mod FullTurns
 pub mod FullRuns
+pub mod Moves
+pub mod Effects

@@ -13,6 +13,7 @@
 //! - `specs/FullTurns.antt`: turns that exist;
 //! - `specs/FullRuns.antt`: the run in which memory never runs out;
 //! - `specs/Frames.antt`: what may change in a world while the invariant stays;
+//! - `specs/Effects.antt`: what a command leaves of a world, and `specs/Moves.antt`: a session's step;
 //! - `specs/Calm.antt`: rings that change little.
 //!
 //! For the layers above: say that a world satisfies the invariant, and that no two different blocks have one
@@ -24,7 +25,10 @@
 //! - `proofs/Bringing.antt`: what `Keeps` says of a session and its agent;
 //! - `proofs/NotRefused.antt`: an agent that holds all that it knows isn't behind, and one without a basis
 //!   isn't below the tide; also `proofs/SecondTurns.antt`, `proofs/DoneSteps.antt`;
+//! - `proofs/NotMisled.antt`: one without a basis knows the vector of each record from which it fetches;
 //! - `proofs/SignedHeads.antt`: what holds of the agent whose bytes a keeper holds;
+//! - `proofs/Effects.antt`: what holds after each effect holds after each line (`by_effects`);
+//! - `proofs/Moves.antt`: what holds after each move holds after each step (`all_moves`);
 //! - `proofs/Frames.antt`: changes of a world's nodes and of one participant;
 //! - `proofs/Publishing.antt`: an ask by which only what was met is put;
 //! - `proofs/OneTruth.antt`: linked records that end at one record;
@@ -93,12 +97,13 @@
 #![tactic(auto)]
 
 ghost use Rattle.world_laws.specs.Messages.{EachMessageBecomesOne, EachMessageIsOne};
+ghost use Rattle.world_laws.specs.Effects.{LinesHaveEffects, LinesShowTexts};
 ghost use Rattle.world_laws.specs.Calm.{AreAny, RingStays};
 ghost use Rattle.world_laws.specs.Frames.{DamageLinesKeep, JoinLinesKeep, KeeperLinesKeep, LogLinesKeep, MildChangesKeep, MoreBlocksKeep, RestartLinesKeep, RingLinesKeep, RoundLinesKeep, StillLinesKeep, StopLinesKeep, UseLinesKeep, ViewLinesKeep};
 ghost use Rattle.world_laws.specs.FullRuns.{BytesCome, EmptyHasBytes, EmptyPublishesFew, FewPostsCome, FullLines, FullScripts, FullStarts, MemoryIsDecided, MessagesAreBytes, ThereIsRoom};
 ghost use Rattle.world_laws.specs.FullTurns.{SessionsEndOrClash, SessionsGoToTheirEnds, TurnsExist};
 ghost use Rattle.world_laws.specs.Kinds.{LineHasOneKind};
-ghost use Rattle.world_laws.specs.Laws.{AlikeTurnsAnswerAlike, AllStepsKeep, AnsweredTurnsKeep, CallLinesKeep, CallsBegin, ClashIsDecided, DoneRefreshesStep, EachLineDoesSomething, EachReplyIsOnReplay, EachScriptHasARun, EachSessionEnds, EmptyKeeps, FewerStayApart, FreshTurnsAreAnswered, FullRunsAreOne, GetsBringKeep, GetsGoOnKeep, HeadlineHolds, HeadsAreSavedFirst, HeldIsSpelled, KeptOnce, KnownIsOne, LackingKeeps, LackingStepsKeep, LeafSignsOnce, LinesKeep, ManyStepsAreOne, ManyStepsKeep, MetGrows, NoSnapshotComes, OneTruth, OpenLineKeeps, OtherLogsDontCount, OthersHaveNoTurn, PublishingIsOne, PublishingKeeps, PutsKeep, ReceivingKeeps, RefreshBrings, RefreshEndsInTurn, RefreshMayTurn, RefreshesEnd, RefreshesRunOut, RefusedTurnsKeep, SecondTurnIsAnswered, SessionsEndOnce, SessionsGoFully, SessionsStepOnce, SettlingKeeps, SnapLinesKeep, StepsAreOne, StepsKeep, StillLinesChangeNothing, TakingKeeps, TurnsAreSaved, UpperLeavesSignOnce, VainAsksKeep, WholePublishingKeeps};
+ghost use Rattle.world_laws.specs.Laws.{AlikeTurnsAnswerAlike, AllStepsKeep, AnsweredTurnsKeep, CallLinesKeep, CallsBegin, ClashIsDecided, DoneRefreshesStep, EachLineDoesSomething, EachReplyIsOnReplay, EachScriptHasARun, EachSessionEnds, EmptyKeeps, FewerStayApart, FreshCandidatesAreByHeads, FreshStandingsDontMislead, FreshTurnsAreAnswered, FullRunsAreOne, GetsBringKeep, GetsGoOnKeep, HeadlineHolds, HeadsAreSavedFirst, HeldIsSpelled, KeptOnce, KnownIsOne, LackingKeeps, LackingStepsKeep, LeafSignsOnce, LinesKeep, ManyStepsAreOne, ManyStepsKeep, MetGrows, NoSnapshotComes, OneTruth, OpenLineKeeps, OtherLogsDontCount, OthersHaveNoTurn, PublishingIsOne, PublishingKeeps, PutsKeep, ReceivingKeeps, RefreshBrings, RefreshEndsInTurn, RefreshMayTurn, RefreshesEnd, RefreshesRunOut, RefusedTurnsKeep, SecondTurnIsAnswered, SessionsEndOnce, SessionsGoFully, SessionsStepOnce, SettlingKeeps, SnapLinesKeep, StepsAreOne, StepsKeep, StillLinesChangeNothing, TakingKeeps, TurnsAreSaved, UpperLeavesSignOnce, VainAsksKeep, WholePublishingKeeps};
 
 /// Law: of any blocks, either no two different ones have one name, or two of them clash.
 pub fn clashes_are_decided()
@@ -148,6 +153,13 @@ pub fn second_turns_are_answered()
 pub fn done_refreshes_have_turns()
     ensures turns { RefreshEndsInTurn }
     ensures fresh { FreshTurnsAreAnswered }
+{}
+
+/// Laws: without a snapshot nothing misleads. A session that began with no basis, and loads none, knows the
+/// vector of each held record from which it fetches a log. So its candidates are told by its heads alone.
+pub fn nothing_misleads_without_a_snapshot()
+    ensures standings { FreshStandingsDontMislead }
+    ensures candidates { FreshCandidatesAreByHeads }
 {}
 
 /// Law: a script begins in a world that satisfies the invariant.
@@ -276,6 +288,13 @@ pub fn lines_of_calls_keep()
     ensures many { ManyStepsKeep }
     ensures all { AllStepsKeep }
     ensures lines { CallLinesKeep }
+{}
+
+/// Laws: a line that goes on has the effects of its command: one, or one and then a later one. And it shows
+/// what its command may show.
+pub fn lines_have_effects()
+    ensures effects { LinesHaveEffects }
+    ensures texts { LinesShowTexts }
 {}
 
 /// Law: in a command by which no session goes on no turn is had, whatever the world.
