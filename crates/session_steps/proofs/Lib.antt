@@ -16,3 +16,4 @@ mod Parts
 mod Arms
 pub mod Members
 pub mod Meeting
+pub mod Ordered

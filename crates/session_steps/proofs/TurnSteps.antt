@@ -40,7 +40,6 @@ use Rattle.ivy_agent.specs.Bounds.{HasBounds}
 use Rattle.ivy_agent.specs.Holders.{Holder}
 use Rattle.ivy_agent.specs.Saves.{Saves}
 use Rattle.ivy_agent.specs.Turns.{IsFetchedIn, TurnsAs}
-use Rattle.ivy_session.specs.declared.session.Next.TheVariants as next
 use Rattle.ivy_session.specs.States.{IsSession, SessionState, asked_at, is_turning, session_awaited}
 use Rattle.ivy_session.specs.Stepping.{IsAnewFor, TurnedIs}
 use Rattle.ivy_session.specs.Stepping as code

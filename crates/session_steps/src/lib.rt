@@ -17,8 +17,8 @@
 //! - Running out of memory ends everything.
 //!
 //! [`MetBlocks`] are the blocks that a script has met, each once, and how many bytes they have. Contracts see
-//! them in the order of their bytes. They speak of each list of the definitions that has the same blocks and
-//! as many bytes (`AreMet` in `specs/MetState.antt`).
+//! each block with its place, and speak of the list of the definitions that has the same blocks in the order
+//! in which they were met (`AreMet` in `specs/MetState.antt`). [`MetBlocks::in_order`] copies that list.
 //!
 //! Definitions: `specs/Scenes.antt`, `specs/Showing.antt`, `specs/Ending.antt`. Within: `specs/Laws.antt`
 //! (the laws' statements) and `specs/Within.antt` (the contracts of the calls within a step).
@@ -34,7 +34,7 @@
 //! What is said of a session alone, whoever drives it, is in the lemmas of `ivy_session`.
 //!
 //! Costs: meeting a block takes as many comparisons as the logarithm of the number of blocks. A new block is
-//! copied once; nothing is hashed.
+//! copied once; nothing is hashed. Each block is kept once, with its place.
 #![tactic(auto)]
 
 mod ending;

@@ -1,20 +1,21 @@
 //! Blocks that were met.
 
-ghost use Rattle.std.specs.Prelude.{◌≡◌, ℕ, List, [], length, take, OnOk, OnErr};
+ghost use Rattle.std.specs.Prelude.{◌≡◌, ℕ, List, [], length, set, take, IfOk, OnOk, OnErr};
 ghost use Rattle.std.specs.List.{sum_by};
 ghost use Rattle.world_model.specs.Steps.{met_by};
 ghost use Rattle.world_model.specs.World.{meets};
 
 use dht_ids::Post;
-use ivy_base::Memory;
+use ivy_base::{Bytes, Memory};
 use std::alloc::Global;
-use std::collections::BTreeSet;
+use std::collections::BTreeMap;
 use std::marker::Model;
 
-/// The blocks that were met, each once, and how many bytes they have in all.
+/// The blocks that were met, each once, in the order in which they were met, and how many bytes they have in all.
 #[derive(Drop)]
 pub struct MetBlocks {
-    blocks: BTreeSet<Vec<u8>>,
+    /// Each block with its place: how many were met before it.
+    places: BTreeMap<Vec<u8>, usize>,
     bytes: u64,
 }
 
@@ -24,7 +25,7 @@ impl Model for MetBlocks {
 
     ghost Value = { MetState };
 
-    ghost view = { λ m. record { blocks = map (λ b. b.items) m.blocks.keys; bytes = m.bytes } };
+    ghost view = { λ m. record { places = map (λ e. (e.0.items, e.1)) m.places.entries; bytes = m.bytes } };
 }
 
 impl MetBlocks {
@@ -35,7 +36,7 @@ impl MetBlocks {
         ensures { AreMet [] result }
     {
         MetBlocks {
-            blocks: BTreeSet::new(alloc),
+            places: BTreeMap::new(alloc),
             bytes: 0,
         }
     }
@@ -45,13 +46,14 @@ impl MetBlocks {
         ensures met { OnOk result ((met : List (List ℕ)) → AreMet met self.old → AreMet (meets met block.now) self.new) }
         ensures unchanged { OnErr result (self.new ≡ self.old) }
     {
-        if self.blocks.contains(block) {
+        if self.places.contains_key(block) {
             return Ok(());
         }
         let Some(bytes) = self.bytes.checked_add(block.len() as u64) else {
             return Err(Memory);
         };
-        self.blocks.insert(block.to_vec(alloc)?)?;
+        let place = self.places.len();
+        self.places.insert(block.to_vec(alloc)?, place)?;
         self.bytes = bytes;
         Ok(())
     }
@@ -72,5 +74,40 @@ impl MetBlocks {
         ensures { (met : List (List ℕ)) → AreMet met self.now → result ≡ sum_by (λ block. length block) met }
     {
         self.bytes
+    }
+
+    /// Copies of the blocks, in the order in which they were met. The error is want of memory.
+    pub fn in_order(&self, alloc: Global) -> Result<Vec<Bytes>, Memory>
+        ensures { IfOk result (λ blocks. (met : List (List ℕ)) → AreMet met self.now → blocks.items ≡ met) }
+    {
+        let mut blocks = empty_blocks(alloc, self.places.len())?;
+        'places: for (block, place) in self.places.iter() {
+            put_at(
+                &mut blocks,
+                *place,
+                Bytes::copy_of(alloc, block.as_slice())?,
+            );
+        }
+        Ok(blocks)
+    }
+}
+
+/// So many blocks of no bytes. The error is want of memory.
+fn empty_blocks(alloc: Global, count: usize) -> Result<Vec<Bytes>, Memory>
+    ensures { IfOk result (λ blocks. length blocks.items ≡ count) }
+{
+    let mut blocks = Vec::with_capacity(alloc, count)?;
+    'slots: for _ in 0..count {
+        blocks.push(Bytes::of(Vec::new(alloc)))?;
+    }
+    Ok(blocks)
+}
+
+/// Puts the block in the place of the one that stands there, if there is such a place.
+fn put_at(blocks: &mut Vec<Bytes>, place: usize, block: Bytes)
+    ensures { blocks.new.items ≡ set blocks.old.items place block }
+{
+    if place < blocks.len() {
+        blocks[place] = block;
     }
 }
