@@ -181,6 +181,10 @@ conflicts : command_of (codes "conflicts a") ≡ Some (command.Show (shown.Confl
 unfolding command_of
 conflicts = refl
 
+proof : command_of (codes "proof a") ≡ Some (command.Show (shown.Proof (codes "a")))
+unfolding command_of
+proof = refl
+
 -- ---- lines
 
 end : command_of (codes "end") ≡ Some command.End

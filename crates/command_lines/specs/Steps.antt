@@ -74,3 +74,4 @@ abbrev pub shown_asked : ShownAsked → List ℕ → Shown
 shown_asked asks.Order = shown.Order
 shown_asked asks.Work = shown.Work
 shown_asked asks.Conflicts = shown.Conflicts
+shown_asked asks.Proof = shown.Proof

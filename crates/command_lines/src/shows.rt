@@ -21,6 +21,8 @@ enum ShownAsked {
     Work,
     /// `conflicts P`.
     Conflicts,
+    /// `proof P`.
+    Proof,
 }
 
 /// What is shown of a participant, of the words behind the first: its name alone. The error is want of memory.
@@ -38,6 +40,7 @@ fn of_log(alloc: Global, asked: ShownAsked, words: &[&[u8]]) -> Result<Option<Sh
         ShownAsked::Order => Shown::Order { log },
         ShownAsked::Work => Shown::Work { log },
         ShownAsked::Conflicts => Shown::Conflicts { log },
+        ShownAsked::Proof => Shown::Proof { log },
     }))
 }
 
@@ -63,6 +66,8 @@ fn shown(alloc: Global, word: &[u8], words: &[&[u8]]) -> Result<Option<Shown>, M
         of_log(alloc, ShownAsked::Work, words)
     } else if is(word, b"conflicts") {
         of_log(alloc, ShownAsked::Conflicts, words)
+    } else if is(word, b"proof") {
+        of_log(alloc, ShownAsked::Proof, words)
     } else {
         Ok(None)
     }

@@ -16,7 +16,7 @@ use Rattle.world_model.specs.Fates.{FateOf, Fates}
 use Rattle.world_model.specs.Fates.FateOf.{lost as ask_lost, stopped as ask_stopped, answers as ask_answered}
 use Rattle.world_model.specs.Fates.Fates.{none as no_asks, more as more_asks}
 use Rattle.world_model.specs.Faults.{damage_by, damage_line, damaged_to, key_named, lose_line, node_named}
-use Rattle.world_model.specs.Shows.{show_line}
+use Rattle.world_model.specs.Shows.{Shows}
 use Rattle.world_model.specs.Logs.{Played, ViewLine, at_line, goes_if, keep_by, keep_line}
 use Rattle.world_model.specs.Logs.ViewLine.{known as view_known, no_members, no_former, one_head_key, exceeds as view_exceeds, makes as view_makes}
 use Rattle.world_model.specs.Nodes.{Node}
@@ -79,7 +79,7 @@ keep_stays log count new w = by (participant w log)
     by None = tt
     by (Some p) = goes_if_stays w _ (nat_lt 0 count) refl
 
-pub show_stays : (s : Shown) (w : World) → Stays w.replicas (show_line w s)
+pub show_stays : (s : Shown) (w : World) (outcome : Outcome World) → Shows w s outcome → Stays w.replicas outcome
 show_stays s w = shows_are_still w s (Stays w.replicas) (λ text. refl) tt tt
 
 -- ---- by asks

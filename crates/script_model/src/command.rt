@@ -181,6 +181,8 @@ pub enum Shown {
     Work { log: Bytes },
     /// `conflicts P`: which of the records that the participant holds are in conflict.
     Conflicts { log: Bytes },
+    /// `proof P`: that the participant's log was signed into two histories.
+    Proof { log: Bytes },
 }
 
 /// What a line of a script asks for.

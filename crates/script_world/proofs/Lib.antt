@@ -16,3 +16,4 @@ pub mod Returning
 pub mod Apart
 pub mod Sorting
 pub mod Passing
+pub mod Telling

@@ -1,37 +1,51 @@
 //! Lines that show something.
 
-ghost use Rattle.std.specs.Prelude.{◌≡◌, ◌++◌, [], ◌∷◌, codes, length, IfOk, OnOk};
+ghost use Rattle.std.specs.Prelude.{◌≡◌, ◌++◌, [], ◌∷◌, codes, length, take, drop, filter, IfOk, OnOk};
 ghost use Rattle.std.specs.Fmt.{decimal};
+ghost use Rattle.std.specs.Ordering.{eq_by_cmp};
 ghost use Rattle.hex.specs.Hex.{encode_lower};
+ghost use Rattle.ivy_base.specs.Naming.{owner_cmp};
+ghost use Rattle.log_model.specs.Heads.{owner_in};
+ghost use Rattle.world_model.specs.Shows.{proof_text};
 ghost use Rattle.script_world.specs.Held.{key_lines};
 
 use crate::parts::Parts;
 use dht_ids::Post;
-use ivy_base::{Key, Memory};
+use fork_proof::find;
+use ivy_base::{Bytes, Key, Memory, PubKey};
 use script_driver::Taken;
 use script_model::{NodeWord, Shown};
 use std::alloc::Global;
 
 impl Parts {
     ghost use Rattle.script_model.specs.declared.command.Shown.TheVariants as shown;
-    ghost use Rattle.world_model.specs.Shows.{show_line};
+    ghost use Rattle.fork_model.specs.Before.{Before, TellsRecords};
+    ghost use Rattle.world_model.specs.Shows.{Shows, show_line};
     ghost use Rattle.script_world.specs.PartsState.{DoesIn};
 
     /// A line that shows something. The error is want of memory.
     pub fn show(&self, alloc: Global, what: &Shown) -> Result<Taken, Memory>
-        ensures { IfOk result (λ taken. DoesIn (λ w outcome. outcome ≡ show_line w what.now) self.now taken self.now) }
+        ensures { IfOk result (λ taken. DoesIn (λ w outcome. Shows w what.now outcome) self.now taken self.now) }
+    {
+        self.show_by(alloc, what)
+    }
+
+    /// The same, by whatever tells which of the blocks met are records. The error is want of memory.
+    fn show_by(&self, alloc: Global, what: &Shown) -> Result<Taken, Memory>
+        ensures { (before : Before) → TellsRecords before → IfOk result (λ taken. DoesIn (λ w outcome. outcome ≡ show_line before w what.now) self.now taken self.now) }
     {
         match what {
             Shown::Holds { node } => self.holds(alloc, node),
             Shown::Order { log } => self.order(alloc, log.as_slice()),
             Shown::Work { log } => self.work(alloc, log.as_slice()),
             Shown::Conflicts { log } => self.conflicts(alloc, log.as_slice()),
+            Shown::Proof { log } => self.proof(alloc, log.as_slice()),
         }
     }
 
     /// The line `holds`: shows the keys of the blocks that a live node holds, ascending. The error is want of memory.
     fn holds(&self, alloc: Global, node: &NodeWord) -> Result<Taken, Memory>
-        ensures { IfOk result (λ taken. DoesIn (λ w outcome. outcome ≡ show_line w (shown.Holds node.now)) self.now taken self.now) }
+        ensures { (before : Before) → IfOk result (λ taken. DoesIn (λ w outcome. outcome ≡ show_line before w (shown.Holds node.now)) self.now taken self.now) }
     {
         let Some(peer) = self.peer_named(alloc, node)? else {
             return Ok(Taken::Refused);
@@ -44,7 +58,7 @@ impl Parts {
 
     /// The line `order`: shows the records that a participant in a view holds. The error is want of memory.
     fn order(&self, alloc: Global, log: &[u8]) -> Result<Taken, Memory>
-        ensures { IfOk result (λ taken. DoesIn (λ w outcome. outcome ≡ show_line w (shown.Order log.now)) self.now taken self.now) }
+        ensures { (before : Before) → IfOk result (λ taken. DoesIn (λ w outcome. outcome ≡ show_line before w (shown.Order log.now)) self.now taken self.now) }
     {
         let Some(one) = self.participants.named(log) else {
             return Ok(Taken::Refused);
@@ -58,7 +72,7 @@ impl Parts {
     /// The line `work`: shows how many records a participant's last turn applied, where it is in a view. The error is want of
     /// memory.
     fn work(&self, alloc: Global, log: &[u8]) -> Result<Taken, Memory>
-        ensures { IfOk result (λ taken. DoesIn (λ w outcome. outcome ≡ show_line w (shown.Work log.now)) self.now taken self.now) }
+        ensures { (before : Before) → IfOk result (λ taken. DoesIn (λ w outcome. outcome ≡ show_line before w (shown.Work log.now)) self.now taken self.now) }
     {
         let Some(one) = self.participants.named(log) else {
             return Ok(Taken::Refused);
@@ -72,7 +86,7 @@ impl Parts {
     /// The line `conflicts`: shows which of the records that a participant in a view holds are in conflict. It meets a limit where
     /// there are more than 1,000,000 pairs. The error is want of memory.
     fn conflicts(&self, alloc: Global, log: &[u8]) -> Result<Taken, Memory>
-        ensures { IfOk result (λ taken. DoesIn (λ w outcome. outcome ≡ show_line w (shown.Conflicts log.now)) self.now taken self.now) }
+        ensures { (before : Before) → IfOk result (λ taken. DoesIn (λ w outcome. outcome ≡ show_line before w (shown.Conflicts log.now)) self.now taken self.now) }
     {
         let Some(one) = self.participants.named(log) else {
             return Ok(Taken::Refused);
@@ -85,6 +99,75 @@ impl Parts {
             None => Ok(Taken::Exceeded),
         }
     }
+
+    /// The line `proof`: shows that a participant's log was signed into two histories, where the blocks met show it. The error is
+    /// want of memory.
+    fn proof(&self, alloc: Global, log: &[u8]) -> Result<Taken, Memory>
+        ensures { (before : Before) → TellsRecords before → IfOk result (λ taken. DoesIn (λ w outcome. outcome ≡ show_line before w (shown.Proof log.now)) self.now taken self.now) }
+    {
+        let Some(one) = self.participants.named(log) else {
+            return Ok(Taken::Refused);
+        };
+        let blocks = self.met.in_order(alloc)?;
+        let heads = heads_of(alloc, &one.owner(), blocks.as_slice())?;
+        let found = find(alloc, heads.as_slice(), blocks.as_slice())?;
+        Ok(Taken::Went(found_text(alloc, &found)?))
+    }
+}
+
+/// Copies of the blocks in which that public key stands where a head has its owner's. The error is want of memory.
+fn heads_of(alloc: Global, owner: &PubKey, blocks: &[Bytes]) -> Result<Vec<Bytes>, Memory>
+    ensures { IfOk result (λ heads. heads.items ≡ filter (λ b. eq_by_cmp owner_cmp (owner_in b) owner.now) blocks.now) }
+{
+    let mut heads = Vec::new(alloc);
+    'each: for block in blocks {
+        if is_of(block.as_slice(), owner) {
+            heads.push(block.copy(alloc)?)?;
+        }
+    }
+    Ok(heads)
+}
+
+/// Whether that public key stands in the block where a head has its owner's.
+fn is_of(block: &[u8], owner: &PubKey) -> bool
+    ensures { result ≡ eq_by_cmp owner_cmp (owner_in block.now) owner.now }
+{
+    first(behind(block, 4), 60) == owner.0.as_slice()
+}
+
+/// What stands behind so many bytes.
+fn behind(bytes: &[u8], count: usize) -> &[u8]
+    ensures { result.now ≡ drop count bytes.now }
+{
+    &bytes[count.min(bytes.len())..]
+}
+
+/// So many first bytes, or all where there are fewer.
+fn first(bytes: &[u8], count: usize) -> &[u8]
+    ensures { result.now ≡ take count bytes.now }
+{
+    &bytes[..count.min(bytes.len())]
+}
+
+/// What is shown of a proof that was found, or of none. The error is want of memory.
+fn found_text(alloc: Global, found: &Option<Bytes>) -> Result<Vec<u8>, Memory>
+    ensures { IfOk result (λ text. text.items ≡ codes "proof" ++ 32 ∷ proof_text found.now) }
+{
+    match found {
+        Some(proof) => digits_text(alloc, proof.as_slice()),
+        None => Ok(b"proof none\n".to_vec(alloc)?),
+    }
+}
+
+/// What is shown of a proof. The error is want of memory.
+fn digits_text(alloc: Global, proof: &[u8]) -> Result<Vec<u8>, Memory>
+    ensures { IfOk result (λ text. text.items ≡ codes "proof " ++ encode_lower proof.now ++ 10 ∷ []) }
+{
+    let digits = hex::encode(alloc, proof)?;
+    let mut text = b"proof ".to_vec(alloc)?;
+    text.extend_from_slice(digits.as_bytes())?;
+    text.push(b'\n')?;
+    Ok(text)
 }
 
 /// What is shown of the node of that number, which holds these blocks. The error is want of memory.

@@ -46,7 +46,6 @@ use Rattle.world_model.specs.Calls.AsLine.{sends_nothing as whole_sends_nothing,
 use Rattle.world_model.specs.Calls.OpenLine.{sends_nothing as opening_sends_nothing, is_open as opening_is_open, opens as opening_opens}
 use Rattle.world_model.specs.Calls.StepLine.{not_open as stepping_not_open, out_of_range as stepping_out_of_range, steps as stepping_steps}
 use Rattle.world_model.specs.Calls.FinishLine.{not_open as finishing_not_open, ends as finishing_ends}
-use Rattle.world_model.specs.Shows.{show_line}
 use Rattle.world_model.specs.Step.{Does}
 use Rattle.round_laws.proofs.Nodes.{Shape}
 use Rattle.round_laws.proofs.Fixing.{fates_first, fates_none as fates_nothing}
@@ -421,7 +420,7 @@ module _ (r : ℕ) (base : List Shape) (links : Peer → Links Peer) (start : �
   of_command w (command.Snap log) outcome ringed quiet does = of_snap w log (participant w.0 log) outcome ringed refl does
   of_command w (command.Restart log) outcome ringed quiet does = of_restart w log (participant w.0 log) outcome refl does
   of_command w (command.Keep log count new) outcome ringed quiet does = absurd quiet
-  of_command w (command.Show shown) outcome ringed quiet does = by_function w (show_line w.0 shown) outcome does (shows_are_still w.0 shown (OnwardIn w) (λ text. still_goes w) tt tt)
+  of_command w (command.Show shown) outcome ringed quiet does = by_function w does.0 outcome does.2 (shows_are_still w.0 shown (OnwardIn w) (λ text. still_goes w) tt tt does.0 does.1)
   of_command w command.Nothing outcome ringed quiet does = subst (Onward w) (sym does) (still_goes w)
   of_command w command.End outcome ringed quiet does = subst (Onward w) (sym does) tt
 

@@ -45,7 +45,6 @@ use Rattle.world_model.specs.Ring.JoinLine.{alone as join_alone, before_ring as 
 use Rattle.world_model.specs.Ring.RingLine.{exceeds as ring_exceeds, makes as ring_makes, refused as ring_refused}
 use Rattle.world_model.specs.Rounds.{RoundLine}
 use Rattle.world_model.specs.Rounds.RoundLine.{before_ring as round_before_ring, goes as round_goes}
-use Rattle.world_model.specs.Shows.{show_line}
 use Rattle.world_model.specs.Step.{Does}
 use Rattle.world_model.specs.Steps.{RunsOut, Scene, met_by}
 use Rattle.world_model.specs.Steps.RunsOut.{is_over as runs_over, more as runs_more}
@@ -313,7 +312,7 @@ of_command w (command.Damage node key offset byte) outcome does = by_function (c
 of_command w (command.Snap log) outcome does = of_snap w log (participant w.0 log) outcome refl does
 of_command w (command.Restart log) outcome does = of_restart w log (participant w.0 log) outcome refl does
 of_command w (command.Keep log count new) outcome does = by_function (command.Keep log count new) w (keep_line w.0 log count new) outcome does (of_keep w log (participant w.0 log) count new refl)
-of_command w (command.Show shown) outcome does = by_function (command.Show shown) w (show_line w.0 shown) outcome does (shows_are_still w.0 shown (LeadsIn (command.Show shown) w) (λ text. (once (shows (command.Show shown) tt), shows_text shown text)) tt tt)
+of_command w (command.Show shown) outcome does = by_function (command.Show shown) w does.0 outcome does.2 (shows_are_still w.0 shown (LeadsIn (command.Show shown) w) (λ text. (once (shows (command.Show shown) tt), shows_text shown text)) tt tt does.0 does.1)
 of_command w command.Nothing outcome does = subst (Leads command.Nothing w) (sym does) (one (shows command.Nothing tt))
 of_command w command.End outcome does = subst (Leads command.End w) (sym does) tt
 

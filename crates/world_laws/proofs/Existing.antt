@@ -12,13 +12,14 @@ use Rattle.world_model.specs.Faults.{damage_line, lose_line, node_named}
 use Rattle.world_model.specs.Logs.{Played, at_line, keep_line, keys_of}
 use Rattle.world_model.specs.Ring.{JoinLine, RingLine, stop_line}
 use Rattle.world_model.specs.Rounds.{RoundLine}
-use Rattle.world_model.specs.Shows.{show_line}
+use Rattle.world_model.specs.Shows.{Shows, show_line}
 use Rattle.world_model.specs.Step.{Does, IvyStep, MayDo, MayDoFirst, WithinLimit, is_end, most_bytes}
 use Rattle.world_model.specs.Story.{Story}
 use Rattle.world_model.specs.World.{World, participant, session_named, view_named}
 use Rattle.world_laws.specs.Keeps.{Keeps}
 use Rattle.world_laws.specs.Laws.{CanBeDone, EachLineDoesSomething, EachScriptHasARun, LinesKeep}
 use Rattle.world_laws.proofs.ExistingCalls.{IsSeen, as_line, finish_line, open_line, step_line}
+use Rattle.world_laws.proofs.RecordsTold.{records_told}
 use Rattle.world_laws.proofs.ExistingLines.{by_function, log_line, restart_line, untold, use_line_seen, view_line}
 use Rattle.world_laws.proofs.ExistingRepairs.{round_line}
 use Rattle.world_laws.proofs.ExistingRing.{join_line, ring_line}
@@ -44,7 +45,7 @@ command_does w st keeps (command.Damage node key offset byte) can fits = by_func
 command_does w st keeps (command.Snap log) can fits = snap_line w st keeps log (participant w log) refl can
 command_does w st keeps (command.Restart log) can fits = restart_line w st keeps log (participant w log) refl
 command_does w st keeps (command.Keep log count new) can fits = by_function w (keep_line w log count new)
-command_does w st keeps (command.Show shown) can fits = by_function w (show_line w shown)
+command_does w st keeps (command.Show shown) can fits = untold w (Shows w shown) (show_line records_told.0 w shown, (records_told.0, records_told.1, refl))
 command_does w st keeps command.Nothing can fits = (Goes w [], λ su is. (Goes (w, su) [], refl, refl))
 command_does w st keeps command.End can fits = (Ends, λ su is. (Ends, refl, refl))
 

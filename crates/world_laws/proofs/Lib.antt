@@ -1,5 +1,6 @@
 pub mod Examples
 pub mod Apart
+pub mod RecordsTold
 pub mod Shows
 pub mod LineKinds
 pub mod Leaves

@@ -1,5 +1,5 @@
 -- Each outcome of a line is of the line's kind, case by case.
-use Rattle.std.proofs.Common.{◌≡◌, ℕ, Bool, true, false, cond, List, ◌++◌, map, length, Option, Some, None, refl, sym, ap, ◌∙◌}
+use Rattle.std.proofs.Common.{◌≡◌, ℕ, Bool, true, false, cond, List, ◌++◌, codes, map, length, Option, Some, None, refl, sym, ap, ◌∙◌}
 use Rattle.std.specs.Prelude.{MatchBool, nat_lt, nat_le, is_some, sum_by}
 use Rattle.ivy_base.specs.declared.key.Key.{Key}
 use Rattle.ivy_base.specs.declared.key.PubKey.{PubKey}
@@ -8,9 +8,12 @@ use Rattle.dht_ids.specs.declared.judge.Judged.{Judged}
 use Rattle.dhash_model.specs.Signed.{hss_judged}
 use Rattle.log_model.specs.View.{have_own_head_keys}
 use Rattle.session_model.specs.Sessions.{Session}
+use Rattle.fork_model.specs.Before.{Before}
 use Rattle.script_driver.specs.Run.{Outcome, Goes, Ends, Refuses, Exceeds}
 use Rattle.script_model.specs.declared.command.Command.{Command}
 use Rattle.script_model.specs.declared.command.Command.TheVariants as command
+use Rattle.script_model.specs.declared.command.Shown.{Shown}
+use Rattle.script_model.specs.declared.command.Shown.TheVariants as shown
 use Rattle.script_model.specs.Lines.{command_of}
 use Rattle.world_model.specs.World.{World, Participant, participant, peer_of, session_named, view_named}
 use Rattle.world_model.specs.Story.{Story}
@@ -29,8 +32,9 @@ use Rattle.world_model.specs.Calls.AsLine.{sends_nothing as whole_sends_nothing,
 use Rattle.world_model.specs.Calls.OpenLine.{sends_nothing as opening_sends_nothing, is_open as opening_is_open, opens as opening_opens}
 use Rattle.world_model.specs.Calls.StepLine.{not_open as stepping_not_open, out_of_range as stepping_out_of_range, steps as stepping_steps}
 use Rattle.world_model.specs.Calls.FinishLine.{not_open as finishing_not_open, ends as finishing_ends}
+use Rattle.world_model.specs.Shows.{Shows, of_known, proof_shown, show_line, shown_as}
 use Rattle.world_model.specs.Step.{Does, MayDoFirst, Untold, WithinLimit, is_end, most_bytes}
-use Rattle.world_laws.specs.Kinds.{Kind, Going, Ending, Refused, Limited, kind, ring_kind, log_kind, view_kind, sending_kind, open_kind, session_kind, join_kind, round_kind, in_view_kind, command_kind, within_limit_kind, first_kind, LineHasOneKind}
+use Rattle.world_laws.specs.Kinds.{Kind, Going, Ending, Refused, Limited, kind, ring_kind, log_kind, view_kind, sending_kind, open_kind, session_kind, join_kind, round_kind, in_view_kind, shown_kind, command_kind, within_limit_kind, first_kind, LineHasOneKind}
 
 -- a test that is known to be true, or false
 if_true : (b : Bool) (k l : Kind) → b ≡ true → cond b k l ≡ k
@@ -144,6 +148,21 @@ of_snap (snap_outside p h) = sym (if_false (is_some p.agent.view) Going Refused 
 of_snap (snap_fails p v h tried spelled) = sym (if_true (is_some p.agent.view) Going Refused (is_there p.agent.view v h))
 of_snap (snap_makes p q v r next h tried ringed is spelled published) = sym (if_true (is_some p.agent.view) Going Refused (is_there p.agent.view v h))
 
+-- what tells which blocks are records decides on the text of a line alone
+any_teller : (before other : Before) (w : World) (s : Shown) → kind (show_line before w s) ≡ kind (show_line other w s)
+any_teller before other w (shown.Holds node) = refl
+any_teller before other w (shown.Order log) = refl
+any_teller before other w (shown.Work log) = refl
+any_teller before other w (shown.Conflicts log) = refl
+any_teller before other w (shown.Proof log) = by (participant w log)
+  where
+    by : (o : Option Participant) → kind (shown_as w (codes "proof") (of_known (proof_shown before w) o)) ≡ kind (shown_as w (codes "proof") (of_known (proof_shown other w) o))
+    by None = refl
+    by (Some p) = refl
+
+of_show : (w : World) (s : Shown) (o : Outcome World) → Shows w s o → kind o ≡ shown_kind w s
+of_show w s o shows = ap kind shows.2 ∙ any_teller shows.0 (λ owner seq block. None) w s
+
 -- ---- the whole
 
 untold : (w : Played) (Line : Outcome World → Type 0) (k : Kind) → ((o : Outcome World) → Line o → kind o ≡ k) → (outcome : Outcome Played) → Untold w Line outcome → kind outcome ≡ k
@@ -170,7 +189,7 @@ of_command w (command.Damage node key offset byte) outcome does = by_function w 
 of_command w (command.Snap log) outcome does = of_snap does
 of_command w (command.Restart log) outcome does = of_restart does
 of_command w (command.Keep log count new) outcome does = by_function w _ outcome does
-of_command w (command.Show shown) outcome does = by_function w _ outcome does
+of_command w (command.Show shown) outcome does = untold w (Shows w.0 shown) (shown_kind w.0 shown) (λ o h. of_show w.0 shown o h) outcome does
 of_command w command.Nothing outcome does = ap kind does
 of_command w command.End outcome does = ap kind does
 

@@ -40,7 +40,6 @@ use Rattle.world_model.specs.Story.{Story}
 use Rattle.world_model.specs.Logs.{Played, at_line, beside, goes_if, keep_by, keep_line}
 use Rattle.world_model.specs.Ring.{stop_line}
 use Rattle.world_model.specs.Faults.{damage_by, damage_line, damaged_to, key_named, lose_line, meets_some, node_named, owner_of_key}
-use Rattle.world_model.specs.Shows.{show_line}
 use Rattle.world_laws.specs.Keeps.{HasRing, Keeps}
 use Rattle.world_laws.specs.Frames.{AreOfRing, Change, DamageLinesKeep, KeeperLinesKeep, StillLinesKeep, StopLinesKeep, unchanged}
 use Rattle.world_laws.proofs.Bringing.{found_named}
@@ -104,7 +103,7 @@ module _ (w : Played) (keeps : Keeps w) where
 pub still_lines_keep : StillLinesKeep
 still_lines_keep (command.At sec nsec) still w next output keeps does = by_world w.1 (at_line w.0 sec nsec) next output does (at_keeps w keeps sec nsec)
 still_lines_keep (command.Lose count) still w next output keeps does = by_world w.1 (lose_line w.0 count) next output does (lose_keeps w keeps count)
-still_lines_keep (command.Show shown) still w next output keeps does = by_world w.1 (show_line w.0 shown) next output does (shows_are_still w.0 shown (Keeping w.1) (λ text. keeps) tt tt)
+still_lines_keep (command.Show shown) still w next output keeps does = by_world w.1 does.0 next output does.2 (shows_are_still w.0 shown (Keeping w.1) (λ text. keeps) tt tt does.0 does.1)
 still_lines_keep command.Nothing still w next output keeps does = subst (λ (x : Outcome Played). ToSuch Keeps x) (sym does) keeps
 still_lines_keep _ still w next output keeps does = absurd still
 

@@ -21,7 +21,10 @@ use Rattle.world_model.specs.Agents.{Kept, kept_bytes, own}
 use Rattle.world_model.specs.Fates.{Puts}
 use Rattle.world_model.specs.World.{Participant, World, named_bytes, participant, session_named, with_participant}
 use Rattle.world_model.specs.Faults.{damage_line, lose_line, node_named}
-use Rattle.world_model.specs.Shows.{show_line}
+use Rattle.fork_model.specs.Before.{Before}
+use Rattle.script_model.specs.declared.command.Shown.{Shown}
+use Rattle.world_laws.proofs.RecordsTold.{told_alike}
+use Rattle.world_model.specs.Shows.{Shows, show_line}
 use Rattle.world_model.specs.Ring.{JoinLine, RingLine, stop_line}
 use Rattle.world_model.specs.Rounds.{RoundLine}
 use Rattle.world_model.specs.Rounds.RoundLine.{goes as round_goes}
@@ -174,6 +177,14 @@ snap_one w _ _ _ _ _ (snap_makes p made view r next in_view tried ringed is spel
       (λ i. snap_text p.name (root_name (same i) (basis_of p.agent.holding))),
     )
 
+-- ---- what is shown
+
+same_world : (one other : World) (text words : List ℕ) → Goes one text ≡ Goes other words → (one ≡ other) × (text ≡ words)
+same_world one other text words e = (cc e, cc e)
+
+show_one : (w : World) (s : Shown) (one other : World) (text words : List ℕ) → Shows w s (Goes one text) → Shows w s (Goes other words) → (one ≡ other) × (text ≡ words)
+show_one w s one other text words f g = same_world one other text words (f.2 ∙ ap (λ (before : Before). show_line before w s) (told_alike f.0 g.0 f.1 g.1) ∙ sym g.2)
+
 -- ---- commands
 
 within_limit : (b : Bool) (may : Type 0) (one : Played) (text : List ℕ) → MatchBool b (Goes one text ≡ Exceeds) may → may
@@ -210,7 +221,7 @@ module _ (w : Played) (keeps : Keeps w) (line : List ℕ) (one other : Played) (
   command_one (command.Snap log) is does doing = snap_one w (participant w.0 log) one other text words does doing
   command_one (command.Restart log) is does doing = restart_one w keeps log (participant w.0 log) refl one other text words apart does doing
   command_one (command.Keep log count new) is does doing = by_function (beside w.1 (keep_line w.0 log count new)) one other text words does doing
-  command_one (command.Show shown) is does doing = by_function (beside w.1 (show_line w.0 shown)) one other text words does doing
+  command_one (command.Show shown) is does doing = untold_one w (Shows w.0 shown) (λ a b t u f g. show_one w.0 shown a b t u f g) one other text words does doing
   command_one command.Nothing is does doing = by_function (Goes w []) one other text words does doing
   command_one command.End is does doing = absurd (goes_or_ends one text does)
 

@@ -1,15 +1,16 @@
 -- A line that shows something leaves the world as it is, or is refused, or meets a limit; and what it shows is no reply.
-use Rattle.std.proofs.Common.{◌≡◌, ℕ, Bool, true, false, ◌&&◌, List, [], ◌∷◌, ◌++◌, codes, refl, sym, ap, ◌∙◌, nat_eq}
+use Rattle.std.proofs.Common.{◌≡◌, ℕ, Bool, true, false, ◌&&◌, List, [], ◌∷◌, ◌++◌, codes, refl, sym, ap, ◌∙◌, subst, nat_eq}
 use Rattle.script_driver.specs.Run.{Outcome, Goes, Refuses, Exceeds}
 use Rattle.script_model.specs.declared.command.Shown.{Shown}
 use Rattle.script_model.specs.declared.command.Shown.TheVariants as shown
 use Rattle.world_model.specs.Calls.{reply_line}
-use Rattle.world_model.specs.Shows.{Showing, Absent, TooMuch, Text, show_line, showing, shown_as, word_of}
+use Rattle.world_model.specs.Shows.{Showing, Absent, TooMuch, Text, Shows, showing, shown_as, word_of}
 use Rattle.world_model.specs.World.{World}
 
 -- so a law holds of such a line if it holds of going on in that world with any text behind the line's word
-pub shows_are_still : (w : World) (s : Shown) (Law : Outcome World → Type 0) → ((text : List ℕ) → Law (Goes w (word_of s ++ 32 ∷ text))) → Law Refuses → Law Exceeds → Law (show_line w s)
-shows_are_still w s Law goes refuses exceeds = by (showing w s)
+pub shows_are_still : (w : World) (s : Shown) (Law : Outcome World → Type 0) → ((text : List ℕ) → Law (Goes w (word_of s ++ 32 ∷ text))) → Law Refuses → Law Exceeds → (outcome : Outcome World) → Shows w s outcome
+    → Law outcome
+shows_are_still w s Law goes refuses exceeds outcome shows = subst Law (sym shows.2) (by (showing shows.0 w s))
   where
     by : (x : Showing) → Law (shown_as w (word_of s) x)
     by Absent = refuses

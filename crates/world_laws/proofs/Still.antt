@@ -6,7 +6,6 @@ use Rattle.script_model.specs.declared.command.Command.TheVariants as command
 use Rattle.world_model.specs.World.{World}
 use Rattle.world_model.specs.Logs.{Played, at_line, beside, goes_if}
 use Rattle.world_model.specs.Faults.{lose_line}
-use Rattle.world_model.specs.Shows.{show_line}
 use Rattle.world_laws.specs.Laws.{StillLinesChangeNothing}
 use Rattle.world_laws.proofs.Shows.{shows_are_still}
 
@@ -43,6 +42,6 @@ of_goes_if w next false h = tt
 pub still_lines : StillLinesChangeNothing
 still_lines w next (command.At sec nsec) output still does = of_line w (at_line w.0 sec nsec) (Goes next output) does (of_goes_if w.0 _ (nat_lt sec 4294967296 && nat_lt nsec 1000000000) refl)
 still_lines w next (command.Lose count) output still does = of_line w (lose_line w.0 count) (Goes next output) does (of_goes_if w.0 _ (nat_lt 0 count && nat_le count 1000000) refl)
-still_lines w next (command.Show shown) output still does = of_line w (show_line w.0 shown) (Goes next output) does (shows_are_still w.0 shown (AllGo w.0) (λ text. refl) tt tt)
+still_lines w next (command.Show shown) output still does = of_line w does.0 (Goes next output) does.2 (shows_are_still w.0 shown (AllGo w.0) (λ text. refl) tt tt does.0 does.1)
 still_lines w next command.Nothing output still does = subst (λ (o : Outcome Played). IsStillIn w o) (sym does) (refl, refl)
 still_lines w next _ output still does = absurd still

@@ -7,6 +7,7 @@ use Rattle.session_model.specs.Sessions.{Session}
 use Rattle.script_driver.specs.Run.{Outcome, Goes, Ends, Refuses, Exceeds}
 use Rattle.script_model.specs.declared.command.Command.{Command}
 use Rattle.script_model.specs.declared.command.Command.TheVariants as command
+use Rattle.script_model.specs.declared.command.Shown.{Shown}
 use Rattle.script_model.specs.Lines.{command_of}
 use Rattle.world_model.specs.Ring.{is_known_id, is_refused_ring, peer_numbered, stop_line}
 use Rattle.world_model.specs.World.{World, Participant, participant, peer_of, session_named, view_named}
@@ -69,6 +70,10 @@ abbrev pub in_view_kind : Option Participant → Kind
 in_view_kind None = Refused
 in_view_kind (Some p) = if is_some p.agent.view then Going else Refused
 
+-- a line that shows something: the kind is the same whatever tells which blocks are records
+abbrev pub shown_kind : World → Shown → Kind
+shown_kind w s = kind (show_line (λ owner seq block. None) w s)
+
 -- ---- the whole
 
 abbrev pub command_kind : Played → Command → Kind
@@ -89,7 +94,7 @@ command_kind w (command.Damage node key offset byte) = kind (damage_line w.0 nod
 command_kind w (command.Snap log) = in_view_kind (participant w.0 log)
 command_kind w (command.Restart log) = in_view_kind (participant w.0 log)
 command_kind w (command.Keep log count new) = kind (keep_line w.0 log count new)
-command_kind w (command.Show shown) = kind (show_line w.0 shown)
+command_kind w (command.Show shown) = shown_kind w.0 shown
 command_kind w command.Nothing = Going
 command_kind w command.End = Ending
 

@@ -1,14 +1,21 @@
 -- Lines that show something: they change nothing.
-use Rattle.std.specs.Prelude.{List, ℕ, nat_lt, Bool, [], ◌∷◌, ◌++◌, codes, length, Option, Some, None, is_some, if◌then◌else◌}
+use Rattle.std.specs.Prelude.{◌≡◌, List, ℕ, nat_lt, Bool, [], ◌∷◌, ◌++◌, codes, length, Option, Some, None, is_some, filter, if◌then◌else◌}
 use Rattle.std.specs.List.{flat_map}
 use Rattle.std.specs.Fmt.{decimal}
+use Rattle.std.specs.Ordering.{eq_by_cmp}
 use Rattle.hex.specs.Hex.{encode_lower}
+use Rattle.ivy_base.specs.declared.key.PubKey.{PubKey}
+use Rattle.ivy_base.specs.Naming.{owner_cmp}
 use Rattle.log_model.specs.Conflicts.{Clash, clashes, most_clashes}
+use Rattle.log_model.specs.Heads.{owner_in}
 use Rattle.log_model.specs.Record.{Record}
 use Rattle.log_model.specs.Rank.{weight}
+use Rattle.fork_model.specs.Before.{Before, TellsRecords}
+use Rattle.fork_model.specs.Finding.{find_fork}
 use Rattle.script_driver.specs.Run.{Outcome, Goes, Refuses, Exceeds}
 use Rattle.script_model.specs.declared.command.Shown.{Shown}
 use Rattle.script_model.specs.declared.command.Shown.TheVariants as shown
+use Rattle.world_model.specs.Agents.{own}
 use Rattle.world_model.specs.Nodes.{Node}
 use Rattle.world_model.specs.World.{World, Participant, participant, peer_of, name_of_owner}
 use Rattle.world_model.specs.Faults.{node_named}
@@ -62,7 +69,26 @@ clashes_shown w name list = if nat_lt most_clashes (length list) then TooMuch el
 abbrev pub conflicts_shown : World → Participant → Showing
 conflicts_shown w p = clashes_shown w p.name (clashes p.agent.holding.held)
 
+-- ---- that its log was signed into two histories
+
+-- the blocks met in which its public key stands where a head has its owner's, in the order in which they were made
+abbrev pub heads_of : World → PubKey → List (List ℕ)
+heads_of w owner = filter (λ b. eq_by_cmp owner_cmp (owner_in b) owner) w.met
+
+abbrev pub proof_text : Option (List ℕ) → List ℕ
+proof_text None = codes "none" ++ 10 ∷ []
+proof_text (Some bytes) = encode_lower bytes ++ 10 ∷ []
+
+-- of the blocks met, by what tells which of them are records
+abbrev pub proof_shown : Before → World → Participant → Showing
+proof_shown before w p = Text (proof_text (find_fork before (heads_of w (own p.agent)) w.met))
+
 -- ---- the line
+
+-- a participant shows this, whether it entered a view or not
+abbrev pub of_known : (Participant → Showing) → Option Participant → Showing
+of_known shows None = Absent
+of_known shows (Some p) = shows p
 
 -- a participant that entered a view shows this
 abbrev pub of_entered : (Participant → Showing) → Option Participant → Showing
@@ -75,13 +101,15 @@ word_of (shown.Holds node) = codes "holds"
 word_of (shown.Order log) = codes "order"
 word_of (shown.Work log) = codes "work"
 word_of (shown.Conflicts log) = codes "conflicts"
+word_of (shown.Proof log) = codes "proof"
 
 -- what is shown behind that word
-abbrev pub showing : World → Shown → Showing
-showing w (shown.Holds node) = of_live (node_named w node)
-showing w (shown.Order log) = of_entered (λ p. Text (order_text w p)) (participant w log)
-showing w (shown.Work log) = of_entered (λ p. Text (work_text p)) (participant w log)
-showing w (shown.Conflicts log) = of_entered (conflicts_shown w) (participant w log)
+abbrev pub showing : Before → World → Shown → Showing
+showing before w (shown.Holds node) = of_live (node_named w node)
+showing before w (shown.Order log) = of_entered (λ p. Text (order_text w p)) (participant w log)
+showing before w (shown.Work log) = of_entered (λ p. Text (work_text p)) (participant w log)
+showing before w (shown.Conflicts log) = of_entered (conflicts_shown w) (participant w log)
+showing before w (shown.Proof log) = of_known (proof_shown before w) (participant w log)
 
 -- a line that shows nothing is refused, and one that would show too much meets a limit
 abbrev pub shown_as : World → List ℕ → Showing → Outcome World
@@ -89,5 +117,9 @@ shown_as w word Absent = Refuses
 shown_as w word TooMuch = Exceeds
 shown_as w word (Text text) = Goes w (word ++ 32 ∷ text)
 
-abbrev pub show_line : World → Shown → Outcome World
-show_line w s = shown_as w (word_of s) (showing w s)
+abbrev pub show_line : Before → World → Shown → Outcome World
+show_line before w s = shown_as w (word_of s) (showing before w s)
+
+-- The line does what it does by whatever tells which blocks are records: all that do tell the same.
+abbrev pub Shows : World → Shown → Outcome World → Type 0
+Shows w s outcome = (before : Before) × TellsRecords before × (outcome ≡ show_line before w s)

@@ -14,7 +14,7 @@ use Rattle.world_model.specs.Rounds.{RoundLine}
 use Rattle.world_model.specs.Logs.{Played, LogLine, ViewLine, RestartLine, SnapLine, at_line, beside, keep_line, keys_of, use_line}
 use Rattle.world_model.specs.Calls.{AsLine, OpenLine, StepLine, FinishLine, sending_of}
 use Rattle.world_model.specs.Faults.{damage_line, lose_line, node_named}
-use Rattle.world_model.specs.Shows.{show_line}
+use Rattle.world_model.specs.Shows.{Shows}
 
 -- what a command does that the story doesn't tell of
 abbrev pub Untold : Played → (Outcome World → Type 0) → Outcome Played → Type 0
@@ -39,7 +39,7 @@ Does judged w (command.Damage node key offset byte) outcome = outcome ≡ beside
 Does judged w (command.Snap log) outcome = SnapLine judged w (participant w.0 log) outcome
 Does judged w (command.Restart log) outcome = RestartLine w (participant w.0 log) outcome
 Does judged w (command.Keep log count new) outcome = outcome ≡ beside w.1 (keep_line w.0 log count new)
-Does judged w (command.Show shown) outcome = outcome ≡ beside w.1 (show_line w.0 shown)
+Does judged w (command.Show shown) outcome = Untold w (Shows w.0 shown) outcome
 Does judged w command.Nothing outcome = outcome ≡ Goes w []
 Does judged w command.End outcome = outcome ≡ Ends
 

@@ -5,7 +5,7 @@ use Rattle.world_model.specs.Faults.{damage_line, lose_line, node_named}
 use Rattle.world_model.specs.Logs.{at_line, keep_line}
 use Rattle.world_model.specs.Ring.{JoinLine, stop_line}
 use Rattle.world_model.specs.Rounds.{RoundLine}
-use Rattle.world_model.specs.Shows.{show_line}
+use Rattle.world_model.specs.Shows.{Shows}
 use Rattle.script_machine.proofs.machine.ScriptMachine.obey.Goals as goal
 
 pub returns-in-Ring : goal.returns-in-Ring
@@ -54,7 +54,7 @@ pub returns-in-Keep : goal.returns-in-Keep
 returns-in-Keep c = rw (← c.self-in-Keep.view_is, c.in-Keep.is, ← c.as_slice-in-Keep.ensures) (function_line c.self-in-Keep.inside.sessions.items c.self-in-Keep.inside.parts c.keep.new.self (λ w. keep_line w c.as_slice-in-Keep.result.now c.in-Keep.count c.in-Keep.new) c.keep.result (keep_stays c.as_slice-in-Keep.result.now c.in-Keep.count c.in-Keep.new) c.keep.ensures)
 
 pub returns-in-Show : goal.returns-in-Show
-returns-in-Show c = rw (← c.self-in-Show.view_is, c.in-Show.is) (function_line c.self-in-Show.inside.sessions.items c.self-in-Show.inside.parts c.self-in-Show.inside.parts (λ w. show_line w c.in-Show.shown) c.show.result (show_stays c.in-Show.shown) c.show.ensures)
+returns-in-Show c = rw (← c.self-in-Show.view_is, c.in-Show.is) (untold_line c.self-in-Show.inside.sessions.items c.self-in-Show.inside.parts c.self-in-Show.inside.parts (λ w outcome. Shows w c.in-Show.shown outcome) c.show.result (show_stays c.in-Show.shown) c.show.ensures)
 
 pub returns-in-At : goal.returns-in-At
 returns-in-At c = rw (← c.self-in-At.view_is, c.in-At.is) (function_in c.self-in-At.inside.sessions.items c.self-in-At.inside.parts c.at.new.self (λ w. at_line w c.in-At.sec c.in-At.nsec) c.at.result (at_stays c.in-At.sec c.in-At.nsec) c.at.ensures)
