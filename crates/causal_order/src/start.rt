@@ -19,7 +19,7 @@ ghost use Rattle.causal_order.specs.Started.{HaveOwnOwners, HasQueued, IsHeldLog
 use crate::base::Base;
 use crate::causes::knows;
 use crate::log::Log;
-use ivy_base::{Key, Memory, PubKey, head_key};
+use ivy_base::{Key, Memory, PubKey};
 use log_records::{Chain, Record};
 use std::alloc::Global;
 use std::collections::VecDeque;
@@ -57,7 +57,7 @@ fn held_logs(alloc: Global, base: &Base<'_>) -> Result<Vec<Log>, Memory>
 fn held_log(alloc: Global, base: &Base<'_>, owner: &PubKey) -> Result<Log, Memory>
     ensures { IfOk result (IsHeldLog base.now.front.now (records_of base.now.held.now) owner.now) }
 {
-    let key = head_key(owner);
+    let key = base.view.head_key(owner);
     let places = places_of(alloc, base.held, owner)?;
     let tip = tip_of(alloc, base, &key, places.as_slice())?;
     Ok(Log {

@@ -13,7 +13,7 @@ ghost use Rattle.ivy_agent.specs.Edges.{is_beyond, newest_edges, put_under, AreO
 
 use crate::keys::{is_among, is_same};
 use dht_ids::Posts;
-use ivy_base::{Key, Memory, PubKey, head_key};
+use ivy_base::{Key, Memory, PubKey};
 use log_fetch::{Edge, Edges, Standing};
 use log_records::Record;
 use std::alloc::Global;
@@ -60,7 +60,7 @@ pub fn fill(
 {
     fill_fronts(alloc, standing, front, floor)?;
     let most = standing.view.members().len().min(count_beyond(base, front));
-    standing.edges = newest_edges(alloc, records, most)?;
+    standing.edges = newest_edges(alloc, &standing.view, records, most)?;
     standing.pending = pending.copy(alloc)?;
     Ok(())
 }
@@ -95,10 +95,15 @@ pub fn let_go(_: Standing) -> Memory {
     Memory
 }
 
-/// What is known of the newest record of each log, ascending by log, where the records ascend and are of at most `most` logs. A
-/// log is hashed once, and no record is looked at that is older than the newest ones of so many logs. The error is want of
+/// What is known of the newest record of each log, ascending by log, where the records ascend and are of at most `most` logs. The
+/// view knows the logs of its members, and no record is looked at that is older than the newest ones of so many logs. The error is want of
 /// memory.
-fn newest_edges(alloc: Global, records: &[Record], most: usize) -> Result<Edges, Memory>
+fn newest_edges(
+    alloc: Global,
+    view: &View,
+    records: &[Record],
+    most: usize,
+) -> Result<Edges, Memory>
     requires others { AllByRecursion KnowsOthers (records_of records.now) }
     requires few { AreOfAtMost most (records_of records.now) }
     ensures { IfOk result (λ edges. edges ≡ newest_edges (records_of records.now)) }
@@ -113,16 +118,16 @@ fn newest_edges(alloc: Global, records: &[Record], most: usize) -> Result<Edges,
             continue;
         }
         owners.push(record.owner)?;
-        put_under(alloc, &mut edges, record)?;
+        put_under(alloc, view, &mut edges, record)?;
     }
     Ok(Edges::of(edges))
 }
 
 /// Puts the record's edge in its place, where none of its log is there. The error is want of memory.
-fn put_under(alloc: Global, edges: &mut Vec<Edge>, held: &Record) -> Result<(), Memory>
+fn put_under(alloc: Global, view: &View, edges: &mut Vec<Edge>, held: &Record) -> Result<(), Memory>
     ensures { OnOk result (edges_of edges.new.items ≡ put_under (head_key_of held.now.owner) (as_edge (record_of held.now)) (edges_of edges.old.items)) }
 {
-    let log = head_key(&held.owner);
+    let log = view.head_key(&held.owner);
     if has_log(edges.as_slice(), &log) {
         return Ok(());
     }

@@ -81,16 +81,17 @@ pub fn write_over(
     ensures records { IfOk result (λ w. records_of w.records.items ≡ written_over own.now now front.now ops.items) }
     ensures posts { IfOk result (λ w. w.posts.items ≡ map record_post (records_of w.records.items)) }
 {
-    let cited = front.without(alloc, &head_key(own))?;
-    write_records(alloc, own, &cited, now, newest_own(front, own), ops)
+    let log = head_key(own);
+    let cited = front.without(alloc, &log)?;
+    write_records(alloc, own, &cited, now, newest_of_log(front, &log), ops)
 }
 
-/// The front's record of the own log; number 0 and no name where it has none.
-fn newest_own(front: &Vector, own: &PubKey) -> Before
-    ensures seq { result.seq ≡ seq_of front.now (head_key_of own.now) }
-    ensures name { result.name ≡ option_map_or (λ t. t.name) (stamp_at front.now (head_key_of own.now)) no_name }
+/// The front's record of that log; number 0 and no name where it has none.
+fn newest_of_log(front: &Vector, log: &Key) -> Before
+    ensures seq { result.seq ≡ seq_of front.now log.now }
+    ensures name { result.name ≡ option_map_or (λ t. t.name) (stamp_at front.now log.now) no_name }
 {
-    match front.get(&head_key(own)) {
+    match front.get(log) {
         Some(entry) => Before {
             seq: entry.seq,
             name: entry.name,

@@ -10,14 +10,15 @@ use hash_signature_model::{PrivateKey, Set};
 use ivy_base::{Bytes, Memory};
 use std::alloc::Global;
 use std::marker::Model;
+use std::sync::Arc;
 use std::thread::Threads;
 
-/// A tree that signs messages by its leaves. It keeps all its nodes: 64 bytes for each leaf. Contracts see it as the
+/// A tree that signs messages by its leaves. It keeps all its nodes: 64 bytes for each leaf, which its copies share. Contracts see it as the
 /// private key that it was grown from.
 #[derive(Drop)]
 pub struct Tree {
     key: PrivateKey,
-    nodes: Vec<[u8; 32]>,
+    nodes: Arc<Vec<[u8; 32]>, Global>,
 }
 
 impl Model for Tree {
@@ -29,7 +30,7 @@ impl Model for Tree {
 
     ghost view = { λ t. t.key };
 
-    ghost invariant = { λ t. (length t.key.id ≡ 16) × AreNodes t.key t.nodes.items };
+    ghost invariant = { λ t. (length t.key.id ≡ 16) × AreNodes t.key t.nodes.value.items };
 }
 
 /// Writes bytes at a place.
@@ -54,7 +55,7 @@ impl Tree {
             id: *id,
             seed: *seed,
         };
-        let nodes = all_nodes(alloc, &key)?;
+        let nodes = Arc::new(alloc, all_nodes(alloc, &key)?)?;
         Ok(Tree { key, nodes })
     }
 
@@ -78,21 +79,21 @@ impl Tree {
             id: *id,
             seed: *seed,
         };
-        let nodes = all_nodes_joined(rt, alloc, &key)?;
+        let nodes = Arc::new(alloc, all_nodes_joined(rt, alloc, &key)?)?;
         Ok(Tree { key, nodes })
     }
 
-    /// A copy, which nothing is grown for.
+    /// A copy, which nothing is grown for: both share the nodes.
     ///
     /// # Errors
     ///
     /// Where memory runs out.
-    pub fn copy(&self, alloc: Global) -> Result<Tree, Memory>
+    pub fn copy(&self, _alloc: Global) -> Result<Tree, Memory>
         ensures { IfOk result (λ t. t ≡ self.now) }
     {
         Ok(Tree {
             key: self.key,
-            nodes: self.nodes.as_slice().to_vec(alloc)?,
+            nodes: Arc::try_clone(&self.nodes)?,
         })
     }
 

@@ -11,7 +11,7 @@ ghost use Rattle.log_fetch.specs.Logs.{Opens, GoesOn, settled_left};
 use crate::edges::Edges;
 use crate::{Settled, Trial, heads_to_try};
 use dht_ids::Judged;
-use ivy_base::{Memory, PubKey, head_key};
+use ivy_base::{Memory, PubKey};
 use log_records::Batch;
 use std::alloc::Global;
 use version_vectors::Vector;
@@ -34,7 +34,7 @@ pub fn open(
     ensures left { IfOk result (λ settled. settled_left settled < 2 ^ 96) }
     ensures unchanged { OnErr result (batch.new ≡ batch.old) }
 {
-    let log = head_key(owner);
+    let log = view.head_key(owner);
     let held = batch.started().seq_of(&log);
     let tried = heads_to_try(alloc, heads, &log, held, floor)?;
     let edge = edges.at(alloc, &log)?;
@@ -62,6 +62,6 @@ pub fn go_on(
     ensures unchanged { OnErr result (batch.new ≡ batch.old) }
 {
     trial.give(alloc, bytes)?;
-    let edge = edges.at(alloc, &head_key(owner))?;
+    let edge = edges.at(alloc, &view.head_key(owner))?;
     trial.settle(alloc, view, &edge, batch)
 }

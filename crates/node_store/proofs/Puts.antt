@@ -11,6 +11,7 @@ use Rattle.std.proofs.lemmas.Map.{keys-set_value}
 use Rattle.std.proofs.lemmas.Map.Entries.{sum_by-set_value}
 use Rattle.std.proofs.lemmas.Map.Steps.{set_value_same}
 use Rattle.std.proofs.lemmas.Map.Text.{is_eq-slice_cmp}
+use Rattle.std.proofs.lemmas.Slice.Eq.{bytes_eq-Decides}
 use Rattle.std.proofs.Math.ListN.{length-set}
 use Rattle.ivy_base.specs.declared.key.Key.{Key}
 use Rattle.ivy_base.specs.Naming.{key_cmp}
@@ -32,6 +33,10 @@ twice_not false = refl
 pub compared : (key found named : Key) (differs : Bool) → differs ≡ not (bytes_eq key.0 found.0) → found ≡ named → eq_by_cmp key_cmp key named ≡ not differs
 compared key found named differs is same =
     ap (eq_by_cmp key_cmp key) (sym same) ∙ is_eq-slice_cmp key.0 found.0 ∙ sym (twice_not (bytes_eq key.0 found.0)) ∙ ap not (sym is)
+
+-- what it says of the name itself
+pub named_so : (key named : Key) → key ≡ named → eq_by_cmp key_cmp key named ≡ true
+named_so key named same = ap (eq_by_cmp key_cmp key) (sym same) ∙ is_eq-slice_cmp key.0 key.0 ∙ (bytes_eq-Decides key.0 key.0).1 refl
 
 -- with the right name the fault is that of the other tests
 pub rightly_named : (b : Bool) (found : Option StoreFault) (result : Result Unit PutFault) → b ≡ true → Tells found result → Tells (option_or (if b then None else Some WrongName) found) result

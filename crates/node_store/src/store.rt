@@ -1,9 +1,9 @@
 //! All blocks that a node holds.
 
-ghost use Rattle.std.specs.Prelude.{◌≡◌, [], false, map, IfOk, OnOk, OnErr, Some, None, MatchBool, option_copied};
+ghost use Rattle.std.specs.Prelude.{◌≡◌, [], true, false, map, IfOk, OnOk, OnErr, Some, None, MatchBool, option_copied};
 ghost use Rattle.std.specs.FinMap.Entries.{put};
 ghost use Rattle.dhash_model.specs.Stores.{older as older_than};
-ghost use Rattle.ivy_base.specs.Naming.{key_cmp};
+ghost use Rattle.ivy_base.specs.Naming.{key_cmp, name};
 
 use crate::fault::PutFault;
 use crate::kept::Kept;
@@ -66,6 +66,26 @@ impl Store {
             return Err(PutFault::Refused(StoreFault::WrongName));
         }
         self.hold(alloc, key, Kind::Content, bytes)
+    }
+
+    /// As [`Store::put_block`], for whoever may know that this is the name of the bytes, which aren't hashed then.
+    pub fn put_known(
+        &mut self,
+        alloc: Global,
+        key: &Key,
+        bytes: &[u8],
+        is_named: bool,
+    ) -> Result<(), PutFault>
+        requires { is_named ≡ true → key.now ≡ name bytes.now }
+        ensures told { Tells (content_fault key.now bytes.now self.old) result }
+        ensures stored { OnOk result (self.new ≡ put key_cmp key.now (content bytes.now) self.old) }
+        ensures unchanged { OnErr result (self.new ≡ self.old) }
+        ensures valid { OnOk result (IsStore self.new) }
+    {
+        if is_named {
+            return self.hold(alloc, key, Kind::Content, bytes);
+        }
+        self.put_block(alloc, key, bytes)
     }
 
     /// Holds a copy of the bytes as a head, in place of what the key held. Refused where the judge takes them for no head

@@ -1,10 +1,10 @@
 -- What a node answers to a put and is then, by what its store tells.
-use Rattle.std.proofs.Common.{◌≡◌, List, ℕ, Option, Some, None, Result, Ok, Err, IfOk, refl, sym, ap, subst}
+use Rattle.std.proofs.Common.{◌≡◌, List, ℕ, Option, Some, None, Result, Ok, Err, IfOk, refl, sym, ap, ◌∙◌, subst}
 use Rattle.std.specs.Prelude.{OnOk, OnErr}
 use Rattle.std.specs.FinMap.Entries.{put}
 use Rattle.ivy_base.specs.declared.key.Key.{Key}
 use Rattle.ivy_base.specs.declared.memory.Memory.{Memory}
-use Rattle.ivy_base.specs.Naming.{key_cmp}
+use Rattle.ivy_base.specs.Naming.{key_cmp, name}
 use Rattle.dht_ids.specs.declared.ask.Answer.{Answer}
 use Rattle.dht_ids.specs.declared.ask.Ask.{Ask}
 use Rattle.dht_ids.specs.declared.ask.Ask.TheVariants as ask
@@ -16,7 +16,7 @@ use Rattle.dhash_model.specs.Stores.{Block, Blocks, content, content_fault, head
 use Rattle.node_store.specs.Stores.{Tells}
 use Rattle.world_model.specs.Nodes.{Node, answered, stored}
 use Rattle.world_model.specs.World.{peer_of}
-use Rattle.ring_nodes.specs.Puts.{Told}
+use Rattle.ring_nodes.specs.Puts.{IsNamed, Told}
 
 -- the node with these blocks
 abbrev pub with_blocks : Node → Blocks → Node
@@ -60,6 +60,12 @@ answered_peer judged n (ask.Notify peer) = refl
 answered_peer judged n (ask.Get key) = refl
 answered_peer judged n (ask.PutBlock key bytes) = stored_peer n key (content bytes) (content_fault key bytes n.blocks)
 answered_peer judged n (ask.PutHead key bytes) = stored_peer n key (head bytes) (head_fault judged key bytes n.blocks)
+
+-- a block that is put has the name, if the ask is known to be named
+pub named_block : (question : Ask) (key : Key) (bytes read : List ℕ) → question ≡ ask.PutBlock key bytes → read ≡ bytes → IsNamed question → key ≡ name read
+named_block question key bytes read is same named =
+    let so : key ≡ name bytes = subst (λ (q : Ask). IsNamed q) is named in
+    so ∙ ap name (sym same)
 
 -- the answers to the two puts
 pub block_given : (judged : Key → List ℕ → Option Judged) (n : Node) (question : Ask) (key : Key) (bytes read : List ℕ) (blocks : Blocks) (outcome : Result Unit PutFault) (result : Result Answer Memory)

@@ -1,11 +1,11 @@
 //! A node in memory.
 
-ghost use Rattle.std.specs.Prelude.{◌≡◌, ◌<◌, false, fold, map, Some, IfOk, OnOk, OnErr};
+ghost use Rattle.std.specs.Prelude.{◌≡◌, ◌<◌, true, false, fold, map, Some, IfOk, OnOk, OnErr};
 ghost use Rattle.dhash_model.specs.Stores.{without};
 ghost use Rattle.std.specs.Ordering.{eq_by_cmp};
 ghost use Rattle.ivy_base.specs.Naming.{key_cmp, name};
 ghost use Rattle.ring_model.specs.Circle.{identifier_bits};
-ghost use Rattle.ring_nodes.specs.Puts.{Told};
+ghost use Rattle.ring_nodes.specs.Puts.{IsNamed, Told};
 
 use chord_core::Node;
 use dht_ids::{Ack, Answer, Ask, Judge, Peer, Posts};
@@ -102,6 +102,23 @@ impl RingNode {
         ensures unchanged { OnErr result (self.new ≡ self.old) }
         ensures peer { peer_of self.new ≡ peer_of self.old }
     {
+        self.answer_known(alloc, judge, question, false)
+    }
+
+    /// As [`RingNode::answer`], for whoever may know that a block which is put has its name: it isn't hashed then.
+    pub fn answer_known<J: Judge>(
+        &mut self,
+        alloc: Global,
+        judge: &J,
+        question: &Ask,
+        is_named: bool,
+    ) -> Result<Answer, Memory>
+        requires { is_named ≡ true → IsNamed question.now }
+        ensures given { IfOk result (λ given. given ≡ (answered (J.judges judge.now) self.old question.now).0) }
+        ensures after { OnOk result (self.new ≡ (answered (J.judges judge.now) self.old question.now).1) }
+        ensures unchanged { OnErr result (self.new ≡ self.old) }
+        ensures peer { peer_of self.new ≡ peer_of self.old }
+    {
         match question {
             Ask::Route(_) | Ask::Near => self.ring.answer(alloc, question),
             Ask::Notify(peer) => {
@@ -110,7 +127,7 @@ impl RingNode {
             }
             Ask::Get(key) => self.found(alloc, key),
             Ask::PutBlock(key, bytes) => {
-                told(self.store.put_block(alloc, key, bytes.as_slice()))
+                told(self.store.put_known(alloc, key, bytes.as_slice(), is_named))
             }
             Ask::PutHead(key, bytes) => {
                 told(self.store.put_head(alloc, judge, key, bytes.as_slice()))

@@ -20,6 +20,9 @@
 //! that such a key sealed isn't verified at all, and another one once, though several owners judge it. That is of cost alone:
 //! 64 verdicts are kept, a newer one in place of an older one, and whoever finds a lock taken or no memory does without.
 //!
+//! The name of a content block that is put is tested before the node is locked. The ring keeps the last 64 such blocks with
+//! their names, so that of one put at several owners the first computes the name, and the others compare the bytes.
+//!
 //! Costs: a node is found by a walk over the live ones, 256 at most. An ask holds the lock of its node alone, for as long
 //! as the node takes to answer. A round makes the asks that one of `ring_nodes` makes, and copies all blocks of a node under
 //! its lock before they are put.
@@ -29,6 +32,7 @@ mod changing;
 mod fault;
 mod laws;
 mod mesh;
+mod names;
 mod remembered_key;
 mod remembering;
 mod ring;

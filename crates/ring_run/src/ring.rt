@@ -5,6 +5,7 @@ ghost use Rattle.std.specs.List.Sorted.{IsStrictlyIncreasing};
 ghost use Rattle.dht_ids.specs.Asked.{IsAnswerTo};
 ghost use Rattle.dhash_model.specs.Signed.{hss_judged};
 
+use crate::names::Names;
 use crate::remembering::RememberingJudge;
 use crate::seat::{Seat, peers_of, seat_of, seats_of};
 use crate::verdicts::Verdicts;
@@ -24,6 +25,8 @@ pub struct LiveRing {
     pub(crate) live: Vec<Seat>,
     /// What the nodes know of signatures. No contract sees it.
     verdicts: Verdicts,
+    /// What they know of names, likewise.
+    names: Names,
 }
 
 /// One function, so that whatever drops a ring calls it and isn't proved over all of its parts once more.
@@ -34,6 +37,7 @@ impl Drop for LiveRing {
             made: _,
             live: _,
             verdicts: _,
+            names: _,
         } = self;
     }
 }
@@ -77,11 +81,13 @@ impl LiveRing {
     {
         let live = seats_of(alloc, settled_nodes(alloc, count, replicas)?)?;
         let made = peers_of(alloc, &live)?;
+        let names = Names::new(alloc)?;
         Ok(LiveRing {
             replicas,
             made,
             live,
             verdicts,
+            names,
         })
     }
 
@@ -108,7 +114,12 @@ impl LiveRing {
             verdicts: &self.verdicts,
         };
         match seat_of(&self.live, node) {
-            Some(seat) => seat.node.lock(rt).answer(alloc, &judge, ask),
+            Some(seat) => {
+                let is_named = self.names.know(ask);
+                seat.node
+                    .lock(rt)
+                    .answer_known(alloc, &judge, ask, is_named)
+            }
             None => Ok(Answer::Silent),
         }
     }

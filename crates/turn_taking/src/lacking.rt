@@ -15,7 +15,7 @@ use crate::beyond::beyond;
 use crate::keys::{is_owner, is_same};
 use crate::names::name_at;
 use crate::taking::Held;
-use ivy_base::{PubKey, head_key};
+use ivy_base::PubKey;
 use log_records::Chain;
 use version_vectors::Entry;
 
@@ -39,7 +39,7 @@ fn lacks(held: &Held<'_>, chains: &[Chain], owner: &PubKey) -> bool
     requires member { Contains held.now.view.now.members owner.now }
     ensures { result ≡ lacks held.now.floor.now held.now.front.now (new_of held.now.front.now (chains_in chains.now)) (head_key_of owner.now) }
 {
-    let log = head_key(owner);
+    let log = held.view.head_key(owner);
     match held.floor.get(&log) {
         Some(entry) => {
             held.front.seq_of(&log) < entry.seq && !is_there(held, chains, owner, &entry)

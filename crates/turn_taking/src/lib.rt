@@ -31,7 +31,7 @@
 //! `specs/Steps.antt` serve the functions inside.
 //!
 //! Costs: those of a closed part, and for each new record a join of its vector with the front. No record is
-//! hashed here. A log's head key is hashed once for each member, and twice for each chain. 20 bytes are kept
+//! hashed here. A log's head key is hashed twice for each chain; those of members the view keeps. 20 bytes are kept
 //! for each fetched record until the front is joined; records are moved and not copied.
 #![tactic(auto)]
 

@@ -28,6 +28,15 @@ of_heads log (k ∷ ks) = λ i. sym (same_key_answer (head_key_of k) log) i || o
 pub log_of_heads : (log : Key) (heads : List Key) (keys : List PubKey) → heads ≡ map head_key_of keys → list_any (is_head log) heads ≡ is_log_of keys log
 log_of_heads log heads keys e = ap (λ (hs : List Key). list_any (is_head log) hs) e ∙ of_heads log keys
 
+-- the head that is kept at a key's place is the key's
+pub kept_head : (keys known : List PubKey) (heads : List Key) (owner : PubKey) (i : ℕ) (d : Key) → heads ≡ map head_key_of keys → keys ≡ known → i < length known → ((key : PubKey) → get_or known i key ≡ owner)
+    → get_or heads i d ≡ head_key_of owner
+kept_head keys known heads owner i d are is within at =
+    let none : PubKey = record { 0 = [] } in
+    ap (λ (hs : List Key). get_or hs i d) (are ∙ ap (λ (ks : List PubKey). map head_key_of ks) is)
+    ∙ get_or-map head_key_of known i none d within
+    ∙ ap head_key_of (at none)
+
 -- ---- keys of their own
 
 reversed : (o : Ordering) → is_eq (ordering_reverse o) ≡ is_eq o

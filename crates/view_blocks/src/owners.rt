@@ -1,7 +1,9 @@
 //! Public keys with their head keys.
 
-ghost use Rattle.std.specs.Prelude.{◌≡◌, ◌++◌, not, IfOk};
+ghost use Rattle.std.specs.Prelude.{◌≡◌, ◌<◌, ◌++◌, ◌↔◌, not, length, get_or, IsTrue, IfOk, IfSome};
 ghost use Rattle.std.specs.List.{AllByRecursion, list_all};
+ghost use Rattle.ivy_base.specs.Naming.{head_key_of};
+ghost use Rattle.ivy_base.specs.declared.key.PubKey.{PubKey};
 ghost use Rattle.log_model.specs.View.{is_log_of, ascend, have_own_head_keys};
 ghost use Rattle.log_model.specs.ViewKeys.{IsPubKey};
 ghost use Rattle.view_blocks.specs.Faults.{keys_of};
@@ -68,6 +70,23 @@ impl Owners {
         self.heads.contains(log)
     }
 
+    /// The head key of that public key: the one that is kept, where the key is one of these, and else it is computed.
+    pub fn head_key(&self, owner: &PubKey) -> Key
+        ensures { result ≡ head_key_of owner.now }
+    {
+        match self.place(owner) {
+            Some(place) => self.heads[place],
+            None => head_key(owner),
+        }
+    }
+
+    /// Where the key stands, if it is one of these.
+    fn place(&self, owner: &PubKey) -> Option<usize>
+        ensures { IfSome result (λ place. (place < length self.now) × ((key : PubKey) → get_or self.now place key ≡ owner.now)) }
+    {
+        self.keys.iter().position(|key| is_one(key, owner))
+    }
+
     /// Whether no two keys, of these and the others together, have one head key.
     #[tactic(auto, using(crate::proofs::Heads::own_heads_of_both))]
     pub fn are_apart(&self, others: &Owners) -> bool
@@ -94,6 +113,13 @@ impl Owners {
         }
         true
     }
+}
+
+/// Whether the keys are one.
+fn is_one(key: &PubKey, other: &PubKey) -> bool
+    ensures { IsTrue result ↔ (key.now ≡ other.now) }
+{
+    key == other
 }
 
 /// Whether the keys ascend strictly by their bytes.

@@ -1,6 +1,7 @@
 //! Views: their tests, and what is asked of them.
 
 ghost use Rattle.std.specs.Prelude.{◌≡◌, ◌≢◌, ◌≤◌, IfOk, IfErr, OnOk};
+ghost use Rattle.ivy_base.specs.Naming.{head_key_of};
 ghost use Rattle.log_model.specs.View.{IsView, view_block, view_name, is_member, is_former, most_members, most_former};
 ghost use Rattle.log_model.specs.ViewKeys.{HasKeys};
 ghost use Rattle.view_blocks.specs.Faults.{HasFewKeys, CountsFailAs, FailsAs, BlockFailsAs};
@@ -126,6 +127,13 @@ impl View {
         ensures keys { HasKeys self.now }
     {
         self.former.keys()
+    }
+
+    /// The head key of the log of that owner. A view keeps those of its members, and computes any other.
+    pub fn head_key(&self, owner: &PubKey) -> Key
+        ensures { result ≡ head_key_of owner.now }
+    {
+        self.members.head_key(owner)
     }
 
     /// Whether this is the head key of a member's log.

@@ -1,4 +1,4 @@
-use Rattle.std.proofs.Common.{◌≡◌, [], length, ap, ◌∙◌, subst, arith, refl}
+use Rattle.std.proofs.Common.{◌≡◌, [], length, sym, ap, ◌∙◌, subst, arith, refl}
 use Rattle.std.proofs.lemmas.List.{get_or_default}
 use Rattle.hash_signature_model.specs.declared.keys.PrivateKey.{PrivateKey}
 use Rattle.hash_signature_model.specs.Parameters.{lms_type, ots_type, levels}
@@ -6,15 +6,17 @@ use Rattle.hash_signature_model.specs.OneTime.{word}
 use Rattle.hash_signature_model.specs.Nodes.{root}
 use Rattle.hash_signature_model.specs.Signatures.{public_key, public_of}
 use Rattle.hash_signature_model.proofs.Paths.{length_node, leaves_some}
+use Rattle.lms_core.specs.Kept.{AreNodes}
 use Rattle.lms_core.proofs.Pieces.{four_puts, four_parts_are}
 use Rattle.lms_core.proofs.tree.Tree.public.Goals as goal
 
 pub returns : goal.returns
 returns c =
     let t = c.self.inside in
-    let all = c.self.invariant.1 in
+    let shared : c.deref.result.now.items ≡ t.nodes.value.items = λ i. (c.deref.ensures i).items in
+    let all : AreNodes t.key c.deref.result.now.items = subst (AreNodes t.key) (sym shared) c.self.invariant.1 in
     let size = all.size in
-    let root_is : c.index.result.now ≡ root t.key.set t.key.id t.key.seed = c.index.ensures ∙ (get_or_default t.nodes.items 1 _ [] (omega (arith, leaves_some t.key.set.h)) ∙ all.known (levels t.key.set.h) 0 1 (omega arith) (record { low = omega arith; high = omega arith })) in
+    let root_is : c.index.result.now ≡ root t.key.set t.key.id t.key.seed = c.index.ensures ∙ (get_or_default c.deref.result.now.items 1 _ [] (omega (arith, leaves_some t.key.set.h)) ∙ all.known (levels t.key.set.h) 0 1 (omega arith) (record { low = omega arith; high = omega arith })) in
     let whole = four_puts [] c.put.new.out c.put-2.new.out c.put-3.new.out c.put-4.new.out c.to_be_bytes.result c.to_be_bytes-2.result t.key.id c.index.result.now
     (ap length c.to_be_bytes.ensures) (ap length c.to_be_bytes-2.ensures) c.self.invariant.0 (ap length root_is ∙ length_node t.key.set t.key.id t.key.seed (levels t.key.set.h) 1)
     (c.put-4.auto.out ∙ (c.put-3.auto.out ∙ (c.put-2.auto.out ∙ c.put.auto.out)))

@@ -12,9 +12,10 @@ returns-clause-signed c =
     let t = c.self.inside in
     let g = t.key in
     let lt = subst (λ (x : PrivateKey). c.args.q < leaves x.set.h) (sym c.self.view_is) c.requires in
-    let all = subst (AreNodes g) (sym c.deref.ensures.value) c.self.invariant.1 in
+    let shared : c.deref.result.now.items ≡ t.nodes.value.items = λ i. (c.deref.ensures i).items in
+    let all = subst (AreNodes g) (sym (c.deref-2.ensures.value ∙ shared)) c.self.invariant.1 in
     subst (λ (x : PrivateKey). c.of.result ≡ signature x.set (signature_of x c.args.q c.args.message.now)) c.self.view_is
-    (c.of.ensures ∙ (c.in_ok-out.ensures ∙ signature_is g c.deref.result.now c.args.q c.args.message.now c.derive_randomizer-randomizer.result c.digest_message-digest.result c.with_checksum-code.result all lt c.derive_randomizer-randomizer.ensures c.digest_message-digest.ensures c.with_checksum-code.ensures))
+    (c.of.ensures ∙ (c.in_ok-out.ensures ∙ signature_is g c.deref-2.result.now c.args.q c.args.message.now c.derive_randomizer-randomizer.result c.digest_message-digest.result c.with_checksum-code.result all lt c.derive_randomizer-randomizer.ensures c.digest_message-digest.ensures c.with_checksum-code.ensures))
 
 pub returns-clause-accepted : goal.returns-clause-accepted
 returns-clause-accepted c =
