@@ -1,6 +1,6 @@
 //! Writing parts.
 
-ghost use Rattle.std.specs.Prelude.{◌≡◌, ◌+◌, ◌^◌, ◌<◌, ◌≤◌, ◌++◌, IfSome};
+ghost use Rattle.std.specs.Prelude.{◌≡◌, ◌+◌, ◌^◌, ◌<◌, ◌≤◌, ◌++◌, IfNone, IfSome};
 ghost use Rattle.wire_model.specs.Xdr.{moment};
 ghost use Rattle.log_model.specs.Spelling.{kind_number as number_of_kind};
 ghost use Rattle.block_parts.specs.Parts.{key_bytes, opaque_size, IsShort};
@@ -12,6 +12,7 @@ use xdr_codec::XdrWrite;
 pub fn opaque_len(bytes: &[u8]) -> Option<usize>
     ensures size { IfSome result (λ n. n ≡ opaque_size bytes.now) }
     ensures short { IfSome result (λ _. IsShort bytes.now) }
+    ensures long { IfNone result (IsShort bytes.now → ⊥) }
     ensures bound { IfSome result (λ n. n ≤ 2 ^ 33) }
 {
     let len = bytes.len();

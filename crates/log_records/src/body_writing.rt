@@ -1,6 +1,6 @@
 //! Writing the operation of a record.
 
-ghost use Rattle.std.specs.Prelude.{◌≡◌, ◌+◌, ◌^◌, ◌<◌, ◌≤◌, ◌++◌, length, IfSome};
+ghost use Rattle.std.specs.Prelude.{◌≡◌, ◌+◌, ◌^◌, ◌<◌, ◌≤◌, ◌++◌, length, IfNone, IfSome};
 ghost use Rattle.wire_model.specs.Xdr.{word, double_word, opaque};
 ghost use Rattle.log_model.specs.Spelling.{record_kind, body, kind_number as number_of_kind};
 ghost use Rattle.block_parts.specs.Parts.{key_bytes};
@@ -34,6 +34,7 @@ pub fn kind_of(op: &Op) -> u32
 pub fn body_len(op: &Op) -> Option<usize>
     ensures size { IfSome result (λ n. n ≡ body_size op.now) }
     ensures short { IfSome result (λ _. HasShortTexts op.now) }
+    ensures long { IfNone result (HasShortTexts op.now → ⊥) }
     ensures bound { IfSome result (λ n. n ≤ 2 ^ 35) }
 {
     match op {
@@ -57,6 +58,7 @@ fn len_with(before: usize, text: &Bytes) -> Option<usize>
     requires { before ≤ 2 ^ 34 }
     ensures size { IfSome result (λ n. n ≡ before + opaque_size text.now) }
     ensures short { IfSome result (λ _. IsShort text.now) }
+    ensures long { IfNone result (IsShort text.now → ⊥) }
     ensures bound { IfSome result (λ n. n ≤ before + 2 ^ 33) }
 {
     match opaque_len(text.as_slice()) {
