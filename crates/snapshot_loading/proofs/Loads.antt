@@ -70,6 +70,7 @@ whole_by : (root : Key) (read : List Read) (todo : List Wanted) (failed : Option
     → IsReadWhole (record { root = root; read = read; todo = todo; failed = failed }) read
 whole_by root read [] None h e none = record {
   whole = h;
+  unfailed = none;
   brought = append-nil (brought_by read);
   of_one = λ b are. from_root h (loaded b are);
   of_none = λ none. from_root h (no_whole none);
@@ -142,13 +143,8 @@ taken_off todo new left r next o is items e =
 
 -- ---- from what code knows
 
-pub is_held : (failed : Option Failure) (b : Bool) → b ≡ is_some failed → b ≡ true → failed ≢ None
-is_held None b e held = λ none. cc
-is_held (Some f) b e held = λ none. cc
-
-pub is_none : (failed : Option Failure) (b : Bool) → b ≡ is_some failed → b ≡ false → failed ≡ None
-is_none None b e held = refl
-is_none (Some f) b e held = cc
+pub is_held : (failed : Option Failure) (f : Failure) → failed ≡ Some f → failed ≢ None
+is_held failed f is = λ none. cc
 
 front_is : (todo left : List Wanted) (front next : Wanted) → front ≡ slice_index_or todo 0 front → todo ≡ next ∷ left → front ≡ next
 front_is todo left front next first e = first ∙ ap (λ (t : List Wanted). slice_index_or t 0 front) e

@@ -1,5 +1,6 @@
 pub mod Roles
 pub mod Loading
+pub mod Causes
 pub mod Laws
 pub mod Picks
 pub mod Evenness

@@ -130,6 +130,7 @@ pub record FailsNext (l : Loading) (came : Result (List ℕ) Miss) : Type 0 wher
 -- All was read, into these blocks: what loading comes to is for them to say.
 pub record IsReadWhole (l : Loading) (read : List Read) : Type 0 where
   pub whole : HasRead (root_alone l.root) read []
+  pub unfailed : l.failed ≡ None
   pub brought : brought_to l ≡ brought_by read
   pub of_one : (b : Basis) → AreOf (bytes_of read) b → ComesTo l (Loaded (Some b))
   pub of_none : ((b : Basis) → AreOf (bytes_of read) b → ⊥) → ComesTo l (Loaded None)

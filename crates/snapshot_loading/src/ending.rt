@@ -2,8 +2,8 @@
 
 ghost use Rattle.std.specs.Prelude.{◌≡◌, None, IfOk};
 ghost use Rattle.ivy_base.specs.declared.key.Key.{Key};
-ghost use Rattle.session_model.specs.Refreshing.{Loaded};
-ghost use Rattle.snapshot_loading.specs.Loading.{ComesTo, bytes_of, wanted_of};
+ghost use Rattle.snapshot_loading.specs.Loading.{bytes_of, wanted_of};
+ghost use Rattle.snapshot_loading.specs.Causes.{EndsSo};
 ghost use Rattle.snapshot_loading.specs.WholeLaws.{blocks_read};
 ghost use Rattle.snapshot_loading.specs.Answers.{AreReadFrom, IsABasis, loaded_basis};
 ghost use Rattle.snapshot_loading.specs.Ends.{AreOfBasis};
@@ -11,21 +11,26 @@ ghost use Rattle.snapshot_loading.specs.Ends.{AreOfBasis};
 use crate::building::build;
 use crate::evenness::is_even;
 use crate::inodes::all_inodes;
-use crate::{Load, Read};
+use crate::{Load, LoadMiss, Read};
 use block_parts::BlockFault;
 use fs_tree::Basis;
 use ivy_base::Memory;
 use snapshot_blocks::RootBlock;
 use std::alloc::Global;
 
-/// The basis that loading has come to; none where it has come to none. The error is want of memory.
-pub fn loaded(alloc: Global, load: Load) -> Result<Option<Basis>, Memory>
+/// The basis that loading has come to; or why it has come to none: by the first block that failed, or, where none did, since
+/// all blocks together are no snapshot. The error around it is want of memory.
+pub fn loaded(alloc: Global, load: Load) -> Result<Result<Basis, LoadMiss>, Memory>
     requires { wanted_of load ≡ None }
-    ensures { IfOk result (λ basis. ComesTo load (Loaded (loaded_basis basis))) }
+    ensures { IfOk result (EndsSo load) }
 {
-    match load.into_read() {
-        Some(read) => into_basis(alloc, read),
-        None => Ok(None),
+    let read = match load.into_read() {
+        Ok(read) => read,
+        Err(miss) => return Ok(Err(miss)),
+    };
+    match into_basis(alloc, read)? {
+        Some(basis) => Ok(Ok(basis)),
+        None => Ok(Err(LoadMiss::Malformed)),
     }
 }
 

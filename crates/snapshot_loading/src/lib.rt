@@ -9,7 +9,7 @@
 //!   definition of loading (`LoadsFor` of `session_model`). Want of memory leaves it as it was.
 //! - [`into_basis`] takes the blocks as they were read, and gives the basis exactly where there is one whose snapshot they are
 //!   (`AreOf` of `snapshot_model`); there is no other one. [`loaded`] takes a load that is over, and gives what the definition
-//!   of loading comes to.
+//!   of loading comes to, or the exact reason why that is no basis ([`LoadMiss`]).
 //! - [`build`] gives the tree of these [`InodeParts`], which come from strangers, exactly where it is one without
 //!   contradictions (`IsSound` of `tree_model`): numbers and names in order, the root a directory without a name, names in
 //!   directories and of inodes, a directory with one name at most and none inside itself.
@@ -26,7 +26,7 @@
 //! where one may not be given, and `settling` gives them their bytes and attributes: a file's bytes in one Write of them all,
 //! so that each place of it counts as written (`inode_replay`).
 //!
-//! Definitions: `specs/Loading.antt` is how far loading is, `specs/Roles.antt` what blocks are to be and what they name;
+//! Definitions: `specs/Loading.antt` is how far loading is, `specs/Causes.antt` why it comes to no basis, `specs/Roles.antt` what blocks are to be and what they name;
 //! `specs/Forests.antt` has blocks with those below them, and when lists of them are even, `specs/ShownInodes.antt` what an
 //! inode's block shows, `specs/Wholes.antt` what a root's does, and `specs/Laws.antt`, `specs/WholeLaws.antt`;
 //! `specs/Picks.antt` is the blocks of a level, `specs/Evenness.antt` even lists by the bytes of their blocks,
@@ -66,7 +66,7 @@ ghost use Rattle.snapshot_loading.specs.WholeLaws.{EvenListsAreLists, ForestIsOn
 
 pub use building::build;
 pub use ending::{into_basis, loaded};
-pub use load::{Failure, Load, Read};
+pub use load::{Failure, Load, LoadMiss, Read};
 pub use parts::InodeParts;
 pub use role::{Item, Role, Wanted};
 

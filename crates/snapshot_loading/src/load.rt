@@ -1,9 +1,10 @@
 //! A snapshot on its way.
 
-ghost use Rattle.std.specs.Prelude.{◌≡◌, ◌≢◌, None, Some, Ok, IfOk, IfSome, IfNone, OnOk, OnErr};
+ghost use Rattle.std.specs.Prelude.{◌≡◌, ◌≢◌, None, Some, Ok, IfErr, IfOk, IfSome, OnOk, OnErr};
 ghost use Rattle.ivy_base.specs.Naming.{name};
-ghost use Rattle.session_model.specs.Refreshing.{LoadWants, Loaded};
+ghost use Rattle.session_model.specs.Refreshing.{LoadWants};
 ghost use Rattle.snapshot_loading.specs.Loading.{begun, wanted_of, ComesTo, FailsNext, HasBeenGiven, IsReadWhole};
+ghost use Rattle.snapshot_loading.specs.Causes.{cause_of, FailedBy};
 
 use crate::names::{Named, names};
 use crate::role::{Role, Wanted};
@@ -33,6 +34,30 @@ pub struct Failure {
     pub key: Key,
     /// The block, which isn't what it was to be, or why it couldn't be had.
     pub came: Result<Bytes, Miss>,
+}
+
+/// Why loading came to no basis.
+#[derive(Clone, Copy)]
+pub enum LoadMiss {
+    /// The block of that name couldn't be had: no owner of it was found, or none that was asked has it.
+    Missing(Key),
+    /// An owner gave a block that isn't the one of that name, and none gave that.
+    Damaged(Key),
+    /// A block came that isn't what it was to be; or all blocks are, and together they are no snapshot.
+    Malformed,
+}
+
+impl Failure {
+    /// Why loading that ended by it came to no basis.
+    fn cause(&self) -> LoadMiss
+        ensures { result ≡ cause_of self.now }
+    {
+        match &self.came {
+            Ok(_) => LoadMiss::Malformed,
+            Err(Miss::Damaged { .. }) => LoadMiss::Damaged(self.key),
+            Err(_) => LoadMiss::Missing(self.key),
+        }
+    }
 }
 
 /// A snapshot on its way. Contracts see the name of its root, what was read, what is still to be read, and by what it failed.
@@ -96,16 +121,17 @@ impl Load {
         }
     }
 
-    /// The blocks, in the order in which they were read; none where one couldn't be had, or wasn't what it was to be.
-    pub fn into_read(self) -> Option<Vec<Read>>
+    /// The blocks, in the order in which they were read. The error says why one couldn't be had, or that it wasn't what it was to
+    /// be.
+    pub fn into_read(self) -> Result<Vec<Read>, LoadMiss>
         requires { wanted_of self ≡ None }
-        ensures read { IfSome result (λ read. IsReadWhole self read.items) }
-        ensures failed { IfNone result (ComesTo self (Loaded None)) }
+        ensures read { IfOk result (λ read. IsReadWhole self read.items) }
+        ensures failed { IfErr result (FailedBy self) }
     {
-        if self.failed.is_some() {
-            return None;
+        if let Some(failure) = &self.failed {
+            return Err(failure.cause());
         }
-        Some(self.read)
+        Ok(self.read)
     }
 
     // Takes the block that is wanted. The error is want of memory, and then loading stands as before.

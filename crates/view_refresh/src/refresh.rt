@@ -393,14 +393,14 @@ impl<J: Judge> ViewRefresh<J> {
         }
     }
 
-    /// Fetches the logs over the snapshot that was loaded, where there is one and it counts, or else over what is held. The
-    /// error is want of memory.
+    /// Fetches the logs over the snapshot that was loaded, where there is one and it counts, or else over what is held: a
+    /// snapshot that is missing, damaged or malformed is none. The error is want of memory.
     fn fetch_over(&self, loading: Loading) -> Result<State<J>, Memory>
         requires { wanted_of loading.load ≡ None }
         ensures { IfOk result (IsFree J.judges self.now.judge self.now.replicas self.now.entries (most_left + most_asks * load_left loading.load) (AreOfLoad loading)) }
     {
         let (standing, load) = loading.into_parts();
-        let basis = loaded(self.alloc, load)?;
+        let basis = loaded(self.alloc, load)?.ok();
         fetch_from(
             self.alloc,
             self.judge,
