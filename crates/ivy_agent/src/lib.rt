@@ -26,7 +26,8 @@
 //! - [`Agent::standing`] is `standing_in` and [`Agent::settle`] is `settled`. [`Agent::owner`] is the agent's
 //!   public key and [`Agent::view`] its view.
 //! - [`Agent::snap`] is `snapping`, for some answer to whether the save fails, with what is saved
-//!   (`specs/Snapping.antt`). It is for what is held within the bounds of a snapshot (`IsBasisSpelled`).
+//!   (`specs/Snapping.antt`). Where what is held is more than a snapshot has room for, that counts as want of
+//!   memory.
 //! - [`Agent::plan_fault`] plans that a save of a keeper in memory fails.
 //! - [`Agent::turn`] is a `Turns` of the definitions, for some answer to whether the save fails; where
 //!   nothing is saved, for either answer (`TakesTurn` in `specs/Turns.antt`). It is `Behind`, `BelowTide`, or
@@ -94,8 +95,8 @@
 //! - A save is one allocation beside those of the saved key and of the view's block, and copies each pending
 //!   block once.
 //! - Entering a view and starting again make an empty tree; the latter also grows the key's trees.
-//! - A standing copies the view, the vectors and the pending posts, looks at the owner of each held record,
-//!   and hashes each log's key once.
+//! - A standing copies the view, the vectors and the pending posts, and looks at the owners of the newest held
+//!   records. It hashes nothing: the view has its members' head keys.
 //! - A snapshot copies all that is held once, and compares each of its blocks with each pending one.
 //! - Settling hashes a post only where an acknowledgement has its key, and takes no memory.
 //! - A call is answered, or planned, once; the tree isn't copied. Each record is written and hashed once: its

@@ -6,7 +6,6 @@ ghost use Rattle.std.specs.Str.{bytes_eq};
 ghost use Rattle.ivy_base.specs.Naming.{head_key_of};
 ghost use Rattle.log_model.specs.Rank.{rank};
 ghost use Rattle.replay_engine.specs.Engines.{holding};
-ghost use Rattle.snapshot_model.specs.Reading.{IsBasisSpelled};
 ghost use Rattle.version_vectors.specs.Ranks.{rank_of};
 ghost use Rattle.agent_model.specs.Agent.{joined, own_key};
 ghost use Rattle.agent_model.specs.Others.{basis_of, block_post, is_block, is_pending_block};
@@ -39,8 +38,9 @@ pub struct Snapshot {
 }
 
 /// The snapshot in that view of all that the engine holds, whose front that is, with its blocks behind those that are pending.
-/// The error is want of memory; it also comes where a word counts neither the posts nor the bytes of one that is new, and where
-/// the newest record's vector has more than 2^31 entries.
+/// The error is want of memory; it also comes where a word counts neither the posts nor the bytes of one that is new, where the
+/// newest record's vector has more than 2^31 entries, and where a list or a block of a snapshot has no room for what it would
+/// stand for.
 pub fn snapshot_of(
     alloc: Global,
     view: &View,
@@ -48,8 +48,7 @@ pub fn snapshot_of(
     engine: &Engine,
     pending: &Posts,
 ) -> Result<Snapshot, Memory>
-    requires front { front.now ≡ joined (holding engine.now) }
-    requires spelled { IsBasisSpelled (basis_of (holding engine.now)) }
+    requires { front.now ≡ joined (holding engine.now) }
     ensures { IfOk result (λ s. IsSnapshot view.now (basis_of (holding engine.now)) pending.now s) }
 {
     let tide = tide_of(engine)?;

@@ -68,10 +68,6 @@ module _ (t : Tree) (order : IsInOrder t) (ks : List Key) (all : ks ≡ numbers 
     same : stands.inode ≡ inode
     same = let is : Some stands.inode ≡ Some inode = sym (found ∙ stands.found) in cc
 
-    -- what holds of each holds of it
-    pub holds_here : (P : Key × Inode → Type 0) → AllByRecursion P t.inodes → P (get_or ks i d, inode)
-    holds_here P every = subst (λ j. P (get_or ks i d, j)) same (each P t.inodes (get_or ks i d, stands.inode) every stands.among)
-
     -- it is the next one
     pub made_next : map (inode_made t) (take (i + 1) t.inodes) ≡ map (inode_made t) (take i t.inodes) ++ inode_made t (get_or ks i d, inode) ∷ []
     made_next =

@@ -1,37 +1,11 @@
 -- Lists whose items are put one after the other.
 use Rattle.std.proofs.Common.{◌≡◌, ℕ, ◌+◌, ◌*◌, ◌<◌, ◌≤◌, min, List, [], ◌∷◌, ◌++◌, length, map, take, drop, refl, sym, ap, ◌∙◌, subst, arith}
-use Rattle.std.specs.List.{flat_map}
 use Rattle.std.proofs.lemmas.List.{append-nil, append_assoc, length-append, length-drop, length-map, map-append, drop_all, take_all, drop-drop}
-use Rattle.snapshot_model.specs.Spelling.{Made, in_pieces, list_made}
-use Rattle.snapshot_model.proofs.Pieces.{few_pieces}
+use Rattle.snapshot_model.specs.Spelling.{Made, in_pieces}
 use Rattle.snapshot_store.specs.declared.levels.Levels.{Levels}
-use Rattle.snapshot_store.specs.Levels.{AreFull, IsCut, IsOver, item_count}
+use Rattle.snapshot_store.specs.Levels.{IsOver}
 use Rattle.snapshot_store.specs.Listing.{IsListing}
 use Rattle.snapshot_store.proofs.Cuts.{next_piece, piece_in_front}
-use Rattle.snapshot_store.proofs.Waiting.{as_many}
-
--- ---- any list
-
-length_full : {A : Type 0} (ps : List (List A)) → AreFull ps → length (flat_map (λ (p : List A). p) ps) ≡ 512 * length ps
-length_full [] full = refl
-length_full (p ∷ ps) full = omega (arith, length-append p (flat_map (λ p. p) ps), full.0, length_full ps full.1)
-
-length_cut : {A : Type 0} {things : List A} {ps : List (List A)} {left : List A} → IsCut things ps left → length things ≡ 512 * length ps + length left
-length_cut {ps = ps} {left = left} cut = ap length cut.whole ∙ length-append (flat_map (λ p. p) ps) left ∙ ap (λ n. n + length left) (length_full ps cut.full)
-
-module _ (before now : List (List ℕ)) (items : List Made) (l : Levels) (over : IsOver before items now l) where
-  pub items_counted : item_count l ≡ length items
-  items_counted =
-      omega (
-        arith,
-        length_cut over.items_cut,
-        length_cut over.lists_cut,
-        length-map over.lowest (list_made 1),
-        length-map over.middle (list_made 2),
-        as_many l.firsts.items over.firsts over.firsts_wait,
-        as_many l.seconds.items over.seconds over.seconds_wait,
-        as_many l.thirds.items (map (list_made 2) over.middle) over.thirds_wait,
-      )
 
 -- ---- lists over pieces
 
@@ -52,10 +26,6 @@ module _ {A : Type 0} (size : ℕ) (make : List A → Made) (before : List (List
   module _ (rest : List A) (now : List (List ℕ)) (l : Levels) (listing : IsListing size make before things rest now l) (none : rest ≡ []) where
     pub all_done : IsOver before (map make (in_pieces size things)) now l
     all_done = subst (λ ps. IsOver before (map make ps) now l) (sym (append-nil listing.done) ∙ ap (λ (r : List A). listing.done ++ in_pieces size r) (sym none) ∙ listing.whole) listing.over
-
-    pub few_done : length things ≤ size * 134217728 → item_count l ≤ 134217728
-    few_done few =
-        omega (arith, items_counted before now (map make (in_pieces size things)) l all_done, length-map (in_pieces size things) make, few_pieces (length things) size things 134217728 few)
 
 -- ---- the next piece
 

@@ -166,12 +166,3 @@ module _ (before blocks : List (List ℕ)) (items : List Made) (l : Levels) (ove
               ∙ ap (λ (p : ℕ × List Made). put_all before p.1) (sym is_three);
           named = is ∙ ap (λ k. record { level = 3; top = k }) (closes.named ∙ ap (λ ks. name (list_block 3 ks)) twos_put.0) ∙ ap named_by (sym is_three);
         }
-
--- no more names wait than a list block may have
-pub few_above : (firsts seconds thirds seconds_then thirds_then : List Key) (b0 b1 b2 : List (List ℕ)) → 262144 * length thirds + 512 * length seconds + length firsts ≤ 134217728
-    → ClosesRest 1 firsts seconds b0 seconds_then b1 → ClosesRest 2 seconds_then thirds b1 thirds_then b2 → length thirds_then ≤ 512
-few_above firsts seconds thirds [] thirds_then b0 b1 b2 few first second = omega (arith, ap length second.0, few)
-few_above [] seconds thirds (s ∷ ss) thirds_then b0 b1 b2 few first second =
-    omega (arith, ap length first.0, ap length second.0, length-append thirds (name (list_block 2 (s ∷ ss)) ∷ []), few)
-few_above (f ∷ fs) seconds thirds (s ∷ ss) thirds_then b0 b1 b2 few first second =
-    omega (arith, ap length second.0, length-append thirds (name (list_block 2 (s ∷ ss)) ∷ []), few)

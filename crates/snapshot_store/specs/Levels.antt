@@ -39,10 +39,6 @@ pub record HasRoom (l : Levels) : Type 0 where
 abbrev pub HasOneList : Levels → Type 0
 HasOneList l = (l.thirds.items ≡ []) × (length l.seconds.items ≤ 1)
 
--- how many items the names stand for
-abbrev pub item_count : Levels → ℕ
-item_count l = 262144 * length l.thirds.items + 512 * length l.seconds.items + length l.firsts.items
-
 -- pieces of 512
 abbrev pub AreFull : {A : Type 0} → List (List A) → Type 0
 AreFull {A} pieces = AllByRecursion (λ (p : List A). length p ≡ 512) pieces

@@ -1,12 +1,10 @@
 -- What is put of a snapshot.
-use Rattle.std.specs.Prelude.{◌≡◌, ℕ, ◌≤◌, List, length, flat_map, fold, Option, option_map}
-use Rattle.ivy_base.specs.declared.key.Key.{Key}
-use Rattle.tree_model.specs.Tree.{Tree, Inode, listing}
+use Rattle.std.specs.Prelude.{◌≡◌, ℕ, List, flat_map, fold, Option, option_map}
+use Rattle.tree_model.specs.Tree.{Tree}
 use Rattle.log_model.specs.Vector.{Vector}
 use Rattle.turn_model.specs.Basis.{Basis}
 use Rattle.version_vectors.specs.declared.rank.Rank.{Rank}
 use Rattle.version_vectors.specs.Ranks.{rank_of}
-use Rattle.snapshot_model.specs.Reading.{HasBounds}
 use Rattle.snapshot_model.specs.Spelling.{Made, with_block, list_of, named_by}
 use Rattle.snapshot_blocks.specs.declared.listed.Listed.{Listed}
 use Rattle.snapshot_blocks.specs.Parsed.{listed_of}
@@ -23,7 +21,3 @@ put_all blocks made = fold with_block blocks (flat_map (λ m. m.putting) made)
 pub record PutsList (before : List (List ℕ)) (items : List Made) (after : List (List ℕ)) (l : Listed) : Type 0 where
   pub blocks : after ≡ put_all before (list_of items).1
   pub named : listed_of l ≡ named_by (list_of items)
-
--- the inode has the bounds of one in a snapshot, and as many entries at most as a list has room for
-abbrev pub IsInodeBounded : Tree → Key × Inode → Type 0
-IsInodeBounded t e = HasBounds e.1 × (length (listing t e.0) ≤ 4294967296)

@@ -1,15 +1,13 @@
 //! Inodes, each with all that it contains.
 
-ghost use Rattle.std.specs.Prelude.{◌≡◌, [], ◌∷◌, ◌≤◌, length, map, IfOk, OnOk};
-ghost use Rattle.std.specs.List.{AllByRecursion};
-ghost use Rattle.tree_model.specs.Tree.{listing};
-ghost use Rattle.snapshot_model.specs.Reading.{HasBounds};
+ghost use Rattle.std.specs.Prelude.{◌≡◌, [], ◌∷◌, map, IfOk, OnOk};
 ghost use Rattle.snapshot_model.specs.Spelling.{inode_made, made_name, size_of, target_of};
-ghost use Rattle.snapshot_store.specs.Puts.{IsInodeBounded, PutsList, put_all};
+ghost use Rattle.snapshot_store.specs.Puts.{PutsList, put_all};
 
 use crate::blocks::Blocks;
 use crate::items::put_items;
 use crate::levels::Levels;
+use block_parts::LONGEST_FILE;
 use dir_replay::Names;
 use fs_tree::Tree;
 use inode_replay::Content;
@@ -17,10 +15,12 @@ use ivy_base::{Key, Kind, Memory};
 use snapshot_blocks::{InodeBlock, Listed};
 use std::alloc::Global;
 
-/// Puts all inodes of the tree, in the order of their numbers, and the list over them. The error is want of memory.
+/// The most bytes of a link's text.
+const LONGEST_TARGET: usize = block_parts::LONGEST_TARGET as usize;
+
+/// Puts all inodes of the tree, in the order of their numbers, and the list over them. The error is want of memory; it also comes
+/// where there are more inodes than a list has room for, or one that no block of an inode stands for.
 pub fn put_inodes(alloc: Global, blocks: &mut Blocks, tree: &Tree) -> Result<Listed, Memory>
-    requires bounds { AllByRecursion (IsInodeBounded tree.now) tree.now.inodes }
-    requires few { length tree.now.inodes ≤ 134217728 }
     ensures { IfOk result (PutsList blocks.old (map (inode_made tree.now) tree.now.inodes) blocks.new) }
 {
     let numbers = tree.numbers(alloc)?;
@@ -36,7 +36,9 @@ pub fn put_inodes(alloc: Global, blocks: &mut Blocks, tree: &Tree) -> Result<Lis
     Ok(list)
 }
 
-/// Puts the inode of that number behind all that it contains, and gives the name of its block. The error is want of memory.
+/// Puts the inode of that number behind all that it contains, and gives the name of its block. The error is want of memory; it
+/// also comes where no block stands for the inode: its file is too long, its directory has too many entries, or its text is too
+/// long for a link.
 fn put_inode(
     alloc: Global,
     blocks: &mut Blocks,
@@ -44,18 +46,21 @@ fn put_inode(
     number: &Key,
     content: &Content,
 ) -> Result<Key, Memory>
-    requires bounds { HasBounds content.now.inode }
-    requires few { length (listing names.now number.now) ≤ 4294967296 }
     ensures blocks { OnOk result (blocks.new ≡ put_all blocks.old (inode_made names.now (number.now, content.now.inode) ∷ [])) }
     ensures named { IfOk result (λ key. key ≡ made_name (inode_made names.now (number.now, content.now.inode))) }
 {
+    let size = size_of(content);
+    let target = target_of(content);
+    if size > LONGEST_FILE || target.len() > LONGEST_TARGET {
+        return Err(Memory);
+    }
     let items = put_items(alloc, blocks, names, number, content)?;
     let inode = InodeBlock {
         number: *number,
         kind: content.kind(),
         attributes: content.attr(),
-        size: size_of(content),
-        target: target_of(content),
+        size,
+        target,
         items,
     };
     let name = blocks.add(inode.write(alloc)?)?;

@@ -3,12 +3,12 @@
 ghost use Rattle.std.specs.Prelude.{◌≡◌, ◌≤◌, length, map, IfOk};
 ghost use Rattle.tree_model.specs.Tree.{listing, longest_file};
 ghost use Rattle.snapshot_model.specs.Blocks.{entries_block, most_entries};
-ghost use Rattle.snapshot_model.specs.Reading.{HasBounds};
 ghost use Rattle.snapshot_model.specs.Spelling.{entries_made, in_pieces, items_of, piece_made};
 ghost use Rattle.snapshot_store.specs.Puts.{PutsList};
 
 use crate::blocks::Blocks;
 use crate::levels::{Levels, nothing};
+use block_parts::LONGEST_FILE;
 use dir_replay::Names;
 use inode_replay::Content;
 use ivy_base::{Bytes, Key, Kind, Memory};
@@ -21,7 +21,8 @@ const PIECE: u32 = 8192;
 /// How many entries a block has, but for the last one of a directory.
 const MOST_ENTRIES: usize = snapshot_blocks::MOST_ENTRIES as usize;
 
-/// Puts what the inode of that number contains, and the list over it. The error is want of memory.
+/// Puts what the inode of that number contains, and the list over it. The error is want of memory; it also comes where that is
+/// more than a list has room for.
 pub fn put_items(
     alloc: Global,
     blocks: &mut Blocks,
@@ -29,12 +30,15 @@ pub fn put_items(
     number: &Key,
     content: &Content,
 ) -> Result<Listed, Memory>
-    requires bounds { HasBounds content.now.inode }
-    requires few { length (listing names.now number.now) ≤ 4294967296 }
     ensures { IfOk result (PutsList blocks.old (items_of (listing names.now number.now) content.now.inode.body content.now.inode.kind) blocks.new) }
 {
     match content.kind() {
-        Kind::Reg => put_pieces(alloc, blocks, content),
+        Kind::Reg => {
+            if content.size() > LONGEST_FILE {
+                return Err(Memory);
+            }
+            put_pieces(alloc, blocks, content)
+        }
         Kind::Dir => {
             let listing = names.listing(alloc, number)?;
             put_entries(alloc, blocks, listing.as_slice())
@@ -43,7 +47,7 @@ pub fn put_items(
     }
 }
 
-/// Puts the pieces of a file, and the list over them. The error is want of memory.
+/// Puts the pieces of a file, and the list over them. The error is that of [`put_items`].
 fn put_pieces(alloc: Global, blocks: &mut Blocks, file: &Content) -> Result<Listed, Memory>
     requires { length file.now.inode.body ≤ longest_file }
     ensures { IfOk result (PutsList blocks.old (map piece_made (in_pieces 8192 file.now.inode.body)) blocks.new) }
@@ -60,13 +64,12 @@ fn put_pieces(alloc: Global, blocks: &mut Blocks, file: &Content) -> Result<List
     Ok(list)
 }
 
-/// Puts the entries of a directory, and the list over their blocks. The error is want of memory.
+/// Puts the entries of a directory, and the list over their blocks. The error is that of [`put_items`].
 fn put_entries(
     alloc: Global,
     blocks: &mut Blocks,
     entries: &[(Bytes, Key)],
 ) -> Result<Listed, Memory>
-    requires { length entries.now ≤ 4294967296 }
     ensures { IfOk result (PutsList blocks.old (map entries_made (in_pieces most_entries entries.now)) blocks.new) }
 {
     let mut levels = Levels::new(alloc);

@@ -3,7 +3,7 @@
 ghost use Rattle.std.specs.Prelude.{◌≡◌, ◌<◌, ◌≤◌, ℕ, List, [], ◌∷◌, ◌++◌, length, IfOk, OnOk, MatchBool};
 ghost use Rattle.log_model.specs.Spelling.{no_name};
 ghost use Rattle.snapshot_blocks.specs.Parsed.{listed_of};
-ghost use Rattle.snapshot_store.specs.Levels.{Appends, Closes, ClosesRest, Finishes, HasOneList, HasRoom, IsOver, TakesIn, item_count, top_listed};
+ghost use Rattle.snapshot_store.specs.Levels.{Appends, Closes, ClosesRest, Finishes, HasOneList, HasRoom, IsOver, TakesIn, top_listed};
 
 use crate::blocks::Blocks;
 use ivy_base::{Key, Memory};
@@ -65,10 +65,10 @@ impl Levels {
         Ok(())
     }
 
-    /// Puts the list blocks that are left, and gives the list. The error is want of memory.
+    /// Puts the list blocks that are left, and gives the list. The error is want of memory; it also comes where there are more
+    /// than 134,217,728 items, for which a list has no room.
     pub fn finish(mut self, alloc: Global, blocks: &mut Blocks) -> Result<Listed, Memory>
-        requires room { HasRoom self }
-        requires few { item_count self ≤ 134217728 }
+        requires { HasRoom self }
         ensures { IfOk result (Finishes self blocks.old blocks.new) }
     {
         close_rest(alloc, blocks, 1, &mut self.firsts, &mut self.seconds)?;
@@ -78,6 +78,9 @@ impl Levels {
         close_rest(alloc, blocks, 2, &mut self.seconds, &mut self.thirds)?;
         if self.thirds.len() <= 1 {
             return Ok(named(2, self.thirds.as_slice()));
+        }
+        if self.thirds.len() > MOST_NAMES {
+            return Err(Memory);
         }
         let top = close(alloc, blocks, 3, &mut self.thirds)?;
         Ok(Listed { level: 3, top })

@@ -1,7 +1,6 @@
 //! A snapshot as a whole.
 
 ghost use Rattle.std.specs.Prelude.{◌≡◌, IfOk};
-ghost use Rattle.snapshot_model.specs.Reading.{IsBasisSpelled};
 ghost use Rattle.snapshot_model.specs.Spelling.{root_name, snapshot_blocks};
 ghost use Rattle.snapshot_store.specs.Puts.{basis_with};
 
@@ -27,8 +26,8 @@ pub struct Made {
 /// The blocks of a snapshot in that view of the tree, which covers the records of that front and that tide, the greatest
 /// rank among them.
 ///
-/// The tree, the front and the tide are to have the bounds within which one basis alone has these blocks. The error is want of
-/// memory.
+/// The error is want of memory. It also comes where a block or a list has no room for what it would stand for: there are more
+/// than 134,217,728 inodes, a directory has more entries than such a list of blocks, or a file or a link's text is too long.
 pub fn make(
     alloc: Global,
     view: &View,
@@ -36,7 +35,6 @@ pub fn make(
     tide: Option<Rank>,
     tree: &Tree,
 ) -> Result<Made, Memory>
-    requires { IsBasisSpelled (basis_with front.now tide tree.now) }
     ensures root { IfOk result (λ made. made.root ≡ root_name view.now (basis_with front.now tide tree.now)) }
     ensures blocks { IfOk result (λ made. made.blocks.items ≡ snapshot_blocks view.now (basis_with front.now tide tree.now)) }
 {

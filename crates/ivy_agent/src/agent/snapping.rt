@@ -1,8 +1,6 @@
 //! Agents that make snapshots of what they hold.
 
 ghost use Rattle.std.specs.Prelude.{IfSome, IsSomeAnd};
-ghost use Rattle.snapshot_model.specs.Reading.{IsBasisSpelled};
-ghost use Rattle.agent_model.specs.Others.{basis_of};
 ghost use Rattle.ivy_agent.specs.Causes.{SnapHasCause};
 ghost use Rattle.ivy_agent.specs.Snapping.{Snaps};
 
@@ -23,10 +21,10 @@ impl<K: Keeper, S: Signs> Agent<K, S> {
     ///
     /// `Keeper` where the save fails, after which the agent saves no more, or where one failed before, and then the keeper isn't
     /// asked; there is no new snapshot then. `Memory` where memory runs out, and then nothing has changed; it also comes where
-    /// no word counts the posts or the bytes of one, and where a record cites more than 2^31 logs.
+    /// what is held has no snapshot: no word counts the posts or the bytes of one, a record cites more than 2^31 logs, or there
+    /// are more inodes, or entries of one directory, than a list of a snapshot has room for.
     pub fn snap(&mut self, alloc: Global) -> Result<Key, SnapFault>
         requires view { IsSomeAnd self.old.agent.view (λ view. Unit {0}) }
-        requires spelled { IsBasisSpelled (basis_of self.old.agent.holding) }
         ensures snaps { IfSome self.old.agent.view (λ view. Snaps S.signing S.is_whole K.saves view self.old result self.new) }
         ensures cause { SnapHasCause K.faults self.old result self.new }
     {

@@ -1,8 +1,6 @@
 //! A participant that makes a snapshot of what it holds.
 
 ghost use Rattle.std.specs.Prelude.{◌≡◌, IfOk, IfSome, IsSomeAnd, OnErr};
-ghost use Rattle.agent_model.specs.Others.{basis_of};
-ghost use Rattle.snapshot_model.specs.Reading.{IsBasisSpelled};
 
 use super::Participant;
 use ivy_agent::SnapFault;
@@ -16,7 +14,6 @@ impl Participant {
     /// printed, or None where the keeper failed, now or before. The error is want of memory; nothing is changed then.
     pub fn snap(&mut self, alloc: Global) -> Result<Option<Key>, Memory>
         requires view { IsSomeAnd self.old.agent.view (λ view. Unit {0}) }
-        requires spelled { IsBasisSpelled (basis_of self.old.agent.holding) }
         ensures snapped { IfOk result (λ root. IfSome self.old.agent.view (λ view. HasSnapped view self.old root self.new)) }
         ensures unchanged { OnErr result (self.new ≡ self.old) }
     {

@@ -1,12 +1,7 @@
 //! A tree that operations of records make, and its snapshots.
 
-ghost use Rattle.std.specs.Prelude.{◌≡◌, ◌≤◌, length, IsTrue};
 ghost use Rattle.log_model.specs.Spelling.{HasSpelling};
 ghost use Rattle.log_records.specs.Records.{record_of};
-ghost use Rattle.fs_tree.specs.Bases.{basis_of};
-ghost use Rattle.snapshot_model.specs.Blocks.{IsRootBlock};
-ghost use Rattle.snapshot_model.specs.Reading.{IsBasisSpelled};
-ghost use Rattle.snapshot_blocks.specs.Parsed.{root_of as said_of};
 
 use crate::lines::Line;
 use crate::records::record;
@@ -16,28 +11,13 @@ use log_records::Record;
 use snapshot_blocks::RootBlock;
 use snapshot_store::{Made, make};
 use std::alloc::Global;
-use std::marker::Model;
 use view_blocks::View;
-
-/// The most inodes of a snapshot.
-const MOST_INODES: usize = 134_217_728;
 
 /// A tree, and how many operations made it of the root alone.
 #[derive(Drop)]
 pub struct Grown {
     tree: Tree,
     count: u32,
-}
-
-impl Model for Grown {
-    ghost use Rattle.tree_model.specs.Tree.{Tree};
-    ghost use Rattle.tree_trials.specs.Grown.{IsGrown};
-
-    ghost Value = { Tree };
-
-    ghost view = { λ g. g.tree };
-
-    ghost invariant = { λ g. IsGrown g.count g.tree };
 }
 
 impl Grown {
@@ -79,36 +59,14 @@ impl Grown {
     /// memory.
     pub fn snapshot(&self, alloc: Global, view: &View, covers: &[u8]) -> Option<Made> {
         match RootBlock::read(alloc, covers) {
-            Ok(root) => self.snapshot_with(alloc, view, &root),
+            Ok(root) => make(alloc, view, &root.front, root.tide, &self.tree).ok(),
             Err(_) => None,
-        }
-    }
-
-    // A snapshot that covers what the root says, where it may have one.
-    fn snapshot_with(&self, alloc: Global, view: &View, root: &RootBlock) -> Option<Made>
-        requires { IsRootBlock (said_of root.now) }
-    {
-        if !self.has_few(alloc) {
-            return None;
-        }
-        make(alloc, view, &root.front, root.tide, &self.tree).ok()
-    }
-
-    // Whether it has no more inodes than a snapshot may have, and there was memory to count them.
-    fn has_few(&self, alloc: Global) -> bool
-        ensures { IsTrue result → length self.now.inodes ≤ 134217728 }
-    {
-        match self.tree.numbers(alloc) {
-            Ok(numbers) => numbers.len() <= MOST_INODES,
-            Err(_) => false,
         }
     }
 }
 
 /// The name of the root of the basis's snapshot in that view.
-pub fn root_of(line: &mut Line<'_>, view: &View, basis: &Basis) -> Key
-    requires { IsBasisSpelled (basis_of basis.now) }
-{
+pub fn root_of(line: &mut Line<'_>, view: &View, basis: &Basis) -> Key {
     match make(line.alloc, view, &basis.front, basis.tide, &basis.tree) {
         Ok(made) => made.root,
         Err(_) => {

@@ -2,8 +2,6 @@
 
 ghost use Rattle.std.specs.Prelude.{◌≡◌, None, IfOk};
 ghost use Rattle.ivy_base.specs.Naming.{name};
-ghost use Rattle.fs_tree.specs.Bases.{basis_of};
-ghost use Rattle.snapshot_model.specs.Reading.{IsBasisSpelled};
 ghost use Rattle.snapshot_loading.specs.Loading.{wanted_of};
 
 use crate::lines::Line;
@@ -12,7 +10,7 @@ use dhash_client::Miss;
 use dht_ids::{Peer, Peers};
 use fs_tree::Basis;
 use ivy_base::{Bytes, Key, name_of};
-use snapshot_loading::{Load, loaded};
+use snapshot_loading::{Load, LoadMiss, loaded};
 use snapshot_store::Block;
 use std::alloc::Global;
 use view_blocks::View;
@@ -91,44 +89,34 @@ fn came(line: &mut Line<'_>, blocks: &[Block], wrong: Wrong, key: &Key) -> Resul
     under(Bytes::of(bytes), key)
 }
 
-/// What loading comes to, if this came last and no basis comes of it.
-fn end_of(came: &Result<Bytes, Miss>) -> End {
-    match came {
-        Ok(_) => End::Malformed,
-        Err(Miss::Damaged { .. }) => End::Damaged,
-        Err(_) => End::Missing,
-    }
-}
-
 /// The most blocks that are read.
 const MOST_BLOCKS: u32 = 1_000_000;
 
-/// Reads what is wanted, and tells what loading comes to if no basis comes of it.
-fn read_all(line: &mut Line<'_>, blocks: &[Block], wrong: Wrong, load: &mut Load) -> End {
-    let mut end = End::Malformed;
-    'blocks: for _ in 0..MOST_BLOCKS {
+/// Reads what is wanted, until nothing is.
+fn read_all(line: &mut Line<'_>, blocks: &[Block], wrong: Wrong, load: &mut Load) {
+    for _ in 0..MOST_BLOCKS {
         let Some(key) = load.wanted() else {
-            break;
+            return;
         };
         let came = came(line, blocks, wrong, &key);
-        end = end_of(&came);
         if load.give(line.alloc, came).is_err() {
-            break;
+            return;
         }
     }
-    end
 }
 
 /// What a load that wants nothing more comes to.
-fn ended(line: &mut Line<'_>, view: &View, load: Load, end: End) -> End
+fn ended(line: &mut Line<'_>, view: &View, load: Load) -> End
     requires { wanted_of load ≡ None }
 {
     match loaded(line.alloc, load) {
-        Ok(Some(basis)) => End::Basis(root_of(line, view, &basis)),
-        Ok(None) => end,
+        Ok(Ok(basis)) => End::Basis(root_of(line, view, &basis)),
+        Ok(Err(LoadMiss::Missing(_))) => End::Missing,
+        Ok(Err(LoadMiss::Damaged(_))) => End::Damaged,
+        Ok(Err(LoadMiss::Malformed)) => End::Malformed,
         Err(_) => {
             line.fail();
-            end
+            End::Missing
         }
     }
 }
@@ -136,13 +124,13 @@ fn ended(line: &mut Line<'_>, view: &View, load: Load, end: End) -> End
 /// What loading goes on to, of which nothing was read.
 fn go_on(line: &mut Line<'_>, view: &View, blocks: &[Block], wrong: Wrong, load: Load) -> End {
     let mut load = load;
-    let end = read_all(line, blocks, wrong, &mut load);
+    read_all(line, blocks, wrong, &mut load);
     if load.wanted().is_some() {
         drop(load);
         line.fail();
-        return end;
+        return End::Missing;
     }
-    ended(line, view, load, end)
+    ended(line, view, load)
 }
 
 /// What loading the snapshot of that root comes to.

@@ -1,30 +1,18 @@
 use Rattle.std.proofs.Common.{◌∷◌, [], List, get_or, length, map, option_map, take, sym, ap, ◌∙◌, subst, arith}
 use Rattle.std.specs.Option.{option_copied}
-use Rattle.std.proofs.lemmas.List.{length-map, length-take, take_all}
+use Rattle.std.proofs.lemmas.List.{length-map, take_all}
 use Rattle.ivy_base.specs.declared.key.Key.{Key}
 use Rattle.tree_model.specs.Tree.{Inode, Tree}
 use Rattle.snapshot_model.specs.Spelling.{Made, inode_made, made_name}
 use Rattle.snapshot_store.specs.Levels.{IsOver}
-use Rattle.snapshot_store.specs.Puts.{IsInodeBounded, put_all}
-use Rattle.snapshot_store.proofs.InOrder.{not_missing, holds_here, made_next}
-use Rattle.snapshot_store.proofs.Listings.{items_counted}
+use Rattle.snapshot_store.specs.Puts.{put_all}
+use Rattle.snapshot_store.proofs.InOrder.{not_missing, made_next}
 use Rattle.snapshot_store.proofs.inodes.put_inodes.Goals as goal
 
 pub unreachable-requires : goal.unreachable-requires
 unreachable-requires c =
     not_missing c.args.tree.now c.in_ok-numbers.ensures.order c.deref-number-items.result.now (c.deref-number-items.ensures.value ∙ c.in_ok-numbers.ensures.numbers) c.inodes.number-index c.inodes-test.true _
     (sym (ap (λ found. option_map (λ k. k.inode) (option_copied found)) c.in_default.is) ∙ c.content.ensures)
-
-pub put_inode-requires-clause-bounds : goal.put_inode-requires-clause-bounds
-put_inode-requires-clause-bounds c =
-    (holds_here c.args.tree.now c.in_ok-numbers.ensures.order c.deref-number-items.result.now (c.deref-number-items.ensures.value ∙ c.in_ok-numbers.ensures.numbers) c.inodes.number-index c.inodes-test.true _
-    c.in-Some.content.now.inode c.in-Some.ensures (IsInodeBounded c.args.tree.now) c.requires.bounds).0
-
-pub put_inode-requires-clause-few : goal.put_inode-requires-clause-few
-put_inode-requires-clause-few c =
-    rw (c.names.ensures)
-    ((holds_here c.args.tree.now c.in_ok-numbers.ensures.order c.deref-number-items.result.now (c.deref-number-items.ensures.value ∙ c.in_ok-numbers.ensures.numbers) c.inodes.number-index c.inodes-test.true _
-    c.in-Some.content.now.inode c.in-Some.ensures (IsInodeBounded c.args.tree.now) c.requires.bounds).1)
 
 pub inodes-preserved : goal.inodes-preserved
 inodes-preserved c =
@@ -35,11 +23,6 @@ inodes-preserved c =
     (c.in_ok-push.ensures c.args.blocks.now c.inodes.blocks (map (inode_made t) (take c.inodes.number-index t.inodes)) (inode_made t entry) c.inodes.invariant
     (c.in_ok-name.ensures.blocks ∙ ap (λ (u : Tree). put_all c.inodes.blocks (inode_made u entry ∷ [])) c.names.ensures)
     (c.in_ok-name.ensures.named ∙ ap (λ (u : Tree). made_name (inode_made u entry)) c.names.ensures))
-
-pub finish-requires-clause-few : goal.finish-requires-clause-few
-finish-requires-clause-few c =
-    let t = c.args.tree.now in
-    omega (arith, items_counted c.args.blocks.now c.inodes.blocks (map (inode_made t) (take c.inodes.number-index t.inodes)) c.inodes.levels c.inodes.invariant, length-map (take c.inodes.number-index t.inodes) (inode_made t), length-take c.inodes.number-index t.inodes, c.requires.few)
 
 pub returns : goal.returns
 returns c =

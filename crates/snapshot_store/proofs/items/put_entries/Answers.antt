@@ -2,7 +2,7 @@ use Rattle.std.proofs.Common.{map, ap, ◌∙◌, arith}
 use Rattle.std.specs.Slice.Iter.{chunks_rest, chunks_size}
 use Rattle.snapshot_model.specs.Spelling.{in_pieces, entries_made}
 use Rattle.snapshot_model.specs.Blocks.{most_entries}
-use Rattle.snapshot_store.proofs.Listings.{none_done, one_done, all_done, few_done, chunk_cut, none_left}
+use Rattle.snapshot_store.proofs.Listings.{none_done, one_done, all_done, chunk_cut, none_left}
 use Rattle.snapshot_store.proofs.items.put_entries.Goals as goal
 
 pub entries-init : goal.entries-init
@@ -25,10 +25,6 @@ entries-preserved c =
           (rw c.in_ok-block_of.ensures at c.in_ok-name.ensures.blocks) (rw c.in_ok-block_of.ensures at c.in_ok-name.ensures.named));
       size = steps.0 ∙ c.entries.invariant.size;
     }
-
-pub finish-requires-clause-few : goal.finish-requires-clause-few
-finish-requires-clause-few c =
-    few_done most_entries entries_made c.args.blocks.now c.args.entries.now (chunks_rest c.entries.some-iterator) c.entries.blocks c.entries.levels c.entries.invariant.listed (none_left (chunks_rest c.entries.some-iterator) c.in-None.ensures.steps.1.0) (omega (arith, c.requires))
 
 pub returns : goal.returns
 returns c =

@@ -1,6 +1,6 @@
 use Rattle.std.proofs.Common.{refl, ap, ◌∙◌, arith}
 use Rattle.snapshot_store.specs.Levels.{top_listed}
-use Rattle.snapshot_store.proofs.Tops.{few_above, low_list, middle_list, upper_list}
+use Rattle.snapshot_store.proofs.Tops.{low_list, middle_list, upper_list}
 use Rattle.snapshot_store.proofs.levels.Levels.finish.Goals as goal
 
 pub returns-then-has_one_list : goal.returns-then-has_one_list
@@ -14,5 +14,4 @@ returns-then-len-le1 c before items over =
 pub returns : goal.returns
 returns c before items over =
     upper_list before c.args.blocks.now items c.args.self over c.close_rest.new.above.items c.close_rest.new.blocks c.in_ok-close_rest.ensures c.if-has_one_list.ensures c.close_rest-2.new.above.items c.close_rest-2.new.blocks c.in_ok-close_rest-2.ensures c.in_ok-top.top c.close.new.blocks (omega arith)
-    (few_above c.args.self.firsts.items c.args.self.seconds.items c.args.self.thirds.items c.close_rest.new.above.items c.close_rest-2.new.above.items c.args.blocks.now c.close_rest.new.blocks c.close_rest-2.new.blocks c.requires.few c.in_ok-close_rest.ensures c.in_ok-close_rest-2.ensures)
-    c.in_ok-top.ensures.closed _ refl
+    (omega arith) c.in_ok-top.ensures.closed _ refl
