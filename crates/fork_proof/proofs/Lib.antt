@@ -9,5 +9,8 @@ pub mod SignedTips
 pub mod PlaceLemmas
 pub mod WaysDown
 pub mod Names
+pub mod TrunkLemmas
 pub mod FoundProofs
 pub mod OneFinding
+pub mod FirstPairs
+pub mod FirstFound

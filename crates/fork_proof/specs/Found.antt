@@ -17,6 +17,12 @@ use Rattle.fork_proof.specs.declared.walked.Walk.{Walk}
 abbrev pub tip_seen : Tip → model.Tip
 tip_seen t = record { bytes = t.bytes.now; owner = t.owner; newest = stamp t.seq t.name }
 
+-- the head is of that record of the owner's
+pub record Begins (owner : PubKey) (seq : ℕ) (name : Key) (t : Tip) : Type 0 where
+  pub owner_is : t.owner ≡ owner
+  pub seq_is : t.seq ≡ seq
+  pub name_is : t.name ≡ name
+
 abbrev pub step_seen : Step → List ℕ × Key
 step_seen s = (s.block.now, s.prev)
 
@@ -35,12 +41,6 @@ walk_seen w = tip_seen w.tip
 
 abbrev pub HasNames : List (List ℕ) → Walk → Type 0
 HasNames blocks w = AreNames blocks (walk_seen w) w.names.items
-
--- the walk begins at that record of the owner's
-pub record Begins (owner : PubKey) (seq : ℕ) (name : Key) (w : Walk) : Type 0 where
-  pub owner_is : w.tip.owner ≡ owner
-  pub seq_is : w.tip.seq ≡ seq
-  pub name_is : w.tip.name ≡ name
 
 -- there is a name, and it is another one
 abbrev pub is_other : Key → Option Key → Bool

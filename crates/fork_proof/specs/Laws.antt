@@ -1,11 +1,12 @@
 -- What a fork proof says of a log, and of which bytes it is one.
-use Rattle.std.specs.Prelude.{◌≡◌, ◌⊎◌, List, ℕ, ◌++◌, Some}
-use Rattle.ivy_base.specs.Naming.{HasClash}
+use Rattle.std.specs.Prelude.{◌≡◌, ◌⊎◌, List, ℕ, ◌++◌, Some, IsTrue, Contains}
+use Rattle.ivy_base.specs.Naming.{HasClash, NamesTellApart}
 use Rattle.log_model.specs.Record.{Record}
 use Rattle.log_model.specs.Chain.{LinkedFrom}
 use Rattle.log_model.specs.Fetched.{EndsAt}
 use Rattle.log_model.specs.Spelling.{no_name}
 use Rattle.log_model.specs.Standing.{blocks_of}
+use Rattle.dhash_model.specs.Signed.{are_bytes}
 use Rattle.fork_model.specs.Before.{Before, TellsRecords}
 use Rattle.fork_model.specs.Finding.{find_fork}
 use Rattle.fork_proof.specs.declared.checking.Forked.{Forked}
@@ -13,6 +14,7 @@ use Rattle.fork_proof.specs.declared.fault.ProofFault.{ProofFault}
 use Rattle.fork_proof.specs.declared.fault.ProofFault.TheVariants.{Memory}
 use Rattle.fork_proof.specs.Forms.{ForkProof, IsProof, IsProofOf, proof_bytes}
 use Rattle.fork_proof.specs.Checks.{IsShown, ShowsFork, ShowsNone}
+use Rattle.fork_proof.specs.Firsts.{IsFirst}
 
 abbrev pub IsPrefixOf : List Record → List Record → Type 0
 IsPrefixOf xs ys = (rest : List Record) × (xs ++ rest ≡ ys)
@@ -47,6 +49,13 @@ FoundIsShown = (before : Before) (heads blocks : List (List ℕ)) (bytes : List 
 abbrev pub FoundIsNotRefused : Type 0
 FoundIsNotRefused = (before : Before) (heads blocks : List (List ℕ)) (bytes : List ℕ) (fault : ProofFault) → TellsRecords before
     → find_fork before heads blocks ≡ Some bytes → ShowsNone bytes fault → fault ≡ Memory
+
+-- Of heads that are bytes, where names tell the blocks apart: it is the proof of the first two heads that are shown as forked, and nothing
+-- is found only where no two are.
+abbrev pub FoundIsFirst : Type 0
+FoundIsFirst = (before : Before) (heads blocks : List (List ℕ)) → TellsRecords before
+    → ((head : List ℕ) → Contains heads head → IsTrue (are_bytes head)) → NamesTellApart blocks
+    → IsFirst heads blocks (find_fork before heads blocks)
 
 -- A proof that shows a fork isn't refused but for want of memory.
 abbrev pub ShownIsNotRefused : Type 0

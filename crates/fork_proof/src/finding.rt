@@ -10,6 +10,7 @@ ghost use Rattle.fork_proof.specs.Found.{tip_seen, way_seen, walk_seen, HasNames
 
 use crate::named::NamedBlocks;
 use crate::tips::{Tip, signed_heads};
+use crate::trunk::{drop_trunk, trunk_of};
 use crate::walked::{Walk, walks_down};
 use crate::ways::{MOST_BLOCKS, Way, way_down};
 use crate::writing::write_proof;
@@ -30,8 +31,10 @@ use std::alloc::Global;
 pub fn find(alloc: Global, heads: &[Bytes], blocks: &[Bytes]) -> Result<Option<Bytes>, Memory>
     ensures { IfOk result (λ found. (before : Before) → TellsRecords before → found ≡ model.find_fork before heads.now blocks.now) }
 {
-    let tips = signed_heads(alloc, heads)?;
+    let mut tips = signed_heads(alloc, heads)?;
     let named = NamedBlocks::of(alloc, blocks)?;
+    let trunk = trunk_of(alloc, &named, tips.as_slice())?;
+    drop_trunk(&mut tips, &trunk);
     let walks = walks_down(alloc, &named, tips.as_slice())?;
     first_fork(alloc, &named, walks.as_slice())
 }

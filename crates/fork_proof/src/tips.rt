@@ -1,8 +1,8 @@
 //! Signed heads.
 
-ghost use Rattle.std.specs.Prelude.{◌≡◌, IfOk, map, filter_map, option_map};
+ghost use Rattle.std.specs.Prelude.{◌≡◌, IsTrue, ◌↔◌, IfOk, map, filter_map, option_map};
 ghost use Rattle.fork_model.specs.Finding.{tip_of};
-ghost use Rattle.fork_proof.specs.Found.{tip_seen};
+ghost use Rattle.fork_proof.specs.Found.{tip_seen, Begins};
 
 use dht_ids::{Judge, Judged};
 use ivy_base::{Bytes, Key, Memory, PubKey, head_key};
@@ -51,4 +51,11 @@ pub fn signed_heads<'a>(alloc: Global, heads: &'a [Bytes]) -> Result<Vec<Tip<'a>
         }
     }
     Ok(tips)
+}
+
+/// Whether the head is of that record of the owner's.
+pub fn begins(tip: &Tip<'_>, owner: &PubKey, seq: u32, name: &Key) -> bool
+    ensures { IsTrue result ↔ Begins owner.now seq name.now tip.now }
+{
+    tip.owner == *owner && tip.seq == seq && tip.name == *name
 }

@@ -1,10 +1,10 @@
 //! The names to which heads lead.
 
-ghost use Rattle.std.specs.Prelude.{◌≡◌, List, ℕ, IfOk, IfSome, IsTrue, ◌↔◌, map, take, drop, All};
+ghost use Rattle.std.specs.Prelude.{◌≡◌, List, ℕ, IfOk, IfSome, map, take, drop, All};
 ghost use Rattle.fork_proof.specs.Found.{tip_seen, walk_seen, AreNames, HasNames, Begins};
 
 use crate::named::NamedBlocks;
-use crate::tips::Tip;
+use crate::tips::{Tip, begins};
 use crate::ways::{MOST_BLOCKS, step_down};
 use ivy_base::{Key, Memory, PubKey};
 use std::alloc::Global;
@@ -97,23 +97,16 @@ fn walk_from<'w, 'a>(
     seq: u32,
     name: &Key,
 ) -> Option<&'w Walk<'a>>
-    ensures begins { IfSome result (λ w. Begins owner.now seq name.now w.now) }
+    ensures begins { IfSome result (λ w. Begins owner.now seq name.now w.now.tip) }
     ensures names { IfSome result (λ w. (blocks : List (List ℕ)) → All (HasNames blocks) walks.now → HasNames blocks w.now) }
 {
     let place = places.get(name).copied()?;
     let walk = walks.get(place)?;
-    if begins(walk, owner, seq, name) {
+    if begins(&walk.tip, owner, seq, name) {
         Some(walk)
     } else {
         None
     }
-}
-
-/// Whether the walk begins at that record of the owner's.
-fn begins(walk: &Walk<'_>, owner: &PubKey, seq: u32, name: &Key) -> bool
-    ensures { IsTrue result ↔ Begins owner.now seq name.now walk.now }
-{
-    walk.tip.owner == *owner && walk.tip.seq == seq && walk.tip.name == *name
 }
 
 /// At most so many names behind the first one.

@@ -1,7 +1,7 @@
 //! The families of lines.
 
 use crate::line::Line;
-use crate::{answers, signatures};
+use crate::{answers, proofs, signatures};
 use std::thread::Threads;
 
 /// What lines ask about.
@@ -9,6 +9,7 @@ use std::thread::Threads;
 pub enum Family {
     Formats,
     Signatures,
+    Proofs,
 }
 
 /// Begins the family of that name.
@@ -16,6 +17,7 @@ fn begin(family: &mut Family, line: &mut Line<'_>, name: &str) {
     match name {
         "formats" => *family = Family::Formats,
         "signatures" => *family = Family::Signatures,
+        "proofs" => *family = Family::Proofs,
         _ => line.fail(),
     }
 }
@@ -25,6 +27,7 @@ fn answer_question<R: Threads>(rt: &R, family: Family, line: &mut Line<'_>) {
     match family {
         Family::Formats => answers::answer(line),
         Family::Signatures => signatures::answer(rt, line),
+        Family::Proofs => proofs::answer(line),
     }
     line.end();
 }

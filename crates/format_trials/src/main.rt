@@ -68,6 +68,14 @@
 //! of that implementation, and, for the causes of a refusal and for what is damaged, of a reader in another language. What
 //! keys sign, heads, saved bytes and digests are those of a program in another language, which makes that implementation's
 //! signatures too.
+//!
+//! Of `== proofs`, of which each line has the bytes of a fork proof:
+//!
+//! - `check BYTES`: `forked KEY NUMBER NUMBER`, or the test that fails: `malformed`, `head wrong PLACE`, `unlinked PLACE`, `no fork`
+//! - `cuts BYTES`: how many lengths in turn, from 0 on, the bytes are cut to with the same answer, and that answer, and so on
+//!
+//! The proofs are those of `run_trials`, and those of a program in another language, which signs heads and writes records. The
+//! answers are those of the rules.
 #![tactic(auto)]
 
 mod answers;
@@ -83,6 +91,7 @@ mod logs;
 mod names;
 mod order;
 mod plain;
+mod proofs;
 mod random;
 mod records;
 mod results;

@@ -16,7 +16,7 @@ const SEED: [u8; 32] = [2; 32];
 const MESSAGE: [u8; 88] = [3; 88];
 
 /// The sets of those names; words that name none are passed over.
-fn sets_of(alloc: Global, word: &str) -> Result<Vec<Set>, Memory> {
+pub fn sets_of(alloc: Global, word: &str) -> Result<Vec<Set>, Memory> {
     let mut sets = Vec::new(alloc);
     for name in word.split(',') {
         if let Some(set) = set_of(name) {
@@ -27,7 +27,7 @@ fn sets_of(alloc: Global, word: &str) -> Result<Vec<Set>, Memory> {
 }
 
 /// A key of those sets, of which there are one to three.
-fn key_of(alloc: Global, sets: &[Set]) -> Option<Hss> {
+pub fn key_of(alloc: Global, sets: &[Set]) -> Option<Hss> {
     if sets.is_empty() || sets.len() > 3 {
         return None;
     }

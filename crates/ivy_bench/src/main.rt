@@ -31,6 +31,13 @@
 //! - `order concurrent LOGS RECORDS`: of that many logs with that many records each, none of which cites another log
 //! - `order chain LOGS RECORDS`: the same, but each record behind a log's first cites the newest one of each other log
 //!
+//! The search for a fork, among the heads over each of N records of some 2,460 bytes. Making these isn't in the time:
+//!
+//! - `forks judge SETS N`: each head judged once, alone
+//! - `forks honest SETS N`: the search, where all records are of one history
+//! - `forks forked SETS N`: the same, where a quarter of the records are in both histories, the next quarter in the one, and the
+//!   rest in the other
+//!
 //! Calls and replies. Each carries 8,192 bytes, and the call is by AUTH_SYS, with two groups:
 //!
 //! - `wire copy N`: N copies of 8,192 bytes, each into memory of its own
@@ -42,6 +49,7 @@
 #![tactic(auto)]
 
 mod files;
+mod forks;
 mod gather;
 mod levels;
 mod logs;
@@ -72,6 +80,7 @@ fn answer<R: Clock + Threads>(rt: &R, alloc: Global, line: &str) -> Option<Measu
         "trees" => trees::answer(rt, alloc, &mut words),
         "files" => files::answer(rt, alloc, &mut words),
         "order" => order::answer(rt, alloc, &mut words),
+        "forks" => forks::answer(rt, alloc, &mut words),
         "wire" => wire::answer(rt, alloc, &mut words),
         _ => None,
     }
