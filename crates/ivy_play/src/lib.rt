@@ -8,9 +8,9 @@
 //! - In such a run each reply of a turn is the file system's answer on the replay, from nothing, of one
 //!   causally closed set of verified records. Each other reply has its cause. (The headline of `world_laws`.)
 //! - In calm scripts every block whose put was acknowledged stays readable, and no call misses a block.
-//!   (`completeness_laws`.)
+//!   (`calm_laws`.)
 //!
-//! Definitions: those of `world_model`, `world_laws`, `completeness_laws` and `stage_laws`. What is promised
+//! Definitions: those of `world_model`, `world_laws`, `calm_laws` and `stage_laws`. What is promised
 //! of each line stands in `specs/Promise.antt` of `stage_laws`. Here `specs/Playing.antt` has the words of
 //! the clauses, and `specs/Status.antt` the statuses.
 #![tactic(auto)]

@@ -34,7 +34,7 @@ pub type Status = u8;
 /// version 3 (RFC 1813) on one tree. It is the tree that is replayed, from nothing, from one causally closed set of
 /// verified records. Any other reply has its cause in the session at the end of the steps that its line made.
 ///
-/// Calm scripts are served (`IsServedWhereCalm` of `completeness_laws`). In a calm script no ask was lost so far, no
+/// Calm scripts are served (`IsServedWhereCalm` of `calm_laws`). In a calm script no ask was lost so far, no
 /// block was damaged, no save failed, and fewer nodes stopped between two rounds than own a key. `IsCalmAt` of
 /// `world_laws` has all conditions. Then:
 /// - every block whose put was acknowledged is stored and can be read;

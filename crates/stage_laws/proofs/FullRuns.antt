@@ -51,7 +51,7 @@ module _ (w : Played) (line : List ℕ) (keeps : KeepsAll w) where
     where
       by_same : IsTakenSo w.0 (command_of line) → (outcome : Outcome Played) × StageStep w line outcome × (HadMemory w line outcome ⊎ Clashes outcome)
       by_same taken =
-          let some = full_lines w line keeps.0 (there_is_room w keeps.0 few) bytes taken.can in
+          let some = full_lines w line keeps.0 (there_is_room w keeps.0 few) bytes in
           (some.0, subst (λ (o : Option _). MayDoFirst w o some.0) (sym taken.same) some.1, some.2)
 
       by_none : stage_command (command_of line) ≡ None → (outcome : Outcome Played) × StageStep w line outcome × (HadMemory w line outcome ⊎ Clashes outcome)
@@ -147,7 +147,7 @@ runs_or_clashes w number (line ∷ lines) keeps few bytes =
     after some.0 some.1 some.2 (λ next output step memory.
     let goes = what_goes_is_a_step w next (shown line) output step in
     runs_or_clashes next (number + 1) lines (stage_keeps w next (shown line) output keeps step)
-    (few_posts_come w next (shown line) output keeps.0 few goes.0 goes.1) (bytes_come w next (shown line) output keeps.0 bytes memory.1 goes.1))
+    (few_posts_come w next (shown line) output keeps.0 few goes.1) (bytes_come w next (shown line) output keeps.0 bytes memory.1 goes.1))
   where
     after : (outcome : Outcome Played) → StageStep w (shown line) outcome → HadMemory w (shown line) outcome ⊎ Clashes outcome
         → ((next : Played) (output : List ℕ) → StageStep w (shown line) (Goes next output) → HadMemory w (shown line) (Goes next output) → HasFullRun next (number + 1) lines ⊎ ComesTo MeetsClash next lines)

@@ -1,3 +1,4 @@
+mod Told
 pub mod Stage
 pub mod Replies
 pub mod FullRuns
@@ -6,3 +7,4 @@ pub mod Stands
 pub mod Promised
 pub mod Statuses
 mod Outputs
+mod Given

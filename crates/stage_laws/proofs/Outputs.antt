@@ -29,15 +29,15 @@ use Rattle.nfs_model.specs.declared.replies.Reply.{Reply}
 use Rattle.nfs_model.specs.declared.replies.Reply.TheVariants as reply
 use Rattle.nfs_model.specs.declared.replies.Tail.{Tail}
 use Rattle.turn_model.specs.Turn.{Turned, bare_tail, turn_on}
-use Rattle.session_model.specs.Replies.{IsByMessage, alone_answer, missed_reply, missed_status}
+use Rattle.session_model.specs.Replies.{IsByMessage, alone_answer, missed_reply, missed_status, said_of}
 use Rattle.session_model.specs.Replies.IsByMessage.{no_call, other_version, no_program, no_version, no_procedure, no_caller, no_arguments, alone as by_itself}
-use Rattle.session_model.specs.Sessions.{Said}
+use Rattle.session_model.specs.Sessions.{Said, Session}
 use Rattle.script_driver.specs.Run.{Outcome}
 use Rattle.script_model.specs.declared.command.Command.{Command}
 use Rattle.script_model.specs.declared.command.Command.TheVariants as command
 use Rattle.script_model.specs.declared.command.Piece.{Piece}
 use Rattle.world_model.specs.Agents.{inputs}
-use Rattle.world_model.specs.Calls.{reply_line, shown_message, shown_miss, shown_note}
+use Rattle.world_model.specs.Calls.{reply_line, shown_end, shown_message, shown_miss, shown_note}
 use Rattle.world_model.specs.Keepers.{fails_next}
 use Rattle.world_model.specs.Logs.{Played}
 use Rattle.world_model.specs.Steps.{Scene}
@@ -46,8 +46,8 @@ use Rattle.world_laws.specs.Causes.{HasCause}
 use Rattle.world_laws.specs.Causes.HasCause.{alone, missed as has_missed, turned, no_memory}
 use Rattle.world_laws.specs.Headline.{Headline, HoldsOf, IsOnReplay}
 use Rattle.world_laws.specs.Keeps.{Keeps}
-use Rattle.completeness_laws.specs.CalmLines.{IsServedWhereCalm}
-use Rattle.completeness_laws.specs.Completeness.{IsServed}
+use Rattle.calm_laws.specs.CalmLines.{IsServedWhereCalm}
+use Rattle.calm_laws.specs.Completeness.{IsServed}
 use Rattle.stage_laws.specs.Outputs.{RefusesItself, ShowsStatus, StatusHasCause, StatusesAreCaused, StatusesAreTold}
 use Rattle.stage_laws.specs.Outputs.RefusesItself.{by_key, by_keeper}
 use Rattle.stage_laws.specs.Outputs.StatusHasCause.{missed, refused}
@@ -232,7 +232,7 @@ refusal_is : (s other : NfsStatus) (t u : Tail) → reply.Refused s t ≡ reply.
 refusal_is s other t u e = cc e
 
 module _ (h : HadTurn) (on : IsOnReplay h) where
-  refuses : (s : NfsStatus) (t : Tail) → is_of_tree s ≡ false → h.turned.reply ≡ reply.Refused s t → RefusesItself h on s
+  pub refuses : (s : NfsStatus) (t : Tail) → is_of_tree s ≡ false → h.turned.reply ≡ reply.Refused s t → RefusesItself h on s
   refuses s t own is = by (turns_refuse_so (inputs h.by.agent h.view (fails_next h.by.keeper)) on.taken on.asked h.now)
     where
       answered : (turn_on (inputs h.by.agent h.view (fails_next h.by.keeper)) on.taken on.asked h.now).reply ≡ reply.Refused s t
@@ -244,9 +244,17 @@ module _ (h : HadTurn) (on : IsOnReplay h) where
       by (of_keeper r failed) = subst (RefusesItself h on) (refusal_is status.ServerFault s (bare_tail on.asked.args) t (sym r ∙ answered)) (by_keeper failed)
 
   -- so it is neither JUKEBOX nor IO
-  own_refusal : (s : NfsStatus) → RefusesItself h on s → (s ≡ status.RoFs) ⊎ (s ≡ status.ServerFault)
+  pub own_refusal : (s : NfsStatus) → RefusesItself h on s → (s ≡ status.RoFs) ⊎ (s ≡ status.ServerFault)
   own_refusal _ (by_key ops at spent) = inl refl
   own_refusal _ (by_keeper failed) = inr refl
+
+  -- what is shown of it tells so
+  pub turn_told : (x : ℕ) (session : Session) (s : NfsStatus) → is_of_tree s ≡ false → ShowsStatus (shown_end session (said_of x h.turned.reply)) s → RefusesItself h on s
+  turn_told x session s own shows =
+      let misses = shown_miss session.missed in
+      let notes = flat_map shown_note session.notes in
+      let told = status_told s (own_of s own) x shows.xid (misses ++ notes) shows.results shows.rest h.turned.reply (sym (append_assoc (reply_line (rpc_reply x (Success (result h.turned.reply)))) misses notes) ∙ shows.is) in
+      refuses s told.0 own told.1
 
 module _ (s : NfsStatus) (own : is_of_tree s ≡ false) (y : ℕ) (behind results rest : List ℕ) where
   -- what a message alone is answered has no such status

@@ -3,9 +3,10 @@ use Rattle.std.proofs.Common.{◌≡◌, ℕ, List, subst}
 use Rattle.script_driver.specs.Run.{Goes, Outcome}
 use Rattle.world_model.specs.Logs.{Played}
 use Rattle.world_model.specs.Step.{IvyStep}
-use Rattle.completeness_laws.proofs.CalmLines.{lines_are_served}
+use Rattle.calm_laws.proofs.CalmLines.{lines_are_served}
 use Rattle.stage_laws.specs.Promise.{PromisedDoesSomething, PromisedKeeps, PromisedLongLinesStop, StagePromises}
 use Rattle.stage_laws.specs.Stage.{StageStep}
+use Rattle.stage_laws.proofs.Given.{refreshes_are_complete}
 use Rattle.stage_laws.proofs.Outputs.{statuses_are_told}
 use Rattle.stage_laws.proofs.Replies.{stage_has_headline}
 use Rattle.stage_laws.proofs.Stands.{all_stands}
@@ -20,6 +21,7 @@ each_promises w line outcome keeps step = record {
   headline = stage_has_headline w line outcome keeps step;
   calm = lines_are_served w line outcome (goes_on w line outcome step);
   statuses = statuses_are_told w line outcome keeps.0 (stage_has_headline w line outcome keeps step) (lines_are_served w line outcome (goes_on w line outcome step));
+  complete = refreshes_are_complete w line outcome keeps.2 (λ next output is. (stage_keeps w next line output keeps (subst (λ o. StageStep w line o) is step)).2);
   before = all_stands w keeps.0;
   after = λ next output is. all_stands next (stage_keeps w next line output keeps (subst (λ o. StageStep w line o) is step)).0;
 }

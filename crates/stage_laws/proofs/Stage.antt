@@ -10,13 +10,13 @@ use Rattle.script_model.specs.Words.{words_of}
 use Rattle.world_model.specs.Logs.{Played}
 use Rattle.world_model.specs.Step.{IvyStep, MayDoFirst, most_bytes}
 use Rattle.world_model.specs.World.{World}
-use Rattle.world_laws.specs.Laws.{CanBeDone}
 use Rattle.world_laws.proofs.AllLines.{does_line}
 use Rattle.world_laws.proofs.EachLine.{each_line_keeps}
 use Rattle.world_laws.proofs.Existing.{each_line_does_something}
 use Rattle.world_laws.proofs.FirstWorld.{empty_keeps}
 use Rattle.world_laws.proofs.NoSnapshotLines.{no_snapshot_comes}
 use Rattle.stage_laws.specs.Stage.{IsOfStage, StageStep, stage_command}
+use Rattle.stage_laws.proofs.Told.{nothing_told, told_stays}
 use Rattle.stage_laws.specs.Laws.{LongLinesStop, OthersAreSteps, StageBegins, StageDoesSomething, StageKeeps, WhatGoesIsAStep}
 
 -- ---- which lines they are
@@ -29,12 +29,11 @@ IsOther o = (log : List ℕ) → o ≢ Some (command.Snap log)
 pub record IsTakenSo (w : World) (o : Option Command) : Type 0 where
   pub same : stage_command o ≡ o
   pub other : IsOther o
-  pub can : IfSome o (CanBeDone w)
 
 pub taken_or_none : (w : World) (o : Option Command) → IsTakenSo w o ⊎ (stage_command o ≡ None)
 taken_or_none w (Some (command.Snap log)) = inr refl
-taken_or_none w None = inl (record { same = refl; other = λ log e. cc e; can = tt })
-taken_or_none w (Some c) = inl (record { same = refl; other = λ log e. cc e; can = tt })
+taken_or_none w None = inl (record { same = refl; other = λ log e. cc e })
+taken_or_none w (Some c) = inl (record { same = refl; other = λ log e. cc e })
 
 pub same_of_other : (o : Option Command) → IsOther o → stage_command o ≡ o
 same_of_other (Some (command.Snap log)) other = absurd (other log refl)
@@ -63,10 +62,10 @@ what_goes_is_a_step w next line output step = ⊎_elim by_same by_none (taken_or
 pub stage_keeps : StageKeeps
 stage_keeps w next line output keeps step =
     let goes = what_goes_is_a_step w next line output step in
-    (each_line_keeps w next line output keeps.0 goes.1, no_snapshot_comes w next line output keeps.0 keeps.1 goes.0 goes.1)
+    (each_line_keeps w next line output keeps.0 goes.1, no_snapshot_comes w next line output keeps.0 keeps.1 goes.0 goes.1, told_stays w next line output keeps.0 keeps.2 goes.1)
 
 pub stage_begins : StageBegins
-stage_begins = (empty_keeps, record { kept = tt; agents = tt })
+stage_begins = (empty_keeps, record { kept = tt; agents = tt }, nothing_told)
 
 -- ---- each does something
 
@@ -79,7 +78,7 @@ stage_does_something w line keeps = ⊎_elim by_same by_none (taken_or_none w.0 
   where
     by_same : IsTakenSo w.0 (command_of line) → (outcome : Outcome Played) × StageStep w line outcome
     by_same taken =
-        let does = (each_line_does_something w.0 line taken.can (w.1, keeps.0)).1 w.1 keeps.0 in
+        let does = (each_line_does_something w.0 line (w.1, keeps.0)).1 w.1 keeps.0 in
         (does.0, subst (λ (o : Option Command). MayDoFirst w o does.0) (sym taken.same) does.1)
 
     by_none : stage_command (command_of line) ≡ None → (outcome : Outcome Played) × StageStep w line outcome

@@ -33,7 +33,7 @@ use Rattle.world_model.specs.Story.{Knowing, knowing_of, known_of}
 use Rattle.world_model.specs.World.{Participant, named_bytes}
 use Rattle.world_laws.specs.Keeps.{IsKeptSo, IsSoundIn, IsSoundKeptIn, Keeps, SignsOnce}
 use Rattle.world_laws.specs.Laws.{IsHonest, IsKeptLog}
-use Rattle.world_laws.proofs.CalmRounds.{ring_stays}
+use Rattle.calm_laws.proofs.Durable.{ring_stays}
 use Rattle.world_laws.proofs.KeptBytes.{kept_once}
 use Rattle.world_laws.proofs.MoreMet.{grows_before}
 use Rattle.world_laws.proofs.OneKnown.{stand_in_log}
@@ -181,4 +181,4 @@ participant_stands w keeps p p_in =
     }
 
 pub all_stands : (w : Played) → Keeps w → Stands w
-all_stands w keeps = record { ring = λ r count lines calm. ring_stays r w count lines tt calm; participants = participant_stands w keeps }
+all_stands w keeps = record { ring = ring_stays w; participants = participant_stands w keeps }

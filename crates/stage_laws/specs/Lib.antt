@@ -1,3 +1,4 @@
+pub mod Told
 pub mod Stage
 pub mod Laws
 pub mod FullRuns
@@ -5,3 +6,4 @@ pub mod Stands
 pub mod Promise
 pub mod Statuses
 pub mod Outputs
+pub mod Given

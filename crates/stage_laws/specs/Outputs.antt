@@ -22,7 +22,7 @@ use Rattle.world_model.specs.Keepers.{fails_next}
 use Rattle.world_model.specs.Logs.{Played}
 use Rattle.world_model.specs.Steps.{Scene}
 use Rattle.world_model.specs.Story.{HadTurn}
-use Rattle.world_laws.specs.Calm.{IsCalmAt, Stopped}
+use Rattle.calm_laws.specs.Calm.{IsCalmAt, Stopped}
 use Rattle.world_laws.specs.Causes.{IsOf}
 use Rattle.world_laws.specs.Headline.{IsCaused, IsOnReplay}
 use Rattle.stage_laws.specs.Statuses.{IsSpent, is_of_tree, plan_of_turn}

@@ -3,7 +3,8 @@ use Rattle.std.specs.Prelude.{◌≡◌, ℕ, List, ◌<◌, length}
 use Rattle.script_driver.specs.Run.{Outcome, Goes, WithLaw, line_limit}
 use Rattle.world_model.specs.Logs.{Played}
 use Rattle.world_laws.specs.Headline.{Headline}
-use Rattle.completeness_laws.specs.CalmLines.{IsServedWhereCalm}
+use Rattle.calm_laws.specs.CalmLines.{IsServedWhereCalm}
+use Rattle.stage_laws.specs.Given.{RefreshesAreComplete}
 use Rattle.stage_laws.specs.Outputs.{StatusesAreTold}
 use Rattle.stage_laws.specs.Stage.{KeepsAll, StageStep}
 use Rattle.stage_laws.specs.Stands.{Stands}
@@ -14,11 +15,13 @@ use Rattle.stage_laws.specs.Stands.{Stands}
 -- No whole call fails because a block is missing, and a round moves each block to its owners.
 -- If the world was reached tidily too, the turn of a whole call takes all that the members have written, and nothing else.
 -- The statuses JUKEBOX, IO, ROFS and SERVERFAULT in what the line shows come from their causes alone.
+-- If each head and record that a call's refresh needs was given right, the call has its turn.
 -- What stands in the world before the line and in the world after it: the ring of a calm script, the heads that left, one truth.
 pub record Promise (w : Played) (line : List ℕ) (outcome : Outcome Played) : Type 0 where
   pub headline : Headline w line outcome
   pub calm : IsServedWhereCalm w line outcome
   pub statuses : StatusesAreTold w line outcome
+  pub complete : RefreshesAreComplete w line outcome
   pub before : Stands w
   pub after : (next : Played) (output : List ℕ) → outcome ≡ Goes next output → Stands next
 

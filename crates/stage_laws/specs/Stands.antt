@@ -14,22 +14,13 @@ use Rattle.hash_signature_model.specs.declared.set.Set.{Set}
 use Rattle.hash_signature_model.specs.declared.keys.PrivateKey.{PrivateKey}
 use Rattle.hash_signature_model.specs.Signer.{Signer, leaf_used, lower_key, tree_public}
 use Rattle.agent_model.specs.Agent.{own_key}
-use Rattle.round_laws.specs.RingOf.{IsCoveredIn, IsSettledIn}
 use Rattle.world_model.specs.Agents.{IsKept, Kept, hss, kept_bytes, own, sealed}
 use Rattle.world_model.specs.Logs.{Played}
 use Rattle.world_model.specs.Steps.{heads_by}
 use Rattle.world_model.specs.Story.{known_of}
 use Rattle.world_model.specs.World.{Participant, World, named_bytes}
-use Rattle.world_laws.specs.Calm.{IsCalmAt, Stopped}
 use Rattle.world_laws.specs.Laws.{IsHonest}
-
--- ---- the ring
-
--- If the world was reached calmly, its ring is covered, except between a join and its round: look-ups find the owners.
--- If no node stopped since the last round, or since the ring was made, it is settled.
-abbrev pub KeepsItsRing : Played → Type 0
-KeepsItsRing w = (r count : ℕ) (lines : List (List ℕ)) → IsCalmAt r w (Stopped count) lines
-    → IsCoveredIn w.0 r × (count ≡ 0 → IsSettledIn w.0 r)
+use Rattle.calm_laws.specs.Readable.{KeepsItsRing}
 
 -- ---- what is saved
 

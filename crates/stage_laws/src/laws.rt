@@ -46,8 +46,9 @@ pub fn stage_runs_fully()
 {}
 
 /// Laws and no code: what is promised of a line holds of each line of this stage from such a world: the headline, that calm scripts
-/// are served, why a reply has a status that no tree gives, and what stands before and after the line. So the step with its promise leads on to such worlds, each line has an
-/// outcome by it, and one that is too long doesn't go on.
+/// are served, why a reply has a status that no tree gives, that a refresh which was given all ends in a turn, and what stands before
+/// and after the line. So the step with its promise leads on to such worlds, each line has an outcome by it, and one that is too long
+/// doesn't go on.
 pub fn stage_lines_are_promised()
     ensures promises { StagePromises }
     ensures keeps { PromisedKeeps }

@@ -37,7 +37,7 @@ use Rattle.world_laws.specs.Causes.HasCause.{turned as by_turn}
 use Rattle.world_laws.specs.Headline.{IsOnReplay, TurnHolds}
 use Rattle.world_laws.specs.Keeps.{GoesOn, IsAtStage, IsInHand, IsMetPost, IsRefreshing, IsRefreshingOn, IsSoundSession, Keeps}
 use Rattle.world_laws.specs.Laws.{AnsweredTurnsKeep, StepLeaves}
-use Rattle.world_laws.proofs.Bringing.{its_key, its_view}
+use Rattle.world_laws.proofs.Bringing.{its_key, its_view, refresh_may_turn}
 use Rattle.world_laws.proofs.LackingSteps.{sound_taken}
 use Rattle.world_laws.proofs.MoreMet.{more_verified}
 use Rattle.world_laws.proofs.Publishing.{begins}
@@ -118,6 +118,7 @@ module _ (c : Scene) (r : ℕ) (p : Participant) (keeps : Keeps (c.world, c.stor
       notes = it.notes;
       given = it.given;
       refreshed = it.refreshed.1;
+      loaded = (refresh_may_turn c p r it.notes it.given keeps apart hand is_p it.refreshed).1.loaded;
       candidates = it.is_turn.candidates;
       of_heads = it.is_turn.of_heads;
       taken = it.taken;

@@ -1,5 +1,5 @@
 -- A line that goes on has the effects of its command.
-use Rattle.std.proofs.Common.{◌≡◌, ℕ, Bool, true, false, cond, List, [], ◌∷◌, map, Option, Some, None, refl, sym, ap, ◌∙◌, subst, Contains}
+use Rattle.std.proofs.Common.{◌≡◌, ℕ, Bool, true, false, cond, List, [], ◌∷◌, Option, Some, None, refl, sym, ap, ◌∙◌, subst, Contains}
 use Rattle.std.specs.Prelude.{IfSome, is_some, nat_le, nat_lt, ◌&&◌, ◌||◌, ◌==◌, not}
 use Rattle.std.specs.Str.{bytes_eq}
 use Rattle.std.proofs.lemmas.Slice.Eq.{bytes_eq-Decides}
@@ -8,10 +8,6 @@ use Rattle.ivy_base.specs.declared.key.PubKey.{PubKey}
 use Rattle.hash_signature_model.specs.declared.set.Set.{Set}
 use Rattle.dhash_model.specs.Signed.{hss_judged}
 use Rattle.log_model.specs.View.{View}
-use Rattle.dht_ids.specs.declared.ask.Answer.{Answer}
-use Rattle.dht_ids.specs.declared.ask.Ask.{Ask}
-use Rattle.dht_ids.specs.declared.peer.Peer.{Peer}
-use Rattle.dht_ids.specs.declared.post.Post.{Post}
 use Rattle.agent_model.specs.SavedBytes.{ArePostsSpelled}
 use Rattle.agent_model.specs.Agent.{entered, failed, kept_of}
 use Rattle.agent_model.specs.Others.{basis_of}
@@ -30,14 +26,12 @@ use Rattle.world_model.specs.Calls.AsLine.{calls as as_calls, sends_nothing as a
 use Rattle.world_model.specs.Calls.FinishLine.{ends as finish_ends, not_open as finish_not_open}
 use Rattle.world_model.specs.Calls.OpenLine.{is_open, opens as open_opens, sends_nothing as open_nothing}
 use Rattle.world_model.specs.Calls.StepLine.{not_open as step_not_open, out_of_range, steps as step_steps}
-use Rattle.world_model.specs.Fates.{Fates}
-use Rattle.world_model.specs.Fates.Fates.{more as fates_more, none as fates_none}
 use Rattle.world_model.specs.Faults.{damage_by, damage_line, damaged_to, key_named, lose_line, meets_some, node_named}
 use Rattle.world_model.specs.Keepers.{asked_to_save, fails_next}
 use Rattle.world_model.specs.Logs.{LogLine, Played, Publishes, RestartLine, SnapLine, ViewLine, after_entering, at_line, beside, fresh_signer, keep_by, keep_line, keys_of, newcomer, snapping_in, use_by, with_newcomer}
 use Rattle.world_model.specs.Logs.LogLine.{before_ring as log_before_ring, begins as log_begins, known as log_known}
 use Rattle.world_model.specs.Logs.RestartLine.{nobody as restart_nobody, outside as restart_outside, starts as restart_starts}
-use Rattle.world_model.specs.Logs.SnapLine.{fails as snap_fails, makes as snap_makes, nobody as snap_nobody, outside as snap_outside}
+use Rattle.world_model.specs.Logs.SnapLine.{cannot as snap_cannot, fails as snap_fails, makes as snap_makes, nobody as snap_nobody, outside as snap_outside}
 use Rattle.world_model.specs.Logs.ViewLine.{exceeds as view_exceeds, known as view_known, makes as view_makes, no_former, no_members, one_head_key}
 use Rattle.world_model.specs.Nodes.{Node}
 use Rattle.world_model.specs.Ring.{JoinLine, RingLine, joined_node, peer_numbered, stop_line, with_new_node}
@@ -50,12 +44,10 @@ use Rattle.world_model.specs.Steps.{RunsOut, Scene, met_by}
 use Rattle.world_model.specs.Steps.RunsOut.{is_over as runs_over, more as runs_more}
 use Rattle.world_model.specs.World.{Participant, World, participant, session_named, view_named, with_node, with_participant}
 use Rattle.world_laws.proofs.Bringing.{found_named}
-use Rattle.world_laws.proofs.CalmStates.{found_placed}
+use Rattle.world_laws.proofs.Placed.{found_in_place}
 use Rattle.world_laws.proofs.Lines.{meets_more}
 use Rattle.world_laws.proofs.Newcomer.{found_after, none_named}
-use Rattle.world_laws.proofs.NodeFates.{fate_rest}
 use Rattle.world_laws.proofs.Shows.{shows_are_still}
-use Rattle.world_laws.proofs.SignedAmong.{met_stays}
 use Rattle.world_laws.specs.Effects.{Plays, PublishesAlone, ShowsText, Effect, Effects, NodesChange, SceneIsOver, LaterEffect, LinesHaveEffects, LinesShowTexts, IsRingCommand, snapped_in}
 use Rattle.world_laws.specs.Effects.Plays.{calls, ends, steps}
 use Rattle.world_laws.specs.Effects.Effect.{comes, loses, makes_view, of_nodes, opens, plays, renews, shows, times, touches}
@@ -63,6 +55,7 @@ use Rattle.world_laws.specs.Effects.LaterEffect.{publishes, replies}
 use Rattle.world_laws.specs.Effects.Effects.{once, twice}
 use Rattle.world_laws.specs.Moves.{Moves}
 use Rattle.world_laws.proofs.Moves.{runs_move, steps_move}
+use Rattle.world_laws.proofs.RingLines.{fates_rest}
 use Rattle.world_laws.specs.Effects.Renews.{enters, starts_again}
 use Rattle.world_laws.specs.Effects.ShowsText.{join_failed, of_session, shows_nothing, shows_text, snap_failed, snap_made, use_failed}
 use Rattle.world_laws.specs.Effects.Touches.{fails, plans, snaps, unable}
@@ -104,10 +97,6 @@ if_so k w true next output h = h
 if_so k w false next output h = tt
 
 -- ---- lines of the ring
-
-pub fates_rest : {w next : World} {asks : List (Peer × (Ask × Answer))} → Fates hss_judged w asks next → next ≡ record w { nodes = next.nodes; asked = next.asked }
-fates_rest fates_none = refl
-fates_rest (fates_more {w} {mid} {next} to question answer fate rest) = fates_rest rest ∙ ap (λ (v : World). record v { nodes = next.nodes; asked = next.asked }) (fate_rest fate)
 
 by_asks : (w next : World) → next ≡ record w { nodes = next.nodes; asked = next.asked } → NodesChange w next
 by_asks w next is = record {
@@ -248,6 +237,7 @@ was_made p view false false was now tried = (was, now, refl)
 of_snap : (w : Played) (log : List ℕ) (p : Option Participant) (o : Outcome Played) → participant w.0 log ≡ p → SnapLine hss_judged w p o → Leads (command.Snap log) w o
 of_snap w log _ _ is_p snap_nobody = tt
 of_snap w log _ _ is_p (snap_outside p h) = tt
+of_snap w log _ _ is_p (snap_cannot p view h unspelled) = (once (shows (command.Snap log) tt), snap_failed log p.name)
 of_snap w log _ _ is_p (snap_fails p view h tried spelled) = (not_made w log p view is_p h p.agent.has_failed (fails_next p.keeper) refl refl tried spelled, snap_failed log p.name)
 of_snap w log _ _ is_p (snap_makes p q view r next h tried ringed is spelled published) = (
   twice (touches (command.Snap log) log p t t.agent.pending is_p (snaps view so.0 so.1 h (subst (λ (x : Participant). ArePostsSpelled x.agent.pending) same spelled)))
@@ -269,7 +259,7 @@ of_snap w log _ _ is_p (snap_makes p q view r next h tried ringed is spelled pub
 
     found : participant (mid t).0 t.name ≡ Some t
     found = subst (λ n. participant (mid t).0 n ≡ Some t) (sym (found_named w.0.participants log p is_p).1)
-        (found_placed w.0 log p t (met_by w.0.met t.agent.pending) is_p refl (λ b c. met_stays w.0.met (map (λ (x : Post). x.bytes) t.agent.pending) b c) (λ b c. c))
+        (found_in_place w.0 log p t is_p refl)
 
 -- ---- calls
 

@@ -17,7 +17,7 @@ use Rattle.world_model.specs.Step.{Does, IvyStep, MayDo, MayDoFirst, WithinLimit
 use Rattle.world_model.specs.Story.{Story}
 use Rattle.world_model.specs.World.{World, participant, session_named, view_named}
 use Rattle.world_laws.specs.Keeps.{Keeps}
-use Rattle.world_laws.specs.Laws.{CanBeDone, EachLineDoesSomething, EachScriptHasARun, LinesKeep}
+use Rattle.world_laws.specs.Laws.{EachLineDoesSomething, EachScriptHasARun, LinesKeep}
 use Rattle.world_laws.proofs.ExistingCalls.{IsSeen, as_line, finish_line, open_line, step_line}
 use Rattle.world_laws.proofs.RecordsTold.{records_told}
 use Rattle.world_laws.proofs.ExistingLines.{by_function, log_line, restart_line, untold, use_line_seen, view_line}
@@ -26,51 +26,51 @@ use Rattle.world_laws.proofs.ExistingRing.{join_line, ring_line}
 use Rattle.world_laws.proofs.ExistingSnaps.{snap_line}
 use Rattle.world_laws.proofs.LineFits.{Fits, command_fits}
 
-pub command_does : (w : World) (st : Story) → Keeps (w, st) → (c : Command) → CanBeDone w c → Fits c → IsSeen w (λ su out. Does hss_judged (w, su) c out)
-command_does w st keeps (command.Ring nodes replicas) can fits = untold w (RingLine w nodes replicas) (ring_line w nodes replicas)
-command_does w st keeps (command.Log log id seed sets) can fits = log_line w st keeps log id seed sets
-command_does w st keeps (command.View view [] former) can fits = absurd (fits refl)
-command_does w st keeps (command.View view (m ∷ ms) former) can fits = view_line w st keeps view m ms (keys_of w (m ∷ ms)) (keys_of w former) refl
-command_does w st keeps (command.Use log view) can fits = use_line_seen w st (participant w log) (view_named w view)
-command_does w st keeps (command.At sec nsec) can fits = by_function w (at_line w sec nsec)
-command_does w st keeps (command.As log pieces) can fits = as_line w st keeps log pieces (sending_of w log pieces) refl
-command_does w st keeps (command.Open session log pieces) can fits = open_line w st keeps session (sending_of w log pieces)
-command_does w st keeps (command.Step session count) can fits = step_line w st keeps session count (session_named w session) refl
-command_does w st keeps (command.Finish session) can fits = finish_line w st keeps session (session_named w session) refl
-command_does w st keeps (command.Join number) can fits = untold w (JoinLine hss_judged w number w.replicas) (join_line w st keeps number w.replicas refl)
-command_does w st keeps (command.Stop node) can fits = by_function w (stop_line w (node_named w node))
-command_does w st keeps command.Round can fits = untold w (RoundLine hss_judged w w.replicas) (round_line w st keeps w.replicas refl)
-command_does w st keeps (command.Lose count) can fits = by_function w (lose_line w count)
-command_does w st keeps (command.Damage node key offset byte) can fits = by_function w (damage_line w node key offset byte)
-command_does w st keeps (command.Snap log) can fits = snap_line w st keeps log (participant w log) refl can
-command_does w st keeps (command.Restart log) can fits = restart_line w st keeps log (participant w log) refl
-command_does w st keeps (command.Keep log count new) can fits = by_function w (keep_line w log count new)
-command_does w st keeps (command.Show shown) can fits = untold w (Shows w shown) (show_line records_told.0 w shown, (records_told.0, records_told.1, refl))
-command_does w st keeps command.Nothing can fits = (Goes w [], λ su is. (Goes (w, su) [], refl, refl))
-command_does w st keeps command.End can fits = (Ends, λ su is. (Ends, refl, refl))
+pub command_does : (w : World) (st : Story) → Keeps (w, st) → (c : Command) → Fits c → IsSeen w (λ su out. Does hss_judged (w, su) c out)
+command_does w st keeps (command.Ring nodes replicas) fits = untold w (RingLine w nodes replicas) (ring_line w nodes replicas)
+command_does w st keeps (command.Log log id seed sets) fits = log_line w st keeps log id seed sets
+command_does w st keeps (command.View view [] former) fits = absurd (fits refl)
+command_does w st keeps (command.View view (m ∷ ms) former) fits = view_line w st keeps view m ms (keys_of w (m ∷ ms)) (keys_of w former) refl
+command_does w st keeps (command.Use log view) fits = use_line_seen w st (participant w log) (view_named w view)
+command_does w st keeps (command.At sec nsec) fits = by_function w (at_line w sec nsec)
+command_does w st keeps (command.As log pieces) fits = as_line w st keeps log pieces (sending_of w log pieces) refl
+command_does w st keeps (command.Open session log pieces) fits = open_line w st keeps session (sending_of w log pieces)
+command_does w st keeps (command.Step session count) fits = step_line w st keeps session count (session_named w session) refl
+command_does w st keeps (command.Finish session) fits = finish_line w st keeps session (session_named w session) refl
+command_does w st keeps (command.Join number) fits = untold w (JoinLine hss_judged w number w.replicas) (join_line w st keeps number w.replicas refl)
+command_does w st keeps (command.Stop node) fits = by_function w (stop_line w (node_named w node))
+command_does w st keeps command.Round fits = untold w (RoundLine hss_judged w w.replicas) (round_line w st keeps w.replicas refl)
+command_does w st keeps (command.Lose count) fits = by_function w (lose_line w count)
+command_does w st keeps (command.Damage node key offset byte) fits = by_function w (damage_line w node key offset byte)
+command_does w st keeps (command.Snap log) fits = snap_line w st keeps log (participant w log) refl
+command_does w st keeps (command.Restart log) fits = restart_line w st keeps log (participant w log) refl
+command_does w st keeps (command.Keep log count new) fits = by_function w (keep_line w log count new)
+command_does w st keeps (command.Show shown) fits = untold w (Shows w shown) (show_line records_told.0 w shown, (records_told.0, records_told.1, refl))
+command_does w st keeps command.Nothing fits = (Goes w [], λ su is. (Goes (w, su) [], refl, refl))
+command_does w st keeps command.End fits = (Ends, λ su is. (Ends, refl, refl))
 
 -- ---- lines
 
-may_do : (w : World) (st : Story) → Keeps (w, st) → (o : Option Command) → IfSome o (CanBeDone w) → ((c : Command) → o ≡ Some c → Fits c) → IsSeen w (λ su out. MayDo (w, su) o out)
-may_do w st keeps None can fits = (Refuses, λ su is. (Refuses, refl, refl))
-may_do w st keeps (Some c) can fits = command_does w st keeps c can (fits c refl)
+may_do : (w : World) (st : Story) → Keeps (w, st) → (o : Option Command) → ((c : Command) → o ≡ Some c → Fits c) → IsSeen w (λ su out. MayDo (w, su) o out)
+may_do w st keeps None fits = (Refuses, λ su is. (Refuses, refl, refl))
+may_do w st keeps (Some c) fits = command_does w st keeps c (fits c refl)
 
 of_both : (w : World) (full : Bool) (May : Story → Outcome Played → Type 0) → IsSeen w May → IsSeen w (λ su out. MatchBool full (out ≡ Exceeds) (May su out))
 of_both w true May some = (Exceeds, λ su is. (Exceeds, refl, refl))
 of_both w false May some = some
 
-within : (w : World) (st : Story) → Keeps (w, st) → (o : Option Command) → IfSome o (CanBeDone w) → ((c : Command) → o ≡ Some c → Fits c) → IsSeen w (λ su out. WithinLimit (w, su) o out)
-within w st keeps o can fits = of_both w (nat_lt most_bytes (sum_by (λ b. length b) w.met)) (λ su out. MayDo (w, su) o out) (may_do w st keeps o can fits)
+within : (w : World) (st : Story) → Keeps (w, st) → (o : Option Command) → ((c : Command) → o ≡ Some c → Fits c) → IsSeen w (λ su out. WithinLimit (w, su) o out)
+within w st keeps o fits = of_both w (nat_lt most_bytes (sum_by (λ b. length b) w.met)) (λ su out. MayDo (w, su) o out) (may_do w st keeps o fits)
 
 or_end : (w : World) (ends : Bool) (May : Story → Outcome Played → Type 0) → IsSeen w May → IsSeen w (λ su out. MatchBool ends (out ≡ Ends) (May su out))
 or_end w true May some = (Ends, λ su is. (Ends, refl, refl))
 or_end w false May some = some
 
-may_first : (w : World) (st : Story) → Keeps (w, st) → (o : Option Command) → IfSome o (CanBeDone w) → ((c : Command) → o ≡ Some c → Fits c) → IsSeen w (λ su out. MayDoFirst (w, su) o out)
-may_first w st keeps o can fits = or_end w (is_end o) (λ su out. WithinLimit (w, su) o out) (within w st keeps o can fits)
+may_first : (w : World) (st : Story) → Keeps (w, st) → (o : Option Command) → ((c : Command) → o ≡ Some c → Fits c) → IsSeen w (λ su out. MayDoFirst (w, su) o out)
+may_first w st keeps o fits = or_end w (is_end o) (λ su out. WithinLimit (w, su) o out) (within w st keeps o fits)
 
 pub each_line_does_something : EachLineDoesSomething
-each_line_does_something w line can story = may_first w story.0 story.1 (command_of line) can (λ c is. command_fits line c is)
+each_line_does_something w line story = may_first w story.0 story.1 (command_of line) (λ c is. command_fits line c is)
 
 -- ---- scripts
 
@@ -87,19 +87,13 @@ goes_to w st line next output lines keeps Ends step e = cc e
 goes_to w st line next output lines keeps Refuses step e = cc e
 goes_to w st line next output lines keeps Exceeds step e = cc e
 
--- a command that makes no snapshot
-pub can_without : (w : World) (o : Option Command) → ((log : List ℕ) → o ≢ Some (command.Snap log)) → IfSome o (CanBeDone w)
-can_without w None other = tt
-can_without w (Some (command.Snap log)) other = absurd (other log refl)
-can_without w (Some c) other = tt
-
 pub each_script_has_a_run : LinesKeep → EachScriptHasARun
 unfolding Runs
-each_script_has_a_run keep w number [] can story = (refused number, refl)
-each_script_has_a_run keep w number (line ∷ lines) can story =
-    let does = each_line_does_something w (shown line) (can_without w (command_of (shown line)) can.0) story in
+each_script_has_a_run keep w number [] story = (refused number, refl)
+each_script_has_a_run keep w number (line ∷ lines) story =
+    let does = each_line_does_something w (shown line) story in
     let o = does.1 story.0 story.1 in
-    after does.0 does.1 (λ next output is. each_script_has_a_run keep next (number + 1) lines can.1 (goes_to w story.0 (shown line) next output keep story.1 o.0 o.1 (sym is ∙ o.2)))
+    after does.0 does.1 (λ next output is. each_script_has_a_run keep next (number + 1) lines (goes_to w story.0 (shown line) next output keep story.1 o.0 o.1 (sym is ∙ o.2)))
   where
     after : (outcome : Outcome World) → SeenStep Keeps IvyStep w (shown line) outcome → ((next : World) (output : List ℕ) → outcome ≡ Goes next output → Run next (number + 1) lines) → Run w number (line ∷ lines)
     after (Goes next output) step later = (let rest = later next output refl in (behind output rest.0, (Goes next output, step, (rest.0, rest.1, refl))))

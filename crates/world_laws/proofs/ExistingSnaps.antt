@@ -1,5 +1,5 @@
--- A line that makes a snapshot does something, where what is to be published of it has a spelling.
-use Rattle.std.proofs.Common.{◌≡◌, ℕ, Bool, true, false, cond, List, map, Option, Some, None, refl, sym, ap, ◌∙◌, subst}
+-- A line that makes a snapshot does something.
+use Rattle.std.proofs.Common.{◌≡◌, inl, inr, ℕ, Bool, true, false, cond, List, map, Option, Some, None, refl, sym, ap, ◌∙◌, subst}
 use Rattle.std.specs.Prelude.{IfSome, codes}
 use Rattle.std.specs.List.{AllByRecursion}
 use Rattle.dhash_model.specs.Signed.{hss_judged}
@@ -14,7 +14,7 @@ use Rattle.script_driver.specs.Run.{Goes, Refuses}
 use Rattle.world_model.specs.Agents.{Agent, Kept}
 use Rattle.world_model.specs.Keepers.{fails_next}
 use Rattle.world_model.specs.Logs.{SnapLine, having_snapped, having_tried, failed_text, snap_text, snapping_in, to_publish}
-use Rattle.world_model.specs.Logs.SnapLine.{nobody, outside, fails, makes}
+use Rattle.world_model.specs.Logs.SnapLine.{nobody, outside, fails, makes, cannot}
 use Rattle.world_model.specs.Steps.{met_by}
 use Rattle.world_model.specs.Story.{Story, began_nothing}
 use Rattle.world_model.specs.World.{World, Participant, participant, with_participant}
@@ -27,6 +27,7 @@ use Rattle.world_laws.proofs.ExistingSessions.{publishes_all}
 use Rattle.world_laws.proofs.Frames.{found_placed, into_map, ring_of}
 use Rattle.world_laws.proofs.Placed.{names_placed}
 use Rattle.world_laws.proofs.SignedAmong.{met_stays, met_then}
+use Rattle.world_laws.proofs.SpelledPosts.{spelled_or_not}
 
 -- what is published of a snapshot that was made is what was to be saved
 abbrev IsSpelledSo : (Agent × Bool) × Option Kept → Type 0
@@ -86,14 +87,13 @@ module _ (w : World) (st : Story) (keeps : Keeps (w, st)) (log : List ℕ) (p : 
             ),
           )
 
--- what is to be published of a snapshot of the participant has a spelling
-abbrev pub IsSpelledOf : Option Participant → Type 0
-IsSpelledOf o = IfSome o (λ p. IfSome p.agent.view (λ view. IfSome (snapping_in p view).1 (λ k. ArePostsSpelled k.pending)))
-
-pub snap_line : (w : World) (st : Story) → Keeps (w, st) → (log : List ℕ) (o : Option Participant) → participant w log ≡ o → IsSpelledOf o → IsSeen w (λ su out. SnapLine hss_judged (w, su) o out)
-snap_line w st keeps log None is spelled = (Refuses, λ su fits. (Refuses, nobody, refl))
-snap_line w st keeps log (Some p) is spelled = by_view p.agent.view refl spelled
+pub snap_line : (w : World) (st : Story) → Keeps (w, st) → (log : List ℕ) (o : Option Participant) → participant w log ≡ o → IsSeen w (λ su out. SnapLine hss_judged (w, su) o out)
+snap_line w st keeps log None is = (Refuses, λ su fits. (Refuses, nobody, refl))
+snap_line w st keeps log (Some p) is = by_view p.agent.view refl
   where
-    by_view : (o : Option View) → p.agent.view ≡ o → IfSome o (λ view. IfSome (snapping_in p view).1 (λ k. ArePostsSpelled k.pending)) → IsSeen w (λ su out. SnapLine hss_judged (w, su) (Some p) out)
-    by_view None out_of h = (Refuses, λ su fits. (Refuses, outside p out_of, refl))
-    by_view (Some view) in_view h = snaps w st keeps log p is view in_view h
+    by_view : (o : Option View) → p.agent.view ≡ o → IsSeen w (λ su out. SnapLine hss_judged (w, su) (Some p) out)
+    by_view None out_of = (Refuses, λ su fits. (Refuses, outside p out_of, refl))
+    by_view (Some view) in_view = elim (spelled_or_not (snapping_in p view).1) [
+      | inl spelled ↦ snaps w st keeps log p is view in_view spelled
+      | inr unspelled ↦ (Goes w (failed_text (codes "snap") p.name), λ su fits. (Goes (w, su) (failed_text (codes "snap") p.name), cannot p view in_view unspelled, refl))
+    ]

@@ -3,6 +3,7 @@ use Rattle.std.proofs.Common.{◌≡◌, ◌⊎◌, inl, inr, ℕ, Bool, true, f
 use Rattle.std.specs.Prelude.{IfSome, MatchBool, is_some, length, nat_lt, sum_by}
 use Rattle.std.specs.List.{AllByRecursion, flat_map}
 use Rattle.std.specs.Str.{bytes_eq}
+use Rattle.std.proofs.lemmas.Bool.{ltb-false}
 use Rattle.ivy_base.specs.Naming.{HasClash}
 use Rattle.wire_model.specs.Rpc.{SystemError, reply}
 use Rattle.dhash_model.specs.Signed.{hss_judged}
@@ -29,10 +30,10 @@ use Rattle.world_model.specs.Steps.RunsOut.{is_over as runs_over, more as runs_m
 use Rattle.world_model.specs.Story.{beginning, having_begun, with_began, without_began}
 use Rattle.world_model.specs.World.{NamedSession, Participant, World, entries, named_bytes, participant, session_named, with_session, without_session}
 use Rattle.world_laws.specs.Causes.{HasCause, said_at}
-use Rattle.world_laws.specs.FullRuns.{Clashes, FullLines, HasBytes, HaveRoom}
+use Rattle.world_laws.specs.FullRuns.{Clashes, FullLines, HasBytes, HaveRoom, MetLittle}
 use Rattle.world_laws.specs.Effects.{IsOfSessions}
 use Rattle.world_laws.specs.Keeps.{HasSaid, IsAtStage, Keeps}
-use Rattle.world_laws.specs.Laws.{CanBeDone, HadMemory, HasMemoryIn}
+use Rattle.world_laws.specs.Laws.{HadMemory, HasMemoryIn}
 use Rattle.world_laws.proofs.Apart.{clash_is_decided}
 use Rattle.world_laws.proofs.Bringing.{found_named}
 use Rattle.world_laws.proofs.BytesLines.{IsWhich, another, as_command, finish_command, named_session_bytes, open_command, sent_bytes, step_command, which}
@@ -259,9 +260,9 @@ module _ (w : Played) (line : List ℕ) (keeps : Keeps w) (room : HaveRoom w.0) 
       finish_full name s is ring.0 ring.1 is_finish
 
   -- a line without sessions
-  quiet_full : (c : Command) → Fits c → CanBeDone w.0 c → (IsOfSessions c → ⊥) → HasFull w line (Does hss_judged w c)
-  quiet_full c fits can other =
-      let some = (command_does w.0 w.1 keeps c can fits).1 w.1 keeps in
+  quiet_full : (c : Command) → Fits c → (IsOfSessions c → ⊥) → HasFull w line (Does hss_judged w c)
+  quiet_full c fits other =
+      let some = (command_does w.0 w.1 keeps c fits).1 w.1 keeps in
       (some.0, some.1, by some.0 (quiet_command w c other some.0 some.1))
     where
       by : (outcome : Outcome Played) → Quietly w outcome → IsFull w line outcome
@@ -270,35 +271,36 @@ module _ (w : Played) (line : List ℕ) (keeps : Keeps w) (room : HaveRoom w.0) 
       by Refuses quiet = inl tt
       by Exceeds quiet = inl tt
 
-  command_full : (c : Command) → command_of line ≡ Some c → Fits c → CanBeDone w.0 c → HasFull w line (Does hss_judged w c)
-  command_full c is fits can = by c (which c) is fits can
+  command_full : (c : Command) → command_of line ≡ Some c → Fits c → HasFull w line (Does hss_judged w c)
+  command_full c is fits = by c (which c) is fits
     where
-      by : (c : Command) → IsWhich c → command_of line ≡ Some c → Fits c → CanBeDone w.0 c → HasFull w line (Does hss_judged w c)
-      by _ (as_command log ps) is fits can = as_full log ps fits (sending_of w.0 log ps) refl
-      by _ (open_command session log ps) is fits can = open_full session (sending_of w.0 log ps)
-      by _ (step_command session count) is fits can = step_full session count (session_named w.0 session) refl
-      by _ (finish_command session) is fits can = end_full session is (session_named w.0 session) refl
-      by c (another other) is fits can = quiet_full c fits can other
+      by : (c : Command) → IsWhich c → command_of line ≡ Some c → Fits c → HasFull w line (Does hss_judged w c)
+      by _ (as_command log ps) is fits = as_full log ps fits (sending_of w.0 log ps) refl
+      by _ (open_command session log ps) is fits = open_full session (sending_of w.0 log ps)
+      by _ (step_command session count) is fits = step_full session count (session_named w.0 session) refl
+      by _ (finish_command session) is fits = end_full session is (session_named w.0 session) refl
+      by c (another other) is fits = quiet_full c fits other
 
-  -- ---- the whole
+  may_do : (o : Option Command) → command_of line ≡ o → HasFull w line (MayDo w o)
+  may_do None is = (Refuses, refl, inl tt)
+  may_do (Some c) is = command_full c is (command_fits line c is)
 
-  in_limit : (b : Bool) (May : Outcome Played → Type 0) → HasFull w line May → HasFull w line (λ outcome. MatchBool b (outcome ≡ Exceeds) (May outcome))
-  in_limit true May has = (Exceeds, refl, inl tt)
-  in_limit false May has = has
+-- ---- the whole
 
-  within : (o : Option Command) → HasFull w line (MayDo w o) → HasFull w line (WithinLimit w o)
-  within o has = in_limit (nat_lt most_bytes (sum_by (λ b. length b) w.0.met)) (MayDo w o) has
+module _ (w : Played) (line : List ℕ) where
+  in_limit : (b : Bool) → nat_lt most_bytes (sum_by (λ b. length b) w.0.met) ≡ b → (May : Outcome Played → Type 0) → (MetLittle w.0 → HasFull w line May) → HasFull w line (λ outcome. MatchBool b (outcome ≡ Exceeds) (May outcome))
+  in_limit true much May has = (Exceeds, refl, inl tt)
+  in_limit false little May has = has (ltb-false most_bytes (sum_by (λ b. length b) w.0.met) little)
+
+  within : (o : Option Command) → (MetLittle w.0 → HasFull w line (MayDo w o)) → HasFull w line (WithinLimit w o)
+  within o has = in_limit (nat_lt most_bytes (sum_by (λ b. length b) w.0.met)) refl (MayDo w o) has
 
   or_end : (ends : Bool) (May : Outcome Played → Type 0) → HasFull w line May → HasFull w line (λ outcome. MatchBool ends (outcome ≡ Ends) (May outcome))
   or_end true May has = (Ends, refl, inl tt)
   or_end false May has = has
 
-  first : (o : Option Command) → HasFull w line (MayDo w o) → HasFull w line (MayDoFirst w o)
+  first : (o : Option Command) → (MetLittle w.0 → HasFull w line (MayDo w o)) → HasFull w line (MayDoFirst w o)
   first o has = or_end (is_end o) (WithinLimit w o) (within o has)
 
-  may_do : (o : Option Command) → command_of line ≡ o → IfSome o (CanBeDone w.0) → HasFull w line (MayDo w o)
-  may_do None is can = (Refuses, refl, inl tt)
-  may_do (Some c) is can = command_full c is (command_fits line c is) can
-
 pub full_lines : FullLines
-full_lines w line keeps room bytes can = first w line keeps room bytes (command_of line) (may_do w line keeps room bytes (command_of line) refl can)
+full_lines w line keeps room bytes = first w line (command_of line) (λ little. may_do w line keeps (room little) bytes (command_of line) refl)

@@ -1,6 +1,5 @@
--- Each script that makes no snapshot has one run in which memory is never wanting, or names clash on the way.
+-- Each script has one run in which memory is never wanting, or names clash on the way.
 use Rattle.std.proofs.Common.{◌⊎◌, inl, inr, ℕ, ◌+◌, List, [], ◌∷◌, ◌++◌, refl, ap}
-use Rattle.std.specs.List.{AllByRecursion}
 use Rattle.ivy_base.specs.Naming.{HasClash}
 use Rattle.script_driver.specs.Run.{Outcome, Goes, Ends, Refuses, Exceeds, Obeys, Ran, Runs, WithLaw, behind, ended, limited, refused, shown}
 use Rattle.world_model.specs.Logs.{Played}
@@ -9,10 +8,8 @@ use Rattle.world_model.specs.Story.{empty_story}
 use Rattle.world_model.specs.World.{empty_world, named_bytes}
 use Rattle.world_laws.specs.FullRuns.{Clashes, ClashesOn, FullScripts, FullStarts, HasBytes, PublishFew}
 use Rattle.world_laws.specs.Keeps.{Keeps}
-use Rattle.world_laws.specs.Laws.{HadMemory, MakesNoSnapshot}
+use Rattle.world_laws.specs.Laws.{HadMemory}
 use Rattle.world_laws.proofs.BytesLines.{bytes_come, empty_has_bytes}
-use Rattle.script_model.specs.Lines.{command_of}
-use Rattle.world_laws.proofs.Existing.{can_without}
 use Rattle.world_laws.proofs.EachLine.{each_line_keeps}
 use Rattle.world_laws.proofs.FirstWorld.{empty_keeps}
 use Rattle.world_laws.proofs.FullLines.{full_lines}
@@ -56,13 +53,13 @@ clashes_later w next line lines output step later = record {
   clash = later.clash;
 }
 
-runs_or_clashes : (w : Played) (number : ℕ) (lines : List (List ℕ)) → Keeps w → PublishFew w.0 → HasBytes w.0 → AllByRecursion (λ line. MakesNoSnapshot (shown line)) lines → HasRun w number lines ⊎ ClashesOn w lines
+runs_or_clashes : (w : Played) (number : ℕ) (lines : List (List ℕ)) → Keeps w → PublishFew w.0 → HasBytes w.0 → HasRun w number lines ⊎ ClashesOn w lines
 unfolding Runs
-runs_or_clashes w number [] keeps few bytes mild = inl (refused number, refl)
-runs_or_clashes w number (line ∷ lines) keeps few bytes mild =
-    let some = full_lines w (shown line) keeps (there_is_room w keeps few) bytes (can_without w.0 (command_of (shown line)) mild.0) in
+runs_or_clashes w number [] keeps few bytes = inl (refused number, refl)
+runs_or_clashes w number (line ∷ lines) keeps few bytes =
+    let some = full_lines w (shown line) keeps (there_is_room w keeps few) bytes in
     after some.0 some.1 some.2 (λ next output step memory.
-    runs_or_clashes next (number + 1) lines (each_line_keeps w next (shown line) output keeps step) (few_posts_come w next (shown line) output keeps few mild.0 step) (bytes_come w next (shown line) output keeps bytes memory.1 step) mild.1)
+    runs_or_clashes next (number + 1) lines (each_line_keeps w next (shown line) output keeps step) (few_posts_come w next (shown line) output keeps few step) (bytes_come w next (shown line) output keeps bytes memory.1 step))
   where
     after : (outcome : Outcome Played) → IvyStep w (shown line) outcome → HadMemory w (shown line) outcome ⊎ Clashes outcome
         → ((next : Played) (output : List ℕ) → IvyStep w (shown line) (Goes next output) → HadMemory w (shown line) (Goes next output) → HasRun next (number + 1) lines ⊎ ClashesOn next lines) → HasRun w number (line ∷ lines) ⊎ ClashesOn w (line ∷ lines)
@@ -76,10 +73,10 @@ runs_or_clashes w number (line ∷ lines) keeps few bytes mild =
     after Exceeds step how later = inl (limited number, (Exceeds, (step, tt), refl))
 
 pub full_scripts : FullScripts
-full_scripts w number lines keeps few bytes mild = elim (runs_or_clashes w number lines keeps few bytes mild) [
+full_scripts w number lines keeps few bytes = elim (runs_or_clashes w number lines keeps few bytes) [
   | inl runs ↦ inl (runs.0, (runs.1, λ other also. full_runs_are_one w number lines other runs.0 keeps also runs.1))
   | inr clashes ↦ inr clashes
 ]
 
 pub full_starts : FullStarts
-full_starts number lines mild = full_scripts (empty_world, empty_story) number lines empty_keeps empty_publishes_few empty_has_bytes mild
+full_starts number lines = full_scripts (empty_world, empty_story) number lines empty_keeps empty_publishes_few empty_has_bytes

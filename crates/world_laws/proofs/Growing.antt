@@ -23,8 +23,9 @@ use Rattle.world_laws.specs.Effects.Plays.{calls, ends, steps}
 use Rattle.world_laws.specs.Effects.Effect.{comes, loses, makes_view, of_nodes, opens, plays, renews, shows, times, touches}
 use Rattle.world_laws.specs.Effects.LaterEffect.{publishes, replies}
 use Rattle.world_laws.specs.Laws.{MetGrows}
-use Rattle.world_laws.proofs.Effects.{by_effects, fates_rest, lines_have_effects, played_moves}
+use Rattle.world_laws.proofs.Effects.{by_effects, lines_have_effects, played_moves}
 use Rattle.world_laws.proofs.Moves.{all_moves, runs_move}
+use Rattle.world_laws.proofs.RingLines.{fates_rest}
 
 module _ (b : List ℕ) where
   abbrev Has : Played → Type 0

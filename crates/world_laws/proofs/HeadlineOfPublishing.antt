@@ -30,41 +30,41 @@ use Rattle.world_laws.specs.Moves.Move.{asks, hears, lacks as move_lacks, settle
 use Rattle.world_laws.proofs.Moves.{all_moves, runs_move}
 
 -- it doesn't refresh
-abbrev IsPast : Session → Type 0
+abbrev pub IsPast : Session → Type 0
 IsPast s = s.stage ≡ Refreshing → ⊥
 
-past_put : (said : Option Said) (p : Post) (posts : List Post) (acks : List Ack) (came : Bool) → after_put said p posts acks came ≡ Refreshing → ⊥
+pub past_put : (said : Option Said) (p : Post) (posts : List Post) (acks : List Ack) (came : Bool) → after_put said p posts acks came ≡ Refreshing → ⊥
 past_put said p posts acks true e = cc e
 past_put said p posts acks false e = cc e
 
 past_publishing : (said : Option Said) (posts : List Post) (acks : List Ack) → Publishing said posts acks ≡ Refreshing → ⊥
 past_publishing said posts acks e = cc e
 
-hears_past : (r : ℕ) (s : Session) (cache : Cache) (node : Peer) (question : Ask) (answer : Answer) (heard : Session) (after : Cache) → IsPast s → Hears hss_judged r s cache node question answer heard after → IsPast heard
-hears_past r s cache node question answer _ _ past (gets_on want wants next part) = absurd (past wants.0)
-hears_past r s cache node question answer _ _ past (got want brought wants next whole) = absurd (past wants.0)
-hears_past r s cache node question answer _ _ past (puts_on said p posts acks at next part) = past
-hears_past r s cache node question answer _ _ past (puts said p posts acks came at next whole) = past_put said p posts acks (acknowledged came)
+pub hears_past : {r : ℕ} {s heard : Session} {cache after : Cache} {node : Peer} {question : Ask} {answer : Answer} → IsPast s → Hears hss_judged r s cache node question answer heard after → IsPast heard
+hears_past past (gets_on want wants next part) = absurd (past wants.0)
+hears_past past (got want brought wants next whole) = absurd (past wants.0)
+hears_past past (puts_on said p posts acks at next part) = past
+hears_past past (puts said p posts acks came at next whole) = past_put said p posts acks (acknowledged came)
 
 takes_past : {r : ℕ} {s t : Session} {cache after : Cache} → TakesSome hss_judged r s cache t after → IsPast s → IsPast t
 takes_past some_none past = past
 takes_past (some_more (posted key bytes wants none pending) rest) past = absurd (past wants.0)
 takes_past (some_more (cached key bytes wants none pending kept) rest) past = absurd (past wants.0)
 
-fails_past : (s t : Session) → IsPast s → Fails s t → IsPast t
-fails_past s _ past (fails notes given miss xid asked at refreshed asks_it) = absurd (past at)
-fails_past s _ past (goes_on none) = past
+pub fails_past : {s t : Session} → IsPast s → Fails s t → IsPast t
+fails_past past (fails notes given miss xid asked at refreshed asks_it) = absurd (past at)
+fails_past past (goes_on none) = past
 
-lacks_past : (s t : Session) → LacksMemory s t → IsPast t
-lacks_past s _ (lacks notes shown given end xid asked at refreshed asks_it rest front) = λ e. cc e
+pub lacks_past : {s t : Session} → LacksMemory s t → IsPast t
+lacks_past (lacks notes shown given end xid asked at refreshed asks_it rest front) = λ e. cc e
 
-settles_past : (a : Agent) (s : Session) (after : Agent) (t : Session) → Settles a s after t → IsPast t
-settles_past a s _ _ (settles_all said acks at) = λ e. cc e
+pub settles_past : {a after : Agent} {s t : Session} → Settles a s after t → IsPast t
+settles_past (settles_all said acks at) = λ e. cc e
 
-turn_refreshes : (now : Moment) (a : Agent) (view : View) (failing : Bool) (s : Session) (end : TurnEnd) (after : Agent) (saving : Option Kept) (t : Session) → TakesTurn hss (record { agent = a; view = view; now = now; fails = failing }) s end after saving t → s.stage ≡ Refreshing
-turn_refreshes now a view failing s _ _ _ _ (turn_answers notes given xid asked reply applied after saving done asks_it turned) = done.0
-turn_refreshes now a view failing s _ _ _ _ (begins_anew notes given xid asked end after saving done asks_it turned refused few) = done.0
-turn_refreshes now a view failing s _ _ _ _ (gives_up notes given xid asked end after saving done asks_it turned refused many) = done.0
+pub turn_refreshes : {now : Moment} {a : Agent} {view : View} {failing : Bool} {s : Session} {end : TurnEnd} {after : Agent} {saving : Option Kept} {t : Session} → TakesTurn hss (record { agent = a; view = view; now = now; fails = failing }) s end after saving t → s.stage ≡ Refreshing
+turn_refreshes (turn_answers notes given xid asked reply applied after saving done asks_it turned) = done.0
+turn_refreshes (begins_anew notes given xid asked end after saving done asks_it turned refused few) = done.0
+turn_refreshes (gives_up notes given xid asked end after saving done asks_it turned refused many) = done.0
 
 module _ (had : List HadTurn) where
   -- these are the turns, and it doesn't refresh
@@ -75,10 +75,10 @@ module _ (had : List HadTurn) where
   move_has_none : {r : ℕ} {name : List ℕ} (c next : Scene) → Move hss_judged r name c next → HasNoMore c → HasNoMore next
   move_has_none c _ (takes p taken cache is taking) h = record { past = takes_past taking h.past; same = h.same }
   move_has_none c _ (asks node question answer next fate) h = record { past = h.past; same = h.same }
-  move_has_none c _ (hears p node question answer next heard t cache is fate hearing goes) h = record { past = fails_past heard t (hears_past _ c.session p.cache node question answer heard cache h.past hearing) goes; same = h.same }
-  move_has_none c _ (move_lacks t lacking) h = record { past = lacks_past c.session t lacking; same = h.same }
-  move_has_none c _ (turns p view end after saving t work story began is in_view taking told) h = absurd (h.past (turn_refreshes c.world.now p.agent view _ c.session end after saving t taking))
-  move_has_none c _ (move_settles p after t is settling) h = record { past = settles_past p.agent c.session after t settling; same = h.same }
+  move_has_none c _ (hears p node question answer next heard t cache is fate hearing goes) h = record { past = fails_past (hears_past h.past hearing) goes; same = h.same }
+  move_has_none c _ (move_lacks t lacking) h = record { past = lacks_past lacking; same = h.same }
+  move_has_none c _ (turns p view end after saving t work story began is in_view taking told) h = absurd (h.past (turn_refreshes taking))
+  move_has_none c _ (move_settles p after t is settling) h = record { past = settles_past settling; same = h.same }
 
   -- a later effect has none
   pub later_has_none : {k : Command} (w next : Played) → LaterEffect hss_judged w k next → w.1.turns ≡ had → next.1.turns ≡ had

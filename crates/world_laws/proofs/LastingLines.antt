@@ -1,5 +1,6 @@
--- What holds of each agent and its keeper, and stays through turns, settling, entering, restarts and saves, stays through each line that makes no snapshot.
-use Rattle.std.proofs.Common.{◌≡◌, ℕ, Bool, true, false, cond, List, [], ◌∷◌, map, Some, refl, sym, subst, ◌≢◌, ◌+◌, ◌++◌, Option, None, ap, ◌∙◌}
+-- What holds of each agent and its keeper, and stays through turns, settling, entering, restarts and saves, stays through each line that makes no snapshot; and through
+-- each line, where it stays through snapshots.
+use Rattle.std.proofs.Common.{◌≡◌, ◌⊎◌, inl, inr, ⊎_elim, ℕ, Bool, true, false, cond, List, [], ◌∷◌, map, Some, refl, sym, subst, ◌≢◌, ◌+◌, ◌++◌, Option, None, ap, ◌∙◌}
 use Rattle.std.specs.Prelude.{if◌then◌else◌, ◌==◌, is_some}
 use Rattle.std.specs.List.{AllByRecursion}
 use Rattle.std.specs.Str.{bytes_eq}
@@ -15,7 +16,10 @@ use Rattle.dht_ids.specs.declared.ask.Answer.{Answer}
 use Rattle.dht_ids.specs.declared.ask.Ask.{Ask}
 use Rattle.dht_ids.specs.declared.peer.Peer.{Peer}
 use Rattle.dht_ids.specs.declared.post.Post.{Post}
+use Rattle.snapshot_model.specs.Spelling.{root_name, snapshot_blocks}
 use Rattle.agent_model.specs.Agent.{entered, failed, kept_of, restored}
+use Rattle.agent_model.specs.Others.{basis_of, snapped}
+use Rattle.agent_model.specs.SavedBytes.{ArePostsSpelled}
 use Rattle.agent_model.specs.Turning.{TurnEnd}
 use Rattle.agent_model.specs.Views.{is_own_member, not_named}
 use Rattle.session_model.specs.Sessions.{Session, Said}
@@ -45,12 +49,13 @@ use Rattle.world_laws.specs.Moves.{Move, Moves}
 use Rattle.world_laws.specs.Moves.Move.{asks, hears, lacks, settles, takes, turns}
 use Rattle.world_laws.proofs.AllLines.{does_line}
 use Rattle.world_laws.proofs.Bringing.{found_named}
-use Rattle.world_laws.proofs.Effects.{by_effects, fates_rest, lines_have_effects, played_moves}
+use Rattle.world_laws.proofs.Effects.{by_effects, lines_have_effects, played_moves}
 use Rattle.world_laws.proofs.LineFits.{Fits, command_fits}
 use Rattle.world_laws.proofs.LogLines.{kept_whole}
 use Rattle.world_laws.proofs.Moves.{all_moves, runs_move}
 use Rattle.world_laws.proofs.NodeFates.{fate_rest}
 use Rattle.world_laws.proofs.UseLines.{view_in, whole}
+use Rattle.world_laws.proofs.RingLines.{fates_rest}
 
 -- an ask touches no participant
 pub fate_same : {w next : World} {to : Peer} {question : Ask} {answer : Answer} → FateOf hss_judged w to question answer next → next.participants ≡ w.participants
@@ -66,6 +71,15 @@ pub record IsLasting (P : Agent → Keeper → Type 0) : Type 0 where
   pub enters : (a : Agent) (y : Keeper) (view : View) → P a y → IsKept (kept_of (entered a view))
       → P (entered a view) (asked_to_save y (Some (kept_of (entered a view)))) × P (failed a) (asked_to_save y (Some (kept_of (entered a view))))
   pub opens : (signer : Signer) (now : Moment) → IsKept (kept_of (opened signer now)) → P (opened signer now) (asked_to_save fresh_keeper (Some (kept_of (opened signer now))))
+
+-- it stays through snapshots, whether or not their save fails
+abbrev pub LastsSnaps : (Agent → Keeper → Type 0) → Type 0
+LastsSnaps P = (a : Agent) (y : Keeper) (view : View) → P a y → (let after : Agent = snapped a (root_name view (basis_of a.holding)) (snapshot_blocks view (basis_of a.holding)) in ArePostsSpelled after.pending
+    → P after (asked_to_save y (Some (kept_of after))) × P (failed a) (asked_to_save y (Some (kept_of after))))
+
+-- it does, or the command makes none
+abbrev SnapsOrNot : (Agent → Keeper → Type 0) → Command → Type 0
+SnapsOrNot P k = LastsSnaps P ⊎ ((log : List ℕ) → k ≢ command.Snap log)
 
 module _ (P : Agent → Keeper → Type 0) (lasts : IsLasting P) where
   abbrev pub Lasts : Participant → Type 0
@@ -133,17 +147,19 @@ module _ (P : Agent → Keeper → Type 0) (lasts : IsLasting P) where
             let found = view_in w.0.views called view is_view in
             subst (λ x. IsView x × HasKeys x × AreParticipants w.0 x) found.2 (each (λ (x : NamedView). IsView x.view × HasKeys x.view × AreParticipants w.0 x.view) w.0.views found.0 keeps.met.views found.1)
 
-    touched_lasts : (name : List ℕ) (p q : Participant) {k : Command} {posts : List Post} → ((log : List ℕ) → k ≢ command.Snap log) → participant w.0 name ≡ Some p → Touches w.0 p name k q posts → Lasts q
-    touched_lasts name p _ none is (plans count new) = lasts.keeper p.agent p.keeper (memory.with_plan p.keeper count new) (same_kept (count == 0)) (found_lasting w.0 name p is all)
+    touched_lasts : (name : List ℕ) (p q : Participant) {k : Command} {posts : List Post} → SnapsOrNot P k → participant w.0 name ≡ Some p → Touches w.0 p name k q posts → Lasts q
+    touched_lasts name p _ snaps_so is (plans count new) = lasts.keeper p.agent p.keeper (memory.with_plan p.keeper count new) (same_kept (count == 0)) (found_lasting w.0 name p is all)
       where
         same_kept : (b : Bool) → (cond b p.keeper (memory.with_fault p.keeper (p.keeper.saves + count) new)).kept ≡ p.keeper.kept
         same_kept true = refl
         same_kept false = refl
-    touched_lasts name p _ none is (unable k saves was) = found_lasting w.0 name p is all
-    touched_lasts name p _ none is (fails k saving was now (to_enter called view is_view member named)) =
+    touched_lasts name p _ snaps_so is (unable k saves was) = found_lasting w.0 name p is all
+    touched_lasts name p _ snaps_so is (fails k saving was now (to_enter called view is_view member named)) =
         (lasts.enters p.agent p.keeper view (found_lasting w.0 name p is all) (entered_whole name called p view is is_view member named)).1
-    touched_lasts name p _ none is (fails k saving was now (to_snap view in_view spelled)) = absurd (none name refl)
-    touched_lasts name p _ none is (snaps view was now in_view spelled) = absurd (none name refl)
+    touched_lasts name p _ (inl stays) is (fails k saving was now (to_snap view in_view spelled)) = (stays p.agent p.keeper view (found_lasting w.0 name p is all) spelled).1
+    touched_lasts name p _ (inl stays) is (snaps view was now in_view spelled) = (stays p.agent p.keeper view (found_lasting w.0 name p is all) spelled).0
+    touched_lasts name p _ (inr none) is (fails k saving was now (to_snap view in_view spelled)) = absurd (none name refl)
+    touched_lasts name p _ (inr none) is (snaps view was now in_view spelled) = absurd (none name refl)
 
     renewed_lasts : (name : List ℕ) (p q : Participant) {k : Command} {posts : List Post} {set : List Record} → participant w.0 name ≡ Some p → Renews w p name k q posts set → Lasts q
     renewed_lasts name p _ is (enters called view is_view member named was now) =
@@ -155,21 +171,22 @@ module _ (P : Agent → Keeper → Type 0) (lasts : IsLasting P) where
     played_lasts (steps name count s end is going) on = on all
     played_lasts (ends name s end is runs over) on = on all
 
-    effect_lasts : {k : Command} → Fits k → ((log : List ℕ) → k ≢ command.Snap log) → (next : Played) → Effect hss_judged w k next → LastIn next
-    effect_lasts fits none _ (shows _ is) = all
-    effect_lasts fits none _ (times sec nsec) = all
-    effect_lasts fits none _ (loses count) = all
-    effect_lasts fits none _ (of_nodes _ ring next is) = still_lasting w.0 next (ap (λ (v : World). v.participants) is.rest) all
-    effect_lasts fits none _ (makes_view name names others members former r view next are also new own_keys small ringed is put) = still_lasting w.0 next (ap (λ (v : World). v.participants) (fates_rest put.fates)) all
-    effect_lasts fits none _ (comes name id seed sets new) =
+    effect_lasts : {k : Command} → Fits k → SnapsOrNot P k → (next : Played) → Effect hss_judged w k next → LastIn next
+    effect_lasts fits snaps_so _ (shows _ is) = all
+    effect_lasts fits snaps_so _ (times sec nsec) = all
+    effect_lasts fits snaps_so _ (loses count) = all
+    effect_lasts fits snaps_so _ (of_nodes _ ring next is) = still_lasting w.0 next (ap (λ (v : World). v.participants) is.rest) all
+    effect_lasts fits snaps_so _ (makes_view name names others members former r view next are also new own_keys small ringed is put) = still_lasting w.0 next (ap (λ (v : World). v.participants) (fates_rest put.fates)) all
+    effect_lasts fits snaps_so _ (comes name id seed sets new) =
         each_append Lasts w.0.participants (newcomer name (opened (fresh_signer id seed sets) w.0.now) ∷ []) all
         (lasts.opens (fresh_signer id seed sets) w.0.now (kept_whole (fresh_signer id seed sets) fits refl w.0.now keeps.moment), tt)
-    effect_lasts fits none _ (touches k name p q posts is touching) = placed_lasting q w.0.participants (touched_lasts name p q none is touching) all
-    effect_lasts fits none _ (renews k name p q posts set is renewing) = placed_lasting (record q { cache = [] }) w.0.participants (renewed_lasts name p q is renewing) all
-    effect_lasts fits none _ (opens name log pieces s t new sends begins) = all
-    effect_lasts fits none next (plays _ r name c end _ ringed is) = played_lasts is (moves_lasting (played_moves is))
+    effect_lasts fits snaps_so _ (touches k name p q posts is touching) = placed_lasting q w.0.participants (touched_lasts name p q snaps_so is touching) all
+    effect_lasts fits snaps_so _ (renews k name p q posts set is renewing) = placed_lasting (record q { cache = [] }) w.0.participants (renewed_lasts name p q is renewing) all
+    effect_lasts fits snaps_so _ (opens name log pieces s t new sends begins) = all
+    effect_lasts fits snaps_so next (plays _ r name c end _ ringed is) = played_lasts is (moves_lasting (played_moves is))
 
-  pub lines_last : (w next : Played) (line output : List ℕ) → Keeps w → AllLast w.0.participants → MakesNoSnapshot line → IvyStep w line (Goes next output) → AllLast next.0.participants
+  pub lines_last : (w next : Played) (line output : List ℕ) → Keeps w → AllLast w.0.participants → LastsSnaps P ⊎ MakesNoSnapshot line → IvyStep w line (Goes next output) → AllLast next.0.participants
   lines_last w next line output keeps all mild step =
       let done = does_line w next output (command_of line) step in
-      by_effects LastIn (effect_lasts w keeps all (command_fits line done.0 done.1) (λ log is. mild log (done.1 ∙ ap Some is))) later_lasts (lines_have_effects w next done.0 output done.2)
+      by_effects LastIn (effect_lasts w keeps all (command_fits line done.0 done.1) (⊎_elim (λ stays. inl stays) (λ none. inr (λ log is. none log (done.1 ∙ ap Some is))) mild)) later_lasts
+      (lines_have_effects w next done.0 output done.2)

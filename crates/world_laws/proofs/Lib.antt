@@ -29,6 +29,7 @@ pub mod ViewLines
 pub mod WholePublishing
 pub mod InHand
 pub mod OneKnown
+pub mod OneFront
 pub mod OneTruth
 pub mod Placed
 pub mod Afresh
@@ -60,6 +61,7 @@ pub mod HeadlineOfTrails
 pub mod HeadlineOfLines
 pub mod OneAsked
 pub mod TurnsTaken
+mod OtherTurns
 mod TurnsBlocks
 pub mod TurnsWorld
 mod TurnsSigning
@@ -82,6 +84,7 @@ pub mod ExistingLines
 pub mod Existing
 pub mod ExistingRounds
 pub mod ExistingRepairs
+pub mod SpelledPosts
 pub mod ExistingSnaps
 pub mod OneCourse
 pub mod OneHeard
@@ -98,21 +101,12 @@ mod LastingLines
 pub mod NoSnapshotLines
 pub mod SnapBounds
 pub mod SnapSpelled
-mod SnapLines
+pub mod SnapCounts
+pub mod SnapLines
 pub mod EachLine
-pub mod CalmNodes
-pub mod CalmPuts
-pub mod CalmStates
 pub mod Moves
 pub mod Effects
 pub mod Growing
-pub mod CalmSteps
-pub mod CalmScenes
-pub mod CalmLines
-pub mod CalmCommands
-pub mod CalmRuns
-pub mod CalmHeld
-pub mod CalmRounds
 mod FullLoads
 mod FullFetches
 pub mod FullRefreshes
@@ -127,6 +121,7 @@ pub mod Rooms
 mod PieceBytes
 mod GivenBytes
 pub mod ShownReplies
+pub mod NoKeys
 mod BytesSteps
 mod QuietLines
 mod CallScenes

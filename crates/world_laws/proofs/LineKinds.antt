@@ -26,7 +26,7 @@ use Rattle.world_model.specs.Logs.{Played, LogLine, ViewLine, RestartLine, SnapL
 use Rattle.world_model.specs.Logs.LogLine.{before_ring as log_before_ring, known as log_known, begins as log_begins}
 use Rattle.world_model.specs.Logs.ViewLine.{known as view_known, no_members as view_no_members, no_former as view_no_former, one_head_key as view_one_head_key, exceeds as view_exceeds, makes as view_makes}
 use Rattle.world_model.specs.Logs.RestartLine.{nobody as restart_nobody, outside as restart_outside, starts as restart_starts}
-use Rattle.world_model.specs.Logs.SnapLine.{nobody as snap_nobody, outside as snap_outside, fails as snap_fails, makes as snap_makes}
+use Rattle.world_model.specs.Logs.SnapLine.{cannot as snap_cannot, nobody as snap_nobody, outside as snap_outside, fails as snap_fails, makes as snap_makes}
 use Rattle.world_model.specs.Calls.{AsLine, OpenLine, StepLine, FinishLine, Sending, is_step_count}
 use Rattle.world_model.specs.Calls.AsLine.{sends_nothing as whole_sends_nothing, calls as whole_calls}
 use Rattle.world_model.specs.Calls.OpenLine.{sends_nothing as opening_sends_nothing, is_open as opening_is_open, opens as opening_opens}
@@ -145,6 +145,7 @@ of_restart (restart_starts p v k set h whole kept known) = sym (if_true (is_some
 of_snap : {judged : Key → List ℕ → Option Judged} {w : Played} {p : Option Participant} {o : Outcome Played} → SnapLine judged w p o → kind o ≡ in_view_kind p
 of_snap snap_nobody = refl
 of_snap (snap_outside p h) = sym (if_false (is_some p.agent.view) Going Refused (ap is_some h))
+of_snap (snap_cannot p v h unspelled) = sym (if_true (is_some p.agent.view) Going Refused (is_there p.agent.view v h))
 of_snap (snap_fails p v h tried spelled) = sym (if_true (is_some p.agent.view) Going Refused (is_there p.agent.view v h))
 of_snap (snap_makes p q v r next h tried ringed is spelled published) = sym (if_true (is_some p.agent.view) Going Refused (is_there p.agent.view v h))
 

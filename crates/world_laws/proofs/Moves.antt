@@ -11,7 +11,7 @@ use Rattle.world_model.specs.Steps.Steps.{acts, lacks_memory}
 use Rattle.world_model.specs.Steps.RunsOut.{is_over as runs_over, more as runs_more}
 use Rattle.world_model.specs.Steps.StepsOn.{is_over as steps_over, more as steps_more, none as steps_none}
 use Rattle.world_model.specs.World.{Participant, participant}
-use Rattle.world_laws.proofs.CalmStates.{found_placed}
+use Rattle.world_laws.proofs.Placed.{found_in_place}
 use Rattle.world_laws.specs.Moves.{Move, Moves}
 use Rattle.world_laws.specs.Moves.Move.{asks, hears, lacks, settles, takes, turns}
 use Rattle.world_laws.specs.Moves.Moves.{further, here}
@@ -37,7 +37,7 @@ module _ {r : ℕ} {name : List ℕ} where
   pub step_moves : {c next : Scene} → Steps hss_judged r name c next → Moves hss_judged r name c next
   step_moves {c} (acts p taken cache next is taking act) =
       further (takes p taken cache is (some_of taking))
-      (act_moves {c = with_cache hss_judged r c p taken cache} (found_placed c.world name p (record p { cache = cache }) c.world.met is refl (λ b h. h) (λ b h. h)) act)
+      (act_moves {c = with_cache hss_judged r c p taken cache} (found_in_place c.world name p (record p { cache = cache }) is refl) act)
   step_moves (lacks_memory p taken t cache is taking lacking) = further (takes p taken cache is taking) (further (lacks t lacking) here)
 
   pub steps_move : {count : ℕ} {c end : Scene} → StepsOn hss_judged r name count c end → Moves hss_judged r name c end

@@ -29,7 +29,7 @@ use Rattle.world_laws.proofs.Placed.{found_among, found_some}
 
 -- ---- lists
 
-found_before : {A : Type 0} (test : A → Bool) (xs ys : List A) (x : A) → find test xs ≡ Some x → find test (xs ++ ys) ≡ Some x
+pub found_before : {A : Type 0} (test : A → Bool) (xs ys : List A) (x : A) → find test xs ≡ Some x → find test (xs ++ ys) ≡ Some x
 found_before test [] ys x is = cc is
 found_before test (y ∷ xs) ys x is = by (test y) is (found_before test xs ys x)
   where

@@ -1,5 +1,5 @@
 -- A line that makes no snapshot leaves a world without one so.
-use Rattle.std.proofs.Common.{◌≡◌, ℕ, Bool, not, List, [], ◌∷◌, filter, Some, None, refl, sym, ◌∙◌, subst, arith}
+use Rattle.std.proofs.Common.{◌≡◌, inr, ℕ, Bool, not, List, [], ◌∷◌, filter, Some, None, refl, sym, ◌∙◌, subst, arith}
 use Rattle.std.specs.List.{AllByRecursion, list_any}
 use Rattle.log_model.proofs.Lists.{each, each_from, from_filter}
 use Rattle.turn_model.specs.Basis.{fresh_basis}
@@ -87,5 +87,5 @@ none_held (p ∷ ps) all = ((all.0.snapshot, all.0.to_load, all.0.basis), none_h
 
 pub no_snapshot_comes : NoSnapshotComes
 no_snapshot_comes w next line output keeps none mild step =
-    let after = lines_last IsBare bare_lasts w next line output keeps (bare_before w keeps none) mild step in
+    let after = lines_last IsBare bare_lasts w next line output keeps (bare_before w keeps none) (inr mild) step in
     record { kept = none_kept next.0.participants after; agents = none_held next.0.participants after }

@@ -32,7 +32,7 @@ use Rattle.world_model.specs.Logs.{IsKnownAgain, LogLine, Played, Publishes, Res
 use Rattle.world_model.specs.Logs.LogLine.{begins as log_begins}
 use Rattle.world_model.specs.Logs.ViewLine.{makes as view_makes}
 use Rattle.world_model.specs.Logs.RestartLine.{starts as restart_starts}
-use Rattle.world_model.specs.Logs.SnapLine.{fails as snap_fails, makes as snap_makes}
+use Rattle.world_model.specs.Logs.SnapLine.{cannot as snap_cannot, fails as snap_fails, makes as snap_makes}
 use Rattle.world_model.specs.Calls.{sending_of}
 use Rattle.world_model.specs.Step.{Does, IvyStep, MayDoFirst, Untold, WithinLimit, most_bytes}
 use Rattle.world_model.specs.Steps.{met_by}
@@ -52,6 +52,7 @@ use Rattle.world_laws.proofs.OneRing.{join_one, ring_one, round_one}
 use Rattle.world_laws.proofs.OneSteps.{publishing_is_one}
 use Rattle.world_laws.proofs.SecondTurns.{one_view}
 use Rattle.world_laws.proofs.SignedHeads.{so_of}
+use Rattle.world_laws.proofs.SpelledPosts.{made_spelled, not_both, unspelled_in}
 
 -- ---- outcomes
 
@@ -176,6 +177,13 @@ snap_one w _ _ _ _ _ (snap_makes p made view r next in_view tried ringed is spel
           (subst (λ (n : ℕ). Publishes hss_judged n (record (with_participant w.0 also) { met = met_by w.0.met also.agent.pending }, w.1) also after) ring publishing)),
       (λ i. snap_text p.name (root_name (same i) (basis_of p.agent.holding))),
     )
+snap_one w _ _ _ _ _ (snap_cannot p view in_view unspelled) (snap_cannot q look within unspelling) = (refl, refl)
+snap_one w _ _ _ _ _ (snap_cannot p view in_view unspelled) (snap_fails q look within trying spelling) = absurd (not_both (snapping_in p look).1 spelling (unspelled_in p view look in_view within unspelled))
+snap_one w _ _ _ _ _ (snap_cannot p view in_view unspelled) (snap_makes q made look r next within trying ringed is spelling published) =
+    absurd (made_spelled p made look trying is spelling (unspelled_in p view look in_view within unspelled))
+snap_one w _ _ _ _ _ (snap_fails p view in_view tried spelled) (snap_cannot q look within unspelling) = absurd (not_both (snapping_in p view).1 spelled (unspelled_in p look view within in_view unspelling))
+snap_one w _ _ _ _ _ (snap_makes p made view r next in_view tried ringed is spelled published) (snap_cannot q look within unspelling) =
+    absurd (made_spelled p made view tried is spelled (unspelled_in p look view within in_view unspelling))
 
 -- ---- what is shown
 

@@ -6,7 +6,8 @@ use Rattle.std.proofs.lemmas.Slice.Eq.{bytes_eq-Decides}
 use Rattle.log_model.proofs.Lists.{from_filter, here, in_cons, in_nothing, there}
 use Rattle.world_laws.specs.Keeps.{AreApart}
 use Rattle.world_laws.proofs.SignedHeads.{from_map}
-use Rattle.world_laws.proofs.Frames.{into_map}
+use Rattle.world_model.specs.World.{Participant, World, participant, with_participant}
+use Rattle.world_laws.proofs.Frames.{found_mapped, into_map}
 
 pub same_name : (a b : List ℕ) → bytes_eq a b ≡ true → a ≡ b
 same_name a b e = (bytes_eq-Decides a b).0 e
@@ -133,3 +134,17 @@ module _ {A : Type 0} (named : A → List ℕ) where
 pub same_left : {A : Type 0} (one other : A → Bool) (xs : List A) → ((x : A) → Contains xs x → one x ≡ other x) → filter one xs ≡ filter other xs
 same_left one other [] same = refl
 same_left one other (x ∷ xs) same = λ i. cond (same x (here x xs) i) (x ∷ same_left one other xs (λ y c. same y (there x xs y c)) i) (same_left one other xs (λ y c. same y (there x xs y c)) i)
+
+-- ---- a participant in place of another of its name
+
+pub found_in_place : (w : World) (n : List ℕ) (p q : Participant) → participant w n ≡ Some p → q.name ≡ p.name → participant (with_participant w q) n ≡ Some q
+found_in_place w n p q is_p named =
+    found_mapped (λ o. cond (bytes_eq o.name q.name) q o) same_place w.participants n p is_p
+    ∙ ap (λ (b : Bool). Some (cond b q p)) (is_name p.name q.name (sym named))
+  where
+    same_place : (o : Participant) → (cond (bytes_eq o.name q.name) q o).name ≡ o.name
+    same_place o = by (bytes_eq o.name q.name) refl
+      where
+        by : (b : Bool) → bytes_eq o.name q.name ≡ b → (cond b q o).name ≡ o.name
+        by true e = sym (same_name o.name q.name e)
+        by false e = refl

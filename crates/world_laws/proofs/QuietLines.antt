@@ -20,11 +20,12 @@ use Rattle.world_laws.specs.Effects.Plays.{calls, ends, steps}
 use Rattle.world_laws.specs.Effects.ShowsText.{join_failed, of_session, shows_nothing, shows_text, snap_failed, snap_made, use_failed}
 use Rattle.world_laws.specs.Moves.{Move, Moves}
 use Rattle.world_laws.specs.Moves.Move.{asks, hears, lacks, settles, takes, turns}
-use Rattle.world_laws.proofs.Effects.{by_effects, fates_rest, lines_have_effects, lines_show_texts}
+use Rattle.world_laws.proofs.Effects.{by_effects, lines_have_effects, lines_show_texts}
 use Rattle.world_laws.proofs.Moves.{all_moves, runs_move, steps_move}
 use Rattle.world_laws.proofs.NodeFates.{fate_rest}
 use Rattle.world_laws.proofs.ShownReplies.{byte_at}
 use Rattle.world_laws.proofs.Shows.{shows_no_reply}
+use Rattle.world_laws.proofs.RingLines.{fates_rest}
 
 -- ---- what changes no session and no reply
 

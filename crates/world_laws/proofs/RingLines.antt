@@ -64,7 +64,7 @@ round_lines_keep w next output keeps does = by_world w.1 does.0 next output does
 
 -- ---- look-ups
 
-fates_rest : {judged : Key → List ℕ → Option Judged} {w next : World} {asks : List (Peer × (Ask × Answer))} → Fates judged w asks next → next ≡ record w { nodes = next.nodes; asked = next.asked }
+pub fates_rest : {judged : Key → List ℕ → Option Judged} {w next : World} {asks : List (Peer × (Ask × Answer))} → Fates judged w asks next → next ≡ record w { nodes = next.nodes; asked = next.asked }
 fates_rest fates_none = refl
 fates_rest (fates_more {w} {mid} {next} {rest} to question answer fate others) = fates_rest others ∙ ap (λ (v : World). record v { nodes = next.nodes; asked = next.asked }) (fate_rest fate)
 

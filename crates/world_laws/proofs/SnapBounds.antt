@@ -194,14 +194,23 @@ operations : (s : List Record) → AllByRecursion (λ r. OperationFits r.op) s �
 operations [] h = tt
 operations (r ∷ s) h = (h.0, operations s h.1)
 
+-- so many inodes and names there are, by the number of records
+pub inodes_most : (view : View) (s : List Record) → IsClosed view s → length (replay s).inodes ≤ 1 + 2 * length s
+inodes_most view s closed = subst (λ (l : List Record). length (apply_all empty_tree (map effect l)).inodes ≤ 1 + 2 * length s) (sym (ascending_in_order s closed.ascending))
+    (let most = (up_all 1 empty_tree (map effect s) (record { most = omega arith })).most in let same = as_many s in omega (arith, most, same))
+
+pub names_most : (view : View) (s : List Record) → IsClosed view s → length (replay s).names ≤ length s
+names_most view s closed = subst (λ (l : List Record). length (apply_all empty_tree (map effect l)).names ≤ length s) (sym (ascending_in_order s closed.ascending))
+    (let most = (count_apply_all 0 empty_tree (map effect s) (record { most = omega arith })).most in let same = as_many s in omega (arith, most, same))
+
 pub set_is_bounded : (view : View) (s : List Record) → IsView view → IsClosed view s → IsBounded (replay s)
 set_is_bounded view s well closed = record {
   inodes = all_weaker (λ (i : Key × Inode). value_at key_cmp i.0 t.inodes ≡ Some i.1) (λ (i : Key × Inode). IsKey i.0 × HasBounds i.1) t.inodes (λ i at. (fits.numbers i.0 (ap is_some at), bounds i at))
       (each_found key_cmp keys_total t.inodes (records_make_sound_trees (map effect (in_order s))).order.inodes);
   names = both_names t.names fits.names fits.file_names;
-  few = let most = inodes_most in let few = few_in_closed view s well.few closed in omega (arith, most, few);
+  few = let most = inodes_most view s closed in let few = few_in_closed view s well.few closed in omega (arith, most, few);
   few_names = each_from (λ (i : Key × Inode). length (listing t i.0) ≤ 4294967296) t.inodes (λ i c.
-      let listed = count_listed t.names i.0 in let most = names_most in let few = few_in_closed view s well.few closed in omega (arith, listed, most, few));
+      let listed = count_listed t.names i.0 in let most = names_most view s closed in let few = few_in_closed view s well.few closed in omega (arith, listed, most, few));
 }
   where
     t : Tree
@@ -221,11 +230,3 @@ set_is_bounded view s well closed = record {
       attributes = record { mode = f.mode; uid = f.uid; gid = f.gid; atime = f.atime; mtime = f.mtime; ctime = f.ctime };
       body = bodied i.0 i.1 at;
     }
-
-    inodes_most : length (replay s).inodes ≤ 1 + 2 * length s
-    inodes_most = subst (λ (l : List Record). length (apply_all empty_tree (map effect l)).inodes ≤ 1 + 2 * length s) (sym (ascending_in_order s closed.ascending))
-        (let most = (up_all 1 empty_tree (map effect s) (record { most = omega arith })).most in let same = as_many s in omega (arith, most, same))
-
-    names_most : length (replay s).names ≤ length s
-    names_most = subst (λ (l : List Record). length (apply_all empty_tree (map effect l)).names ≤ length s) (sym (ascending_in_order s closed.ascending))
-        (let most = (count_apply_all 0 empty_tree (map effect s) (record { most = omega arith })).most in let same = as_many s in omega (arith, most, same))

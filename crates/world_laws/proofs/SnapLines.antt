@@ -33,11 +33,11 @@ use Rattle.world_model.specs.World.{World, Participant, named_bytes, participant
 use Rattle.world_model.specs.Story.{Began, Knowing, knowing_of, known_of}
 use Rattle.world_model.specs.Steps.{heads_by, met_by}
 use Rattle.world_model.specs.Logs.{Played, Publishes, SnapLine}
-use Rattle.world_model.specs.Logs.SnapLine.{fails as snap_fails, makes as snap_makes, nobody as snap_nobody, outside as snap_outside}
+use Rattle.world_model.specs.Logs.SnapLine.{cannot as snap_cannot, fails as snap_fails, makes as snap_makes, nobody as snap_nobody, outside as snap_outside}
 use Rattle.world_laws.specs.Keeps.{AreParticipants, AreSignedOnce, AreSound, EntersOwned, IsKeptSo, IsMetPost, IsSavedWell, IsSound, IsSoundIn, IsSoundKept, IsSoundKeptIn, IsSoundSession, Keeps, KeepsUp, NamesOneOf, SignsOnce}
 use Rattle.world_laws.specs.Keeps.KeepsUp.{dropped, grown, still}
 use Rattle.world_laws.specs.Frames.{unchanged}
-use Rattle.world_laws.specs.Laws.{SnapLinesKeep}
+use Rattle.world_laws.specs.Laws.{SnapLinesKeep, SnapshotsKeep}
 use Rattle.world_laws.proofs.Bringing.{found_named, some_same}
 use Rattle.world_laws.proofs.Frames.{found_placed, into_map, participant_keeps, placed_itself}
 use Rattle.world_laws.proofs.Lines.{ToSuch}
@@ -326,6 +326,13 @@ module _ (w : Played) (keeps : Keeps w) (p : Participant) (is_p : participant w.
   abbrev printing : Bool → Bool → Participant
   printing has_failed fails = record (having has_failed fails) { printed = Some root }
 
+  -- before what it has is published
+  coming : (has_failed : Bool) (o : Option Bool) → memory.planned_next p.keeper ≡ o → (tried has_failed (is_some o)).0.1 ≡ true → ArePostsSpelled (printing has_failed (is_some o)).agent.pending
+      → Keeps (record (with_participant w.0 (printing has_failed (is_some o))) { met = met_by w.0.met (printing has_failed (is_some o)).agent.pending }, w.1)
+  coming true o planned some spelled = cc some
+  coming false (Some new) planned some spelled = cc some
+  coming false None planned some spelled = made_keeps spelled (asked_to_save p.keeper (Some k)) (saved_now None planned)
+
   making : (has_failed : Bool) → a.has_failed ≡ has_failed → (o : Option Bool) → memory.planned_next p.keeper ≡ o → (r : ℕ) (next : Played) → (tried has_failed (is_some o)).0.1 ≡ true → w.0.replicas ≡ Some r
       → ArePostsSpelled (printing has_failed (is_some o)).agent.pending
       → Publishes hss_judged r (record (with_participant w.0 (printing has_failed (is_some o))) { met = met_by w.0.met (printing has_failed (is_some o)).agent.pending }, w.1) (printing has_failed (is_some o)) next → Keeps next
@@ -339,12 +346,17 @@ snap_so : (w : Played) → Keeps w → (log : List ℕ) (o : Option Participant)
     → (out : Outcome Played) → SnapLine hss_judged w o out → ToSuch Keeps out
 snap_so w keeps log _ is _ snap_nobody = tt
 snap_so w keeps log _ is _ (snap_outside p out) = tt
+snap_so w keeps log _ is _ (snap_cannot p view in_view unspelled) = keeps
 snap_so w keeps log _ is _ (snap_fails p view in_view none spelled) =
     failing w keeps p (ap (participant w.0) (found_named w.0.participants log p is).1 ∙ is) view in_view p.agent.has_failed (memory.planned_next p.keeper) refl none spelled
 snap_so w keeps log _ is _ (snap_makes p q view r next in_view some ringed made spelled published) =
     making w keeps p (ap (participant w.0) (found_named w.0.participants log p is).1 ∙ is) view in_view p.agent.has_failed refl (memory.planned_next p.keeper) refl r next some ringed
     (subst (λ (x : Participant). ArePostsSpelled x.agent.pending) made spelled)
     (subst (λ (x : Participant). Publishes hss_judged r (record (with_participant w.0 x) { met = met_by w.0.met x.agent.pending }, w.1) x next) made published)
+
+pub snapshots_keep : SnapshotsKeep
+snapshots_keep log w p view keeps is in_view some spelled =
+    coming w keeps p (ap (participant w.0) (found_named w.0.participants log p is).1 ∙ is) view in_view p.agent.has_failed (memory.planned_next p.keeper) refl some spelled
 
 pub snap_lines_keep : SnapLinesKeep
 snap_lines_keep log w next output keeps does = snap_so w keeps log (participant w.0 log) refl (Goes next output) does

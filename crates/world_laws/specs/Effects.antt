@@ -37,11 +37,12 @@ use Rattle.world_model.specs.World.{without_session}
 
 -- ---- sorts of commands
 
--- it shows something at most
-abbrev pub ShowsOnly : Command → Type 0
-ShowsOnly (command.Show shown) = Unit {0}
-ShowsOnly command.Nothing = Unit {0}
-ShowsOnly _ = ⊥
+-- it may be that it shows something at most
+abbrev pub MayOnlyShow : Command → Type 0
+MayOnlyShow (command.Snap log) = Unit {0}
+MayOnlyShow (command.Show shown) = Unit {0}
+MayOnlyShow command.Nothing = Unit {0}
+MayOnlyShow _ = ⊥
 
 -- it changes nodes, and not by a session's asks
 abbrev pub IsRingCommand : Command → Type 0
@@ -165,7 +166,7 @@ module _ (judged : Key → List ℕ → Option Judged) where
 
   -- What a command does first; of most commands that is all.
   pub data Effect (w : Played) : Command → Played → Type 0 where
-    shows : (k : Command) → ShowsOnly k → Effect w k w
+    shows : (k : Command) → MayOnlyShow k → Effect w k w
     times : (sec nsec : ℕ) → Effect w (command.At sec nsec) (record w.0 { now = record { sec = sec; nsec = nsec } }, w.1)
     loses : (count : ℕ) → Effect w (command.Lose count) (record w.0 { lost = (w.0.asked + count) ∷ w.0.lost }, w.1)
     of_nodes : (k : Command) → IsRingCommand k → (next : World) → NodesChange w.0 next → Effect w k (next, w.1)

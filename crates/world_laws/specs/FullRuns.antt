@@ -1,10 +1,16 @@
--- Runs in which memory is never wanting: that there is one from each world without snapshots, or names clash.
-use Rattle.std.specs.Prelude.{◌≡◌, ◌≢◌, ◌≤◌, ◌⊎◌, ℕ, not, List, ◌∷◌, ◌++◌, Contains, filter, length, IfSome, Option, Some}
+-- Runs in which memory is never wanting: that there is one from each world that a script reaches, or names clash.
+use Rattle.std.specs.Prelude.{◌≡◌, ◌≢◌, ◌<◌, ◌≤◌, ◌^◌, ◌⊎◌, ℕ, Bool, true, false, List, ◌∷◌, ◌++◌, Contains, filter, length, map, sum_by}
+use Rattle.std.specs.Prelude.{IfSome}
+use Rattle.std.specs.Prelude.{Option, Some}
 use Rattle.std.specs.List.{AllByRecursion}
 use Rattle.ivy_base.specs.Naming.{HasClash, NamesTellApart, head_key_of}
 use Rattle.wire_model.specs.Rpc.{SystemError, reply}
 use Rattle.log_model.specs.Vector.{seq_of}
+use Rattle.log_model.specs.View.{View}
+use Rattle.dht_ids.specs.declared.post.PostKind.{PostKind}
+use Rattle.dht_ids.specs.declared.post.PostKind.TheVariants as kind
 use Rattle.agent_model.specs.Agent.{is_head, kept_of, own_key}
+use Rattle.agent_model.specs.Others.{is_block}
 use Rattle.turn_laws.specs.Laws.{HasRoom}
 use Rattle.session_model.specs.Replies.{said_no_memory}
 use Rattle.session_model.specs.Sessions.{Over, Publishing, Refreshing, Said, Session, Stage}
@@ -16,20 +22,26 @@ use Rattle.script_model.specs.Messages.{Given}
 use Rattle.world_model.specs.Agents.{Kept, hss}
 use Rattle.world_model.specs.Calls.{Sending, reply_line, sending_of}
 use Rattle.world_model.specs.Logs.{Played}
-use Rattle.world_model.specs.Step.{IvyStep}
+use Rattle.world_model.specs.Step.{IvyStep, most_bytes}
 use Rattle.world_model.specs.Story.{empty_story}
-use Rattle.world_model.specs.World.{World, empty_world, named_bytes, session_named}
+use Rattle.world_model.specs.World.{Participant, World, empty_world, named_bytes, session_named}
+use Rattle.world_laws.specs.Effects.{snapped_in}
 use Rattle.world_laws.specs.FullTurns.{AreBytes}
-use Rattle.world_laws.specs.Keeps.{IsKeptSo, Keeps}
-use Rattle.world_laws.specs.Laws.{CanBeDone, HadMemory, MakesNoSnapshot}
+use Rattle.world_laws.specs.Keeps.{AreApart, IsKeptSo, Keeps}
+use Rattle.world_laws.specs.Laws.{HadMemory}
 
 -- ---- room
 
--- What is to be published is one head at most, and beside it no more posts than the own log has records: there is no block of a snapshot
--- among them.
+abbrev pub is_record : PostKind → Bool
+is_record kind.Block = false
+is_record kind.Log = true
+is_record kind.Head = false
+
+-- What is to be published is one head at most, no more records than the own log has, and blocks of snapshots, of which no two are equal.
 pub record HasFewPosts (k : Kept) : Type 0 where
-  pub records : length (filter (λ p. not (is_head p.kind)) k.pending) ≤ seq_of k.floor (head_key_of (own_key hss k.signer))
+  pub records : length (filter (λ p. is_record p.kind) k.pending) ≤ seq_of k.floor (head_key_of (own_key hss k.signer))
   pub heads : length (filter (λ p. is_head p.kind) k.pending) ≤ 1
+  pub blocks : AreApart (map (λ p. p.bytes) (filter (λ p. is_block p.kind) k.pending))
 
 -- So it is of each agent, and of what its keeper holds.
 pub record PublishFew (w : World) : Type 0 where
@@ -39,18 +51,28 @@ pub record PublishFew (w : World) : Type 0 where
 abbrev pub EmptyPublishesFew : Type 0
 EmptyPublishesFew = PublishFew empty_world
 
--- A line that makes no snapshot leaves it so.
+-- A line leaves it so.
 abbrev pub FewPostsCome : Type 0
-FewPostsCome = (w next : Played) (line output : List ℕ) → Keeps w → PublishFew w.0 → MakesNoSnapshot line
-    → IvyStep w line (Goes next output) → PublishFew next.0
+FewPostsCome = (w next : Played) (line output : List ℕ) → Keeps w → PublishFew w.0 → IvyStep w line (Goes next output) → PublishFew next.0
 
 -- each agent has room
 abbrev pub HaveRoom : World → Type 0
 HaveRoom w = AllByRecursion (λ p. HasRoom p.agent) w.participants
 
--- So they have.
+-- no more was met than a line may go on with
+abbrev pub MetLittle : World → Type 0
+MetLittle w = sum_by (λ b. length b) w.met ≤ most_bytes
+
+-- So they have there: the blocks are met.
 abbrev pub ThereIsRoom : Type 0
-ThereIsRoom = (w : Played) → Keeps w → PublishFew w.0 → HaveRoom w.0
+ThereIsRoom = (w : Played) → Keeps w → PublishFew w.0 → MetLittle w.0 → HaveRoom w.0
+
+-- Where names tell apart, and no more was met than a line may go on with, what would be saved of a snapshot has fewer posts than a word
+-- counts: it has so many blocks for each record of what it is made of, and each record has so many bytes.
+abbrev pub SnapshotsAreFew : Type 0
+SnapshotsAreFew = (w : Played) (p : Participant) (view : View) → Keeps w → PublishFew w.0 → MetLittle w.0
+    → NamesTellApart (named_bytes w.0) → Contains w.0.participants p → p.agent.view ≡ Some view
+    → length (snapped_in p view).pending < 2 ^ 32
 
 -- ---- bytes
 
@@ -103,10 +125,10 @@ Clashes Ends = ⊥
 Clashes Refuses = ⊥
 Clashes Exceeds = ⊥
 
--- In such a world, where agents have room, each line has an outcome in which memory was there and names tell apart, or one in which names
--- clash; of a line that makes a snapshot that asks that what is to be published can be saved.
+-- In such a world, where agents have room unless too much was met, each line has an outcome in which memory was there and names tell apart,
+-- or one in which names clash.
 abbrev pub FullLines : Type 0
-FullLines = (w : Played) (line : List ℕ) → Keeps w → HaveRoom w.0 → HasBytes w.0 → IfSome (command_of line) (CanBeDone w.0)
+FullLines = (w : Played) (line : List ℕ) → Keeps w → (MetLittle w.0 → HaveRoom w.0) → HasBytes w.0
     → (outcome : Outcome Played) × IvyStep w line outcome × (HadMemory w line outcome ⊎ Clashes outcome)
 
 -- ---- want of memory
@@ -160,13 +182,12 @@ abbrev pub IsFullRun : Played → ℕ → List (List ℕ) → Ran → Type 0
 IsFullRun w number lines ran = Runs (WithLaw IvyStep HadMemory) w number lines ran
     × ((other : Ran) → Runs (WithLaw IvyStep HadMemory) w number lines other → other ≡ ran)
 
--- From such a world there is that run of each script that makes no snapshot, or names clash on the way.
+-- From such a world there is that run of each script, or names clash on the way.
 abbrev pub FullScripts : Type 0
 FullScripts = (w : Played) (number : ℕ) (lines : List (List ℕ)) → Keeps w → PublishFew w.0 → HasBytes w.0
-    → AllByRecursion (λ line. MakesNoSnapshot (shown line)) lines
     → ((ran : Ran) × IsFullRun w number lines ran) ⊎ ClashesOn w lines
 
 -- So it is of each script from its beginning.
 abbrev pub FullStarts : Type 0
-FullStarts = (number : ℕ) (lines : List (List ℕ)) → AllByRecursion (λ line. MakesNoSnapshot (shown line)) lines
+FullStarts = (number : ℕ) (lines : List (List ℕ))
     → ((ran : Ran) × IsFullRun (empty_world, empty_story) number lines ran) ⊎ ClashesOn (empty_world, empty_story) lines

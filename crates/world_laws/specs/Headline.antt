@@ -1,6 +1,6 @@
 -- What holds of each reply. It is the file system's answer on one tree, or it has another cause.
 -- The tree is the replay, from nothing, of one causally closed set of verified records, of members of the caller's view alone.
-use Rattle.std.specs.Prelude.{◌≡◌, ◌⊎◌, ℕ, ◌++◌, List, Contains, Some}
+use Rattle.std.specs.Prelude.{◌≡◌, ◌⊎◌, ℕ, ◌++◌, List, Contains, IfSome, Some}
 use Rattle.ivy_base.specs.Naming.{NamesTellApart}
 use Rattle.log_model.specs.Closed.{IsClosed, IsClosedPart, log_of}
 use Rattle.log_model.specs.Record.{Record}
@@ -9,7 +9,7 @@ use Rattle.turn_model.specs.Basis.{HoldsAll, kept_tree}
 use Rattle.turn_model.specs.Known.{IsVerified}
 use Rattle.turn_model.specs.Turn.{Asked, Candidate, IsAtHand, turn_on}
 use Rattle.world_model.specs.Agents.{inputs, own}
-use Rattle.agent_model.specs.Candidates.{AreCandidatesOf}
+use Rattle.agent_model.specs.Candidates.{AreCandidatesOf, StandsWithin}
 use Rattle.agent_model.specs.Standing.{Refresh}
 use Rattle.session_model.specs.Brought.{asks_in, brought_in}
 use Rattle.session_model.specs.Courses.{grounds_of}
@@ -50,6 +50,8 @@ pub record IsOnReplay (h : HadTurn) : Type 0 where
   pub notes : List Note
   pub given : Refresh
   pub refreshed : Refreshes h.session.standing (brought_in h.session.parts) notes given Done
+  -- Where the refresh goes by a basis, which is a snapshot that was loaded, that stands for a closed part of what was known before.
+  pub loaded : IfSome given.basis (StandsWithin h.view h.knowing.known)
   -- The heads that the session was brought determine the candidates: of each member's log, the chain to take records from.
   -- The set that the turn takes is the largest causally closed part of the candidates and of what was known before.
   pub candidates : List Candidate

@@ -1,5 +1,5 @@
 -- Laws of the world's steps and of its runs. Each is stated here, and proved in this crate.
-use Rattle.std.specs.Prelude.{◌≡◌, ◌≢◌, ◌⊎◌, ◌↔◌, ℕ, ◌+◌, ◌<◌, Bool, List, [], ◌∷◌, ◌++◌, map, take, Contains, Option, Some, IfSome}
+use Rattle.std.specs.Prelude.{◌≡◌, ◌≢◌, ◌⊎◌, ◌↔◌, ℕ, ◌+◌, ◌<◌, Bool, true, List, [], ◌∷◌, ◌++◌, map, take, Contains, Option, Some, IfSome}
 use Rattle.std.specs.List.{AllByRecursion}
 use Rattle.ivy_base.specs.declared.key.Key.{Key}
 use Rattle.ivy_base.specs.declared.key.PubKey.{PubKey}
@@ -7,7 +7,8 @@ use Rattle.ivy_base.specs.Naming.{NamesTellApart, HasClash, head_key_of}
 use Rattle.wire_model.specs.Rpc.{SystemError, reply}
 use Rattle.log_model.specs.Record.{Record}
 use Rattle.log_model.specs.Chain.{LinkedFrom}
-use Rattle.log_model.specs.Closed.{log_of}
+use Rattle.log_model.specs.Closed.{IsClosed, log_of}
+use Rattle.log_model.specs.Rank.{front}
 use Rattle.log_model.specs.Spelling.{HasSpelling, no_name}
 use Rattle.log_model.specs.Standing.{Stand, StandsAmong}
 use Rattle.log_model.specs.Vector.{Entry, Stamp, Vector, stamp_at}
@@ -52,10 +53,11 @@ use Rattle.world_model.specs.Keepers.{fails_next}
 use Rattle.world_model.specs.World.{World, NamedSession, Participant, empty_world, named_bytes, participant, with_participant}
 use Rattle.world_model.specs.Fates.{FateOf}
 use Rattle.world_model.specs.Story.{Began, HadTurn, Story, beginning, empty_story, having_begun, known_of, receiving}
-use Rattle.world_model.specs.Logs.{Played, Publishes, snapping_in}
+use Rattle.world_model.specs.Logs.{Played, Publishes, having_snapped, snapping_in}
 use Rattle.world_model.specs.Calls.{BeginsWith, Sending, reply_line}
 use Rattle.world_model.specs.Step.{Does, IvyStep}
-use Rattle.world_model.specs.Steps.{after_turn, ask_told, heads_by, RunsOut, Scene, Steps, StepsOn, turn_told, turning_of, with_cache}
+use Rattle.world_model.specs.Steps.{after_turn, ask_told, heads_by, met_by, RunsOut, Scene, Steps, StepsOn, turn_told, turning_of}
+use Rattle.world_model.specs.Steps.{with_cache}
 use Rattle.world_model.specs.Steps.{world_after}
 use Rattle.world_laws.specs.Causes.{IsOf}
 use Rattle.world_laws.specs.Keeps.{BeganFresh, GoesOn, HasNoSnapshot, IsInHand, IsMetHead, IsSoundSession, Keeps, OnlyPublishes}
@@ -257,26 +259,17 @@ EachSessionEnds = (w : World) (r : ℕ) (s : Session) → HasStory Keeps w → w
     × RunsOut hss_judged r s.by (record { world = w; story = st; session = s; began = b })
     (record { world = next; story = told; session = t; began = b }))
 
--- What is to be published has a spelling, where the command makes a snapshot: more posts than a word counts can't be saved, and then
--- nothing is defined.
-abbrev pub CanBeDone : World → Command → Type 0
-CanBeDone w (command.Snap log) = IfSome (participant w log)
-    (λ p. IfSome p.agent.view (λ view. IfSome (snapping_in p view).1 (λ k. ArePostsSpelled k.pending)))
-CanBeDone w _ = Unit {0}
-
--- A world has an outcome of each such line, and one whichever story fits it.
+-- A world has an outcome of each line, and one whichever story fits it.
 abbrev pub EachLineDoesSomething : Type 0
-EachLineDoesSomething = (w : World) (line : List ℕ) → IfSome (command_of line) (CanBeDone w) → HasStory Keeps w
-    → (outcome : Outcome World) × SeenStep Keeps IvyStep w line outcome
+EachLineDoesSomething = (w : World) (line : List ℕ) → HasStory Keeps w → (outcome : Outcome World) × SeenStep Keeps IvyStep w line outcome
 
 -- the line makes no snapshot
 abbrev pub MakesNoSnapshot : List ℕ → Type 0
 MakesNoSnapshot line = (log : List ℕ) → command_of line ≢ Some (command.Snap log)
 
--- So each script that makes no snapshot has a run.
+-- So each script has a run.
 abbrev pub EachScriptHasARun : Type 0
-EachScriptHasARun = (w : World) (number : ℕ) (lines : List (List ℕ)) → AllByRecursion (λ line. MakesNoSnapshot (shown line)) lines
-    → HasStory Keeps w
+EachScriptHasARun = (w : World) (number : ℕ) (lines : List (List ℕ)) → HasStory Keeps w
     → (ran : Ran) × Runs (SeenStep Keeps IvyStep) w number lines ran
 
 -- ---- one run
@@ -407,6 +400,12 @@ abbrev pub KnownIsOne : Type 0
 KnownIsOne = (met : List (List ℕ)) (view : View) (floor : Vector) (known other : List Record) → NamesTellApart met
     → IsKnown view floor known → IsKnown view floor other
     → Stand met known → Stand met other → known ≡ other
+
+-- A front names one closed part of a closed set.
+abbrev pub FrontIsOfOne : Type 0
+FrontIsOfOne = (view : View) (known one other : List Record) → IsView view → IsClosed view known → IsClosed view one → IsClosed view other
+    → ((r : Record) → Contains one r → Contains known r) → ((r : Record) → Contains other r → Contains known r)
+    → front one ≡ front other → one ≡ other
 
 -- each log has a key of its own, and each judged head that was met was made by its log's agent
 pub record IsHonest (w : World) : Type 0 where
@@ -547,6 +546,12 @@ HeldIsSpelled = (view : View) (floor : Vector) (h : Holding) (known : List Recor
 abbrev pub SnapLinesKeep : Type 0
 SnapLinesKeep = (log : List ℕ) (w next : Played) (output : List ℕ) → Keeps w → Does hss_judged w (command.Snap log) (Goes next output)
     → Keeps next
+
+-- A snapshot that was made leaves such a world, also before what the participant has is published.
+abbrev pub SnapshotsKeep : Type 0
+SnapshotsKeep = (log : List ℕ) (w : Played) (p : Participant) (view : View) → Keeps w → participant w.0 log ≡ Some p
+    → p.agent.view ≡ Some view → (snapping_in p view).0.1 ≡ true → ArePostsSpelled (having_snapped p view).agent.pending
+    → (let q = having_snapped p view in Keeps (record (with_participant w.0 q) { met = met_by w.0.met q.agent.pending }, w.1))
 
 -- ---- one run, where memory was there
 

@@ -3,9 +3,10 @@ pub mod Headline
 pub mod Keeps
 pub mod Kinds
 pub mod Laws
+pub mod LeavingOut
+pub mod NoKeys
 pub mod Messages
 pub mod Frames
-pub mod Calm
 pub mod FullTurns
 pub mod FullRuns
 pub mod Moves

@@ -8,13 +8,13 @@
 //! - `specs/Causes.antt`: why a session gives its reply;
 //! - `specs/Keeps.antt`: the invariant of each world (`Keeps`);
 //! - `specs/Kinds.antt`: which lines are refused;
-//! - `specs/Laws.antt`: steps and runs;
+//! - `specs/Laws.antt`: steps and runs; `specs/LeavingOut.antt`: logs that a view leaves out;
 //! - `specs/Messages.antt`: each message is one thing, and one thing becomes of it;
 //! - `specs/FullTurns.antt`: turns that exist;
 //! - `specs/FullRuns.antt`: the run in which memory never runs out;
 //! - `specs/Frames.antt`: what may change in a world while the invariant stays;
 //! - `specs/Effects.antt`: what a command leaves of a world, and `specs/Moves.antt`: a session's step;
-//! - `specs/Calm.antt`: rings that change little.
+//! - `specs/NoKeys.antt`: which blocks may be public keys.
 //!
 //! For the layers above: say that a world satisfies the invariant, and that no two different blocks have one
 //! name. Then a finished refresh has brought what its heads name, and its turn may be held to the definition.
@@ -50,7 +50,8 @@
 //! - `proofs/OneAsked.antt`: a message asks one thing;
 //! - `proofs/AnsweredTurns.antt` and `proofs/RefusedTurns.antt`: turns keep the invariant;
 //! - `proofs/SnapBounds.antt` and `proofs/SnapSpelled.antt`: what a closed set stands for, and what an agent
-//!   holds, has a spelling as a snapshot.
+//!   holds, has a spelling as a snapshot. `proofs/SpelledPosts.antt`: what would be saved of it has one or has
+//!   none, and it is known which. `proofs/SnapCounts.antt`: it has fewer posts than a word counts.
 //!
 //! That something can be done (progress):
 //! - `proofs/ExistingPlans.antt`: whom a get or a put asks;
@@ -59,12 +60,6 @@
 //! - `proofs/ExistingAsks.antt`: look-ups and whole puts;
 //! - `proofs/ExistingRounds.antt` and `proofs/ExistingRepairs.antt`: rounds;
 //! - `proofs/ExistingMessages.antt`: what becomes of a message.
-//!
-//! That a ring stays:
-//! - `proofs/CalmNodes.antt` and `CalmPuts.antt`: what its nodes hold, and what puts come to in it;
-//! - `proofs/CalmStates.antt` and those up to `CalmCommands.antt`: each step and each line keeps that;
-//! - `proofs/CalmRuns.antt` and `CalmHeld.antt`: calm runs in which it stays;
-//! - `proofs/CalmRounds.antt`: stops, joins and rounds.
 //!
 //! That memory may be there, for sessions:
 //! - `proofs/FullLoads.antt`, `proofs/FullFetches.antt` and `proofs/FullRefreshes.antt`: a refresh wants
@@ -77,7 +72,7 @@
 //!
 //! That memory may be there, for lines and scripts:
 //! - `proofs/LastingLines.antt`: what each agent and its keeper keep through turns, saves and the like, they
-//!   keep through each line that makes no snapshot;
+//!   keep through each line, or through each that makes no snapshot;
 //! - `proofs/Rooms.antt`: so it is that an agent publishes few posts;
 //! - `proofs/PieceBytes.antt`: what a line sends is bytes; `proofs/GivenBytes.antt`: so is what a turn's
 //!   reply gives; `proofs/BytesSteps.antt` and `proofs/BytesLines.antt`: steps and lines leave that so;
@@ -98,12 +93,13 @@
 
 ghost use Rattle.world_laws.specs.Messages.{EachMessageBecomesOne, EachMessageIsOne};
 ghost use Rattle.world_laws.specs.Effects.{LinesHaveEffects, LinesShowTexts};
-ghost use Rattle.world_laws.specs.Calm.{AreAny, RingStays};
 ghost use Rattle.world_laws.specs.Frames.{DamageLinesKeep, JoinLinesKeep, KeeperLinesKeep, LogLinesKeep, MildChangesKeep, MoreBlocksKeep, RestartLinesKeep, RingLinesKeep, RoundLinesKeep, StillLinesKeep, StopLinesKeep, UseLinesKeep, ViewLinesKeep};
-ghost use Rattle.world_laws.specs.FullRuns.{BytesCome, EmptyHasBytes, EmptyPublishesFew, FewPostsCome, FullLines, FullScripts, FullStarts, MemoryIsDecided, MessagesAreBytes, ThereIsRoom};
+ghost use Rattle.world_laws.specs.FullRuns.{BytesCome, EmptyHasBytes, EmptyPublishesFew, FewPostsCome, FullLines, FullScripts, FullStarts, MemoryIsDecided, MessagesAreBytes, SnapshotsAreFew, ThereIsRoom};
 ghost use Rattle.world_laws.specs.FullTurns.{SessionsEndOrClash, SessionsGoToTheirEnds, TurnsExist};
 ghost use Rattle.world_laws.specs.Kinds.{LineHasOneKind};
-ghost use Rattle.world_laws.specs.Laws.{AlikeTurnsAnswerAlike, AllStepsKeep, AnsweredTurnsKeep, CallLinesKeep, CallsBegin, ClashIsDecided, DoneRefreshesStep, EachLineDoesSomething, EachReplyIsOnReplay, EachScriptHasARun, EachSessionEnds, EmptyKeeps, FewerStayApart, FreshCandidatesAreByHeads, FreshStandingsDontMislead, FreshTurnsAreAnswered, FullRunsAreOne, GetsBringKeep, GetsGoOnKeep, HeadlineHolds, HeadsAreSavedFirst, HeldIsSpelled, KeptOnce, KnownIsOne, LackingKeeps, LackingStepsKeep, LeafSignsOnce, LinesKeep, ManyStepsAreOne, ManyStepsKeep, MetGrows, NoSnapshotComes, OneTruth, OpenLineKeeps, OtherLogsDontCount, OthersHaveNoTurn, PublishingIsOne, PublishingKeeps, PutsKeep, ReceivingKeeps, RefreshBrings, RefreshEndsInTurn, RefreshMayTurn, RefreshesEnd, RefreshesRunOut, RefusedTurnsKeep, SecondTurnIsAnswered, SessionsEndOnce, SessionsGoFully, SessionsStepOnce, SettlingKeeps, SnapLinesKeep, StepsAreOne, StepsKeep, StillLinesChangeNothing, TakingKeeps, TurnsAreSaved, UpperLeavesSignOnce, VainAsksKeep, WholePublishingKeeps};
+ghost use Rattle.world_laws.specs.LeavingOut.{OtherLogsChangeNoTurn};
+ghost use Rattle.world_laws.specs.NoKeys.{LogsHaveTags, SnapshotsHaveTags, TaggedAreNoKeys};
+ghost use Rattle.world_laws.specs.Laws.{AlikeTurnsAnswerAlike, AllStepsKeep, AnsweredTurnsKeep, CallLinesKeep, CallsBegin, ClashIsDecided, DoneRefreshesStep, EachLineDoesSomething, EachReplyIsOnReplay, EachScriptHasARun, EachSessionEnds, EmptyKeeps, FewerStayApart, FreshCandidatesAreByHeads, FreshStandingsDontMislead, FreshTurnsAreAnswered, FrontIsOfOne, FullRunsAreOne, GetsBringKeep, GetsGoOnKeep, HeadlineHolds, HeadsAreSavedFirst, HeldIsSpelled, KeptOnce, KnownIsOne, LackingKeeps, LackingStepsKeep, LeafSignsOnce, LinesKeep, ManyStepsAreOne, ManyStepsKeep, MetGrows, NoSnapshotComes, OneTruth, OpenLineKeeps, OtherLogsDontCount, OthersHaveNoTurn, PublishingIsOne, PublishingKeeps, PutsKeep, ReceivingKeeps, RefreshBrings, RefreshEndsInTurn, RefreshMayTurn, RefreshesEnd, RefreshesRunOut, RefusedTurnsKeep, SecondTurnIsAnswered, SessionsEndOnce, SessionsGoFully, SessionsStepOnce, SettlingKeeps, SnapLinesKeep, SnapshotsKeep, StepsAreOne, StepsKeep, StillLinesChangeNothing, TakingKeeps, TurnsAreSaved, UpperLeavesSignOnce, VainAsksKeep, WholePublishingKeeps};
 
 /// Law: of any blocks, either no two different ones have one name, or two of them clash.
 pub fn clashes_are_decided()
@@ -176,6 +172,22 @@ pub fn other_logs_dont_count()
 /// Law: two turns of equal views, agents, sets, calls and moments give equal replies.
 pub fn alike_turns_answer_alike()
     ensures { AlikeTurnsAnswerAlike }
+{}
+
+/// Law (noninterference): two turns of equal views, agents, known sets, calls and moments are one turn, where
+/// they agree on the heads and records of their view's members. Both take the same set, leave the same set and
+/// give the same reply, whatever other logs and blocks there are.
+pub fn other_logs_change_no_turn()
+    ensures { OtherLogsChangeNoTurn }
+{}
+
+/// Laws: each block of a record, a head or a view begins with the letters IV, and so does each of a snapshot but
+/// the pieces of its files. A public key begins with a zero byte. So where all blocks that were met begin so,
+/// none is the public key of a log, which is a premise of calm scripts.
+pub fn only_pieces_may_be_keys()
+    ensures logs { LogsHaveTags }
+    ensures snapshots { SnapshotsHaveTags }
+    ensures keys { TaggedAreNoKeys }
 {}
 
 /// Law: the bytes that are saved of an agent determine what was saved.
@@ -260,6 +272,12 @@ pub fn floors_name_one_set()
     ensures { KnownIsOne }
 {}
 
+/// Law: a front names one closed part of a closed set. So the basis of a refresh stands for one part of what
+/// was known.
+pub fn fronts_name_one_part()
+    ensures { FrontIsOfOne }
+{}
+
 /// Law: say that each log has a key of its own, each judged head that was met was made by its log's agent,
 /// and there is no hash collision. Then what an agent knows of a log is the beginning of the one chain that
 /// the log's keeper names.
@@ -303,9 +321,8 @@ pub fn other_lines_have_no_turn()
 {}
 
 /// Laws (the step is total): in a world that some ghost state fits, each open session can be brought to its
-/// end, and each line has an outcome. The outcome is one and the same whichever ghost state fits. For a line
-/// that makes a snapshot the premise is that what is to be published can be saved. So each script that makes
-/// no snapshot has a run.
+/// end, and each line has an outcome. The outcome is one and the same whichever ghost state fits. So each
+/// script has a run.
 pub fn each_line_does_something()
     ensures sessions { EachSessionEnds }
     ensures lines { EachLineDoesSomething }
@@ -324,9 +341,11 @@ pub fn held_is_spelled()
     ensures { HeldIsSpelled }
 {}
 
-/// Law: the line that makes a snapshot preserves the invariant.
+/// Laws: the line that makes a snapshot preserves the invariant, and so does a snapshot that was made and whose
+/// blocks aren't published yet.
 pub fn snap_lines_keep()
-    ensures { SnapLinesKeep }
+    ensures lines { SnapLinesKeep }
+    ensures snapshots { SnapshotsKeep }
 {}
 
 /// Laws: each step preserves the invariant of its world and session, and a turn in it is on the replay. Each
@@ -337,12 +356,6 @@ pub fn headline_holds()
     ensures headline { HeadlineHolds }
     ensures lines { LinesKeep }
     ensures runs { EachReplyIsOnReplay }
-{}
-
-/// Law: in a calm script the ring is settled after the line that makes it and after each round. It is covered
-/// at each later line, except between a join and its round.
-pub fn rings_stay()
-    ensures { RingStays AreAny }
 {}
 
 /// Laws (determinism): if memory doesn't run out and there is no hash collision, a step of a session in
@@ -390,12 +403,18 @@ pub fn turns_exist()
     ensures ends { SessionsEndOrClash }
 {}
 
-/// Laws: while no snapshot is made an agent has no more to publish than one record of each number and a head.
-/// So it has room for more.
+/// Laws: an agent has no more to publish than one record of each number, a head, and blocks of snapshots, of
+/// which no two are equal. So it has room for more, unless more was met than a line may go on with.
 pub fn there_is_room()
     ensures empty { EmptyPublishesFew }
     ensures lines { FewPostsCome }
     ensures room { ThereIsRoom }
+{}
+
+/// Law: without a hash collision, and where no more was met than a line may go on with, what would be saved of a
+/// snapshot has fewer posts than a word counts.
+pub fn snapshots_are_few()
+    ensures { SnapshotsAreFew }
 {}
 
 /// Laws, without a hash collision among the blocks met: what replies gave to later lines, and what open
@@ -406,12 +425,12 @@ pub fn replies_are_bytes()
     ensures lines { BytesCome }
 {}
 
-/// Laws: say that a world satisfies the invariant, its agents have room and its replies are bytes. Then a
-/// line has an outcome in which memory didn't run out, or one that meets blocks among which names clash. For
-/// a line that makes a snapshot the premise is that what is to be published can be saved.
+/// Laws: say that a world satisfies the invariant, its agents have room unless too much was met, and its replies
+/// are bytes. Then a line has an outcome in which memory didn't run out, or one that meets blocks among which
+/// names clash.
 ///
-/// So each script that makes no snapshot has exactly one run of this kind. Memory never runs out in it and no
-/// names clash; or that is so up to a line that meets blocks among which names clash.
+/// So each script has exactly one run of this kind. Memory never runs out in it and no names clash; or that is
+/// so up to a line that meets blocks among which names clash.
 pub fn scripts_run_fully()
     ensures lines { FullLines }
     ensures scripts { FullScripts }

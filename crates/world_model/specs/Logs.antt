@@ -1,6 +1,6 @@
 -- Lines of participants: a log begins, a view is made, a participant enters one, starts again, or makes a snapshot.
 use Rattle.std.specs.Prelude.{◌≡◌, ℕ, ◌+◌, nat_lt, Bool, true, false, ◌&&◌, ◌||◌, not, List, [], ◌∷◌, ◌++◌, codes, fold, filter, map}
-use Rattle.std.specs.Prelude.{length, IfSome, Option, Some, None, is_some, if◌then◌else◌, Result, Ok}
+use Rattle.std.specs.Prelude.{length, IfSome, IsSomeAnd, Option, Some, None, is_some, if◌then◌else◌, Result, Ok}
 use Rattle.std.specs.List.{list_any}
 use Rattle.std.specs.FinMap.Entries.{by_order}
 use Rattle.std.specs.Ordering.{eq_by_cmp}
@@ -247,7 +247,10 @@ having_tried p view = record p { agent = (snapping_in p view).0.0; keeper = aske
 abbrev pub having_snapped : Participant → View → Participant
 having_snapped p view = record (having_tried p view) { printed = Some (root_name view (basis_of p.agent.holding)) }
 
--- A snapshot is made of what the participant holds, saved and published.
+-- A snapshot is made of what the participant holds, saved and published. Where what would be saved can't be spelled, as with 2^32 posts and
+-- more, its bytes would be read again as something else, or not at all. So there the keeper isn't asked, nothing changes, and the line
+-- shows what it shows of a save that fails. These cases exclude each other: where the keeper is asked, the posts are spelled or they
+-- aren't.
 pub data SnapLine (judged : Key → List ℕ → Option Judged) (w : Played) : Option Participant → Outcome Played → Type 0 where
   nobody : SnapLine judged w None Refuses
   outside : (p : Participant) → p.agent.view ≡ None → SnapLine judged w (Some p) Refuses
@@ -259,3 +262,6 @@ pub data SnapLine (judged : Key → List ℕ → Option Judged) (w : Played) : O
       → ArePostsSpelled q.agent.pending
       → Publishes judged r (record (with_participant w.0 q) { met = met_by w.0.met q.agent.pending }, w.1) q next
       → SnapLine judged w (Some p) (Goes next (snap_text p.name (root_name view (basis_of p.agent.holding))))
+  cannot : (p : Participant) (view : View) → p.agent.view ≡ Some view
+      → IsSomeAnd (snapping_in p view).1 (λ k. ArePostsSpelled k.pending → ⊥)
+      → SnapLine judged w (Some p) (Goes w (failed_text (codes "snap") p.name))

@@ -1,0 +1,61 @@
+-- What a calm script may rely on of its ring and of its blocks. The ring stays, what was acknowledged is stored and can be read, and a
+-- round moves each block to its owners (CFS, SOSP 2001, section 5.1).
+use Rattle.std.specs.Prelude.{◌≡◌, ◌↔◌, ◌≤◌, ℕ, true, false, List, ◌++◌, Contains, is_some, Result, Ok}
+use Rattle.ivy_base.specs.declared.key.Key.{Key}
+use Rattle.ring_model.specs.Blocks.{IsAtLeast}
+use Rattle.ring_model.specs.Circle.{number}
+use Rattle.ring_model.specs.Members.{IsAmong, owners}
+use Rattle.dht_ids.specs.Peers.{place}
+use Rattle.dht_ids.specs.declared.ask.Ask.TheVariants as ask
+use Rattle.dht_ids.specs.declared.judge.Judged.{Judged}
+use Rattle.dht_ids.specs.declared.peer.Peer.{Peer}
+use Rattle.dht_ids.specs.declared.post.Post.{Post}
+use Rattle.dhash_model.specs.GetBlock.{IsGetOfBlock}
+use Rattle.dhash_model.specs.GetHead.{IsGetOfHead}
+use Rattle.dhash_model.specs.Course.{Told, told_all}
+use Rattle.dhash_model.specs.declared.miss.Miss.{Miss}
+use Rattle.dhash_model.specs.Signed.{hss_judged}
+use Rattle.agent_model.specs.Agent.{is_head}
+use Rattle.world_model.specs.Fates.{Fates, asking}
+use Rattle.world_model.specs.Logs.{Played}
+use Rattle.world_model.specs.Ring.{live_in_order}
+use Rattle.world_model.specs.RingOf.{lives_in}
+use Rattle.world_model.specs.World.{World, entries}
+use Rattle.round_laws.specs.RingOf.{IsCoveredIn, IsSettledIn}
+use Rattle.calm_laws.specs.Calm.{IsCalmAt, Stopped, post_rank, rank_in}
+
+-- If the world was reached calmly, its ring is covered, except between a join and its round: look-ups find the owners.
+-- If no node stopped since the last round, or since the ring was made, it is settled.
+abbrev pub KeepsItsRing : Played → Type 0
+KeepsItsRing w = (r count : ℕ) (lines : List (List ℕ)) → IsCalmAt r w (Stopped count) lines
+    → IsCoveredIn w.0 r × (count ≡ 0 → IsSettledIn w.0 r)
+
+-- An owner of its key holds the post, or a newer head.
+abbrev pub IsHeld : ℕ → World → Post → Type 0
+IsHeld r w p = (m : Peer) × IsAmong m (owners place r (live_in_order w) (number p.key)) × IsAtLeast (post_rank p) (rank_in w p.key m)
+
+-- Each get of its block returns it.
+abbrev pub GetsGiveBlock : ℕ → World → Post → Type 0
+GetsGiveBlock r w p = (next : World) (looks asks : Told) (came : Result (List ℕ) Miss)
+    → Fates hss_judged w (asking (ask.Route p.key) looks ++ asking (ask.Get p.key) asks) next
+    → IsGetOfBlock p.key r (entries w) (told_all (ask.Route p.key) looks ++ told_all (ask.Get p.key) asks) came → came ≡ Ok p.bytes
+
+-- Each get of its log's head returns one of its number or a greater one.
+abbrev pub GetsGiveHead : ℕ → World → Post → Type 0
+GetsGiveHead r w p = (next : World) (looks asks : Told) (came : Result (List Judged) Miss)
+    → Fates hss_judged w (asking (ask.Route p.key) looks ++ asking (ask.Get p.key) asks) next
+    → IsGetOfHead (hss_judged p.key) p.key r (entries w) (told_all (ask.Route p.key) looks ++ told_all (ask.Get p.key) asks) came
+    → (heads : List Judged) × (j : Judged) × (came ≡ Ok heads) × Contains heads j × (post_rank p ≤ j.seq)
+
+-- The post is stored and can be read.
+pub record IsReadable (r : ℕ) (w : World) (p : Post) : Type 0 where
+  pub held : IsHeld r w p
+  pub block : is_head p.kind ≡ false → GetsGiveBlock r w p
+  pub head : is_head p.kind ≡ true → GetsGiveHead r w p
+
+-- A live node holds something under a key exactly if it is an owner of the key and a live node held something under it before.
+abbrev pub MovesBlocks : ℕ → World → World → Type 0
+MovesBlocks r w next = (m : Peer) (key : Key) → lives_in next m ≡ true
+    → (is_some (rank_in next key m) ≡ true) ↔
+    (IsAmong m (owners place r (live_in_order w) (number key)) × (p : Peer) × (lives_in w p ≡ true)
+    × (is_some (rank_in w key p) ≡ true))

@@ -1,5 +1,0 @@
-use Rattle.completeness_laws.proofs.CalmLines.{lines_are_served}
-use Rattle.completeness_laws.proofs.lines_are_served_where_calm.Goals as goal
-
-pub returns : goal.returns
-returns c = lines_are_served

@@ -1,4 +1,0 @@
-pub mod Put
-pub mod Completeness
-pub mod Takes
-pub mod CalmLines

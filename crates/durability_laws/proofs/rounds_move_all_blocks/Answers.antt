@@ -1,5 +1,0 @@
-use Rattle.durability_laws.proofs.Durable.{round_moves_blocks}
-use Rattle.durability_laws.proofs.rounds_move_all_blocks.Goals as goal
-
-pub returns : goal.returns
-returns c = round_moves_blocks
