@@ -44,7 +44,7 @@ def too_long(port):
 
 
 def longest(port):
-    """As many bytes as a message may have, which are read to the end: a call with that much behind it is refused by a reply (GARBAGE_ARGS)."""
+    """As many bytes as a message may have, which are read to the end: a call with that much after it is refused by a reply (GARBAGE_ARGS)."""
     link = Link(port)
     message = call(9, NFS, NULL)
     link.send(fragment(message + bytes(MOST_MESSAGE - len(message))))

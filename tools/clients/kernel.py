@@ -28,12 +28,12 @@ def made(room):
 
 
 def image(folder, work, commands, ports):
-    """The guest's files: those that are always the same, and behind them what this run is to do."""
+    """The guest's files: those that are always the same, and after them what this run is to do."""
     os.mkdir(f"{work}/more")
     shutil.copy(commands, f"{work}/more/commands")
     with open(f"{work}/more/settings", "w") as file:
         file.write("".join(f"{name}={port}\n" for name, port in ports.items()) + f"LIMIT={COMMAND_SECONDS}\n")
-    # (the scripts are taken anew, so that an edit of them counts)
+    # (the scripts are taken again, so that an edit of them counts)
     for it in ("init", "mounting"):
         shutil.copy(f"{HERE}/guest/{it}", f"{work}/more/{it}")
     os.chmod(f"{work}/more/init", 0o755)

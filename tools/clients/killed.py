@@ -1,7 +1,7 @@
 """killed: the server is killed at a random moment under load, again and again, and the keeper's file is looked at each time.
 
 The file NAME holds how many signatures were made (`IVK1`, then the signer: identifier, seed, sets, the number). A head leaves the process
-only behind a save that counts it. So each time:
+only after a save that counts it. So each time:
 - the number is at least one (the log's opening) and one for each change that a client was answered with success;
 - it is at most one and one for each change that was sent;
 - of all heads in all versions of the file that were seen, no leaf signs two;

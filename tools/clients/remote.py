@@ -68,7 +68,7 @@ class Link:
                 return message
 
     def ask(self, program, procedure, arguments=b""):
-        """The results of a call, behind the head of an accepted reply."""
+        """The results of a call, after the head of an accepted reply."""
         self.xid += 1
         self.send(fragment(call(self.xid, program, procedure, arguments)))
         return results(self.xid, self.reply())
