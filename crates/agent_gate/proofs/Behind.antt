@@ -1,4 +1,4 @@
--- What an agent knows and holds behind a turn that was answered by the definitions.
+-- What an agent knows and holds after a turn that was answered by the definitions.
 use Rattle.std.proofs.Common.{◌≡◌, ◌≢◌, ◌⊎◌, inl, inr, ℕ, ◌+◌, ◌-◌, ◌≤◌, Bool, true, false, cond, ◌||◌, ◌&&◌, not, List, [], ◌∷◌, ◌++◌, Option, Some, None, refl, sym, ap, ◌∙◌, subst, arith, Contains}
 use Rattle.std.proofs.lemmas.List.{same_from_push}
 use Rattle.std.proofs.lemmas.List.Elements.{Contains-append_left}
@@ -17,7 +17,7 @@ use Rattle.log_model.proofs.Chains.{last_after}
 use Rattle.log_model.proofs.Weights.{sorted_front}
 use Rattle.turn_model.specs.Basis.{Holding, HoldsAll, Knows}
 use Rattle.turn_model.specs.Known.{EndsAt, IsKnown}
-use Rattle.turn_model.specs.Turn.{Asked, Candidate, Inputs, IsAtHand, Turned, linked, own_seq, tries_save, turn_on}
+use Rattle.turn_model.specs.Turn.{Asked, Candidate, Inputs, IsAvailable, Turned, linked, own_seq, tries_save, turn_on}
 use Rattle.turn_laws.proofs.Fronts.{front_is_joined}
 use Rattle.turn_laws.proofs.Starts.{ends_with, own_stamp}
 use Rattle.turn_laws.proofs.Turns.{turn_set_is_closed}
@@ -51,7 +51,7 @@ module _ (view : View) (known : List Record) (own : PubKey) (well : IsView view)
       let at : stamp_at (front known) (head_key_of own) ≡ Some (own_entry its.0).1 = own_stamp view known own its.0 well closed member its.1 in
       ap (λ (x : Stamp). x.seq) (sym ends.3) ∙ ap (λ (r : Record). r.seq) same ∙ sym (ap reach at)
 
--- ---- behind the turn
+-- ---- after the turn
 
 -- the agent knows and holds that set, and its leaves and its fault go by whether it tried to save and whether that failed
 pub record StandsBehind {S : Type 0} (signs : Signing S) (view : View) (a after : Agent S) (set : List Record) (tries fails : Bool) : Type 0 where
@@ -131,7 +131,7 @@ module _ {S : Type 0} (signs : Signing S) (on : SignsOn signs) (view : View) (we
         omega (arith, begun, first, same)
 
   -- the turn by the definitions, from these candidates
-  module _ (fails : Bool) (candidates : List Candidate) (taken : List Record) (turned : Turned) (largest : IsClosedPart view (IsAtHand known candidates) taken)
+  module _ (fails : Bool) (candidates : List Candidate) (taken : List Record) (turned : Turned) (largest : IsClosedPart view (IsAvailable known candidates) taken)
       (by_set : turned ≡ turn_on (inputs signs a view fails) taken asked now) (h : Holding) (holds : HoldsAll view taken h) where
     abbrev tries : Bool
     tries = tries_save x taken asked now

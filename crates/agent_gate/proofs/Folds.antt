@@ -1,7 +1,7 @@
--- The turns that an agent took are a legal history, where names tell apart and each refresh is grounded.
+-- The turns that an agent took are a legal history, where no names collide and each refresh is grounded.
 use Rattle.std.proofs.Common.{◌≡◌, ℕ, ◌≤◌, Bool, List, [], ◌∷◌, ◌++◌, map, Option, Some, None, Ok, Err, refl, sym, ap, ◌∙◌, subst, append_assoc, inl, Contains}
 use Rattle.ivy_base.specs.declared.key.PubKey.{PubKey}
-use Rattle.ivy_base.specs.Naming.{NamesTellApart, head_key_of}
+use Rattle.ivy_base.specs.Naming.{IsCollisionFree, head_key_of}
 use Rattle.log_model.specs.Record.{Record}
 use Rattle.log_model.specs.Signing.{Signing}
 use Rattle.log_model.specs.Vector.{reach, stamp_at}
@@ -22,7 +22,7 @@ use Rattle.ivy_agent.specs.Answering.{IsCall}
 use Rattle.ivy_agent.specs.Holders.{Holder}
 use Rattle.ivy_agent.specs.Turns.{IsAnswered, dropping}
 use Rattle.agent_gate.specs.declared.request.TurnRequest.{TurnRequest}
-use Rattle.agent_gate.specs.Folding.{AreGrounded, Course, FoldsTo, HistoriesFold, HoldsFromFirst, HoldsWhatIsKnown, IsFolded, IsGrounded, IsStep, Point, StandsAt, grounds_at, point_behind, start_of}
+use Rattle.agent_gate.specs.Folding.{AreGrounded, Execution, FoldsTo, HistoriesFold, HoldsFromFirst, HoldsWhatIsKnown, IsFolded, IsGrounded, IsStep, Point, StandsAt, grounds_at, point_behind, start_of}
 use Rattle.agent_gate.specs.Folding.FoldsTo.{none, more}
 use Rattle.agent_gate.specs.Taking.{AgentEntry, AgentKind, Became, HasTaken, SignsOn, Taken, TakesEntry, TurnsInView}
 use Rattle.agent_gate.specs.Taking.Became.{opens, takes, refuses, settles}
@@ -65,7 +65,7 @@ module _ {K S : Type 0} (kind : AgentKind K S) where
 
   -- ---- a turn that was refused, and a settling
 
-  drops : (c : Course) (g : Point) (a : Holder K S) → StandsAt signs c g a → (b : Agent S) → b ≡ dropping a.agent → (keeper : K) → StandsAt signs c g (record { agent = b; keeper = keeper })
+  drops : (c : Execution) (g : Point) (a : Holder K S) → StandsAt signs c g a → (b : Agent S) → b ≡ dropping a.agent → (keeper : K) → StandsAt signs c g (record { agent = b; keeper = keeper })
   drops c g a stands b is keeper = subst (λ (x : Agent S). StandsAt signs c g (record { agent = x; keeper = keeper })) (sym is) (record {
     in_view = stands.in_view;
     own_is = stands.own_is;
@@ -75,7 +75,7 @@ module _ {K S : Type 0} (kind : AgentKind K S) where
     begun = stands.begun;
   })
 
-  same_agent : (c : Course) (g : Point) (a : Holder K S) → StandsAt signs c g a → (b : Agent S) → b ≡ a.agent → (keeper : K) → StandsAt signs c g (record { agent = b; keeper = keeper })
+  same_agent : (c : Execution) (g : Point) (a : Holder K S) → StandsAt signs c g a → (b : Agent S) → b ≡ a.agent → (keeper : K) → StandsAt signs c g (record { agent = b; keeper = keeper })
   same_agent c g a stands b is keeper = subst (λ (x : Agent S). StandsAt signs c g (record { agent = x; keeper = keeper })) (sym is) (record {
     in_view = stands.in_view;
     own_is = stands.own_is;
@@ -85,7 +85,7 @@ module _ {K S : Type 0} (kind : AgentKind K S) where
     begun = stands.begun;
   })
 
-  refused_stands : (c : Course) (g : Point) (before after : Holder K S) (asked : TurnRequest) (fault : TurnFault) → TurnsInView kind before asked (Err fault) after → StandsAt signs c g before → StandsAt signs c g after
+  refused_stands : (c : Execution) (g : Point) (before after : Holder K S) (asked : TurnRequest) (fault : TurnFault) → TurnsInView kind before asked (Err fault) after → StandsAt signs c g before → StandsAt signs c g after
   refused_stands c g before after asked (fault.Behind standing) is stands =
       same_agent c g before stands after.agent (was_behind signs _ _ _ _ after.agent _ is.turn.turns.turns refl) after.keeper
   refused_stands c g before after asked (fault.BelowTide standing) is stands =
@@ -94,8 +94,8 @@ module _ {K S : Type 0} (kind : AgentKind K S) where
 
   -- ---- a turn that was answered
 
-  -- the point behind it, and the agent there
-  record Steps (c : Course) (g : Point) (t : Taken) (after : Holder K S) : Type 0 where
+  -- the point after it, and the agent there
+  record Steps (c : Execution) (g : Point) (t : Taken) (after : Holder K S) : Type 0 where
     behind_it : Point
     step : IsStep c g t behind_it
     stands : StandsAt signs c behind_it after
@@ -105,16 +105,16 @@ module _ {K S : Type 0} (kind : AgentKind K S) where
   abbrev point_of : Holder K S → List Record → Point
   point_of a known = start_of signs a known
 
-  abbrev course_of : Course → PubKey → Course
-  course_of c own = record c { own = own }
+  abbrev execution_of : Execution → PubKey → Execution
+  execution_of c own = record c { own = own }
 
-  module _ (on : SignsOn signs) (c : Course) (apart : NamesTellApart c.met) (well : IsView c.view) where
+  module _ (on : SignsOn signs) (c : Execution) (apart : IsCollisionFree c.met) (well : IsView c.view) where
     -- by the agent's own key, leaves and fault
     module _ (before after : Holder K S) (e : AgentEntry) (known : List Record) (member : Contains c.view.members (own signs before.agent)) (in_view : before.agent.view ≡ Some c.view)
         (knows : Knows c.view before.agent.floor before.agent.holding known) (begun : 1 ≤ own_reach signs before.agent) (left : IsLeft signs before.agent after.agent)
-        (may : IsGrounded (course_of c (own signs before.agent)) (point_of before known) e) (is_call : IsCall (asked_of e.turn.0.asked) e.turn.0.now) where
+        (may : IsGrounded (execution_of c (own signs before.agent)) (point_of before known) e) (is_call : IsCall (asked_of e.turn.0.asked) e.turn.0.now) where
       step_here : (turn : IsAnswered signs kind.IsWhole kind.saves c.view (refresh_of e.turn.0.refresh) (asked_of e.turn.0.asked) e.turn.0.now before e.turn.1 after)
-          → Steps (course_of c (own signs before.agent)) (point_of before known) (record { entry = e; fails = turn.fails }) after
+          → Steps (execution_of c (own signs before.agent)) (point_of before known) (record { entry = e; fails = turn.fails }) after
       step_here turn =
           let turning : Turning S = record { agent = before.agent; view = c.view; now = e.turn.0.now; fails = turn.fails } in
           let its = answered signs (refresh_of e.turn.0.refresh) turning (asked_of e.turn.0.asked) _ after.agent turn.turns.saving turn.turns.turns turn.reply e.turn.1.applied refl in
@@ -150,11 +150,11 @@ module _ {K S : Type 0} (kind : AgentKind K S) where
       step_on : (g : Point) (before after : Holder K S) (t : Taken) → StandsAt signs c g before → TakesEntry kind before t after → IsGrounded c g t.entry → Steps c g t after
       step_on g before after t stands took may =
           let e : AgentEntry = t.entry in
-          let here : Course = course_of c (own signs before.agent) in
+          let here : Execution = execution_of c (own signs before.agent) in
           let point : Point = point_of before g.known in
           let left = took_left kind before e.turn.0 (Ok e.turn.1) after took.took in
           let its_own : Contains c.view.members (own signs before.agent) = subst (Contains c.view.members) (sym stands.own_is) member in
-          let its_may : IsGrounded here point e = subst (λ (o : PubKey). IsGrounded (course_of c o) point e) (sym stands.own_is) may in
+          let its_may : IsGrounded here point e = subst (λ (o : PubKey). IsGrounded (execution_of c o) point e) (sym stands.own_is) may in
           let P : View → Type 0 = λ v. (turn : IsAnswered signs kind.IsWhole kind.saves v (refresh_of e.turn.0.refresh) (asked_of e.turn.0.asked) e.turn.0.now before e.turn.1 after) (fails : Bool)
           → fails ≡ turn.fails → Steps here point (record { entry = e; fails = fails }) after in
           let at : P c.view = λ turn fails is. subst (λ (b : Bool). Steps here point (record { entry = e; fails = b }) after) (sym is)
@@ -162,7 +162,7 @@ module _ {K S : Type 0} (kind : AgentKind K S) where
           let view_is : c.view ≡ took.took.view = one_view c.view took.took.view before.agent.view stands.in_view took.took.in_view in
           let step : Steps here point t after = subst P view_is at took.took.turn t.fails took.saved in
           subst (λ (x : Point). Steps c x t after) (λ i. record { known = g.known; leaves = stands.leaves i; has_failed = stands.failed i })
-          (subst (λ (o : PubKey). Steps (course_of c o) point t after) stands.own_is step)
+          (subst (λ (o : PubKey). Steps (execution_of c o) point t after) stands.own_is step)
 
       -- ---- all of them
 
@@ -211,7 +211,7 @@ module _ {K S : Type 0} (kind : AgentKind K S) where
             }
 
   -- The law of histories, and what is held then.
-  folded_and_held : (c : Course) (opening value : Holder K S) (known : List Record) (history : List AgentEntry) → SignsOn signs → NamesTellApart c.met → IsView c.view → Contains c.view.members c.own
+  folded_and_held : (c : Execution) (opening value : Holder K S) (known : List Record) (history : List AgentEntry) → SignsOn signs → IsCollisionFree c.met → IsView c.view → Contains c.view.members c.own
       → StandsAt signs c (start_of signs opening known) opening → (has : HasTaken kind opening history value) → AreGrounded c (start_of signs opening known) has.taken
       → (folded : IsFolded signs c (start_of signs opening known) has.taken value)
       × (opening.agent.to_load ≡ None → opening.agent.holding.basis ≡ fresh_basis → HoldsFromFirst c folded.point opening value history)

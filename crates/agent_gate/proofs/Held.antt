@@ -21,7 +21,7 @@ use Rattle.log_fetch.specs.declared.turned.TurnFault.{TurnFault}
 use Rattle.log_fetch.specs.declared.turned.TurnFault.TheVariants as fault
 use Rattle.ivy_agent.specs.Holders.{Holder}
 use Rattle.agent_gate.specs.declared.request.TurnRequest.{TurnRequest}
-use Rattle.agent_gate.specs.Folding.{Course, HoldsFromFirst, Point}
+use Rattle.agent_gate.specs.Folding.{Execution, HoldsFromFirst, Point}
 use Rattle.agent_gate.specs.Taking.{AgentEntry, AgentKind, Became, Taken, TurnsInView}
 use Rattle.agent_gate.proofs.Histories.{entry_of, fresh_stays_fresh}
 use Rattle.agent_gate.proofs.Left.{goes_on_held}
@@ -84,7 +84,7 @@ module _ {K S : Type 0} (kind : AgentKind K S) (opening : Holder K S) (taken : L
 
 -- ---- from the first entry on
 
-module _ {K S : Type 0} (c : Course) (g : Point) (opening : Holder K S) where
+module _ {K S : Type 0} (c : Execution) (g : Point) (opening : Holder K S) where
   pub holds_then : (value : Holder K S) (taken : List Taken) (t : Taken) → HoldsAll c.view g.known value.agent.holding
       → HoldsFromFirst c g opening value (map entry_of (taken ++ t ∷ []))
   holds_then value [] t all = all

@@ -2,7 +2,7 @@
 use Rattle.std.specs.Prelude.{◌≡◌, ◌≤◌, ℕ, ◌-◌, Bool, ◌||◌, ◌&&◌, not, List, [], ◌∷◌, ◌++◌, Contains, None, Some, if◌then◌else◌}
 use Rattle.ivy_base.specs.declared.key.Key.{Key}
 use Rattle.ivy_base.specs.declared.key.PubKey.{PubKey}
-use Rattle.ivy_base.specs.Naming.{NamesTellApart}
+use Rattle.ivy_base.specs.Naming.{IsCollisionFree}
 use Rattle.log_model.specs.Rank.{front}
 use Rattle.log_model.specs.Record.{Record}
 use Rattle.log_model.specs.Signing.{Signing}
@@ -31,17 +31,17 @@ pub record Ground : Type 0 where
   pub knew : List Record
 
 -- What a fold goes by: the blocks met, the view, the own key, and the ground of each entry.
-pub record Course : Type 0 where
+pub record Execution : Type 0 where
   pub met : List (List ℕ)
   pub view : View
   pub own : PubKey
   pub ground : AgentEntry → Ground
 
 -- what a turn at that point goes by, where the keeper has failed or not
-abbrev pub inputs_at : Course → Point → Bool → Inputs
+abbrev pub inputs_at : Execution → Point → Bool → Inputs
 inputs_at c g has_failed = record { view = c.view; own = c.own; leaves = g.leaves; has_failed = has_failed }
 
--- the point behind a turn that knows this set then: where it tried to save a signature is used, or the save failed
+-- the point after a turn that knows this set then: where it tried to save a signature is used, or the save failed
 abbrev pub point_behind : Point → List Record → Bool → Bool → Point
 point_behind g set tries fails = record {
   known = set;
@@ -49,16 +49,16 @@ point_behind g set tries fails = record {
   has_failed = g.has_failed || (tries && fails);
 }
 
--- what the candidates of the entry's turn are told by
-abbrev pub grounds_at : Course → AgentEntry → Grounds
+-- what the candidates of the entry's turn are determined by
+abbrev pub grounds_at : Execution → AgentEntry → Grounds
 grounds_at c e = record { heads = (c.ground e).heads; met = c.met; standing = (c.ground e).standing; knew = (c.ground e).knew }
 
 -- the candidates of the entry's ground
-abbrev pub AreCandidatesAt : Course → AgentEntry → List Candidate → Type 0
+abbrev pub AreCandidatesAt : Execution → AgentEntry → List Candidate → Type 0
 AreCandidatesAt c e candidates = AreCandidatesOf (grounds_at c e) c.view (refresh_of e.turn.0.refresh).started candidates
 
--- One entry's turn by the definitions, from the candidates of its ground: its reply and its front, and the point behind it.
-pub record IsStep (c : Course) (g : Point) (t : Taken) (h : Point) : Type 0 where
+-- One entry's turn by the definitions, from the candidates of its ground: its reply and its front, and the point after it.
+pub record IsStep (c : Execution) (g : Point) (t : Taken) (h : Point) : Type 0 where
   pub candidates : List Candidate
   pub of_heads : AreCandidatesAt c t.entry candidates
   pub turned : Turned
@@ -69,16 +69,16 @@ pub record IsStep (c : Course) (g : Point) (t : Taken) (h : Point) : Type 0 wher
       (tries_save (inputs_at c g g.has_failed) turn.taken (asked_of t.entry.turn.0.asked) t.entry.turn.0.now) t.fails
 
 -- the fold of some turns from a point
-pub data FoldsTo (c : Course) (start : Point) : List Taken → Point → Type 0 where
+pub data FoldsTo (c : Execution) (start : Point) : List Taken → Point → Type 0 where
   none : FoldsTo c start [] start
   more : {taken : List Taken} {g h : Point} (t : Taken) → FoldsTo c start taken g → IsStep c g t h → FoldsTo c start (taken ++ t ∷ []) h
 
 -- What the entry's turn was brought is tied to its ground, for an agent that knows what stands at the point.
-abbrev pub IsGrounded : Course → Point → AgentEntry → Type 0
+abbrev pub IsGrounded : Execution → Point → AgentEntry → Type 0
 IsGrounded c g e = MayTurn (grounds_at c e) c.view c.own g.known (refresh_of e.turn.0.refresh)
 
 -- So it is of each entry at its point of the fold.
-abbrev pub AreGrounded : Course → Point → List Taken → Type 0
+abbrev pub AreGrounded : Execution → Point → List Taken → Type 0
 AreGrounded c start taken = (before rest : List Taken) (t : Taken) (g : Point) → taken ≡ before ++ t ∷ rest
     → FoldsTo c start before g → IsGrounded c g t.entry
 
@@ -88,7 +88,7 @@ module _ {K S : Type 0} (signs : Signing S) where
   start_of opening known = record { known = known; leaves = signs.remaining opening.agent.signer; has_failed = opening.agent.has_failed }
 
   -- An agent of that view and key, whose log is begun, knows and holds what stands at the point.
-  pub record StandsAt (c : Course) (g : Point) (value : Holder K S) : Type 0 where
+  pub record StandsAt (c : Execution) (g : Point) (value : Holder K S) : Type 0 where
     pub in_view : value.agent.view ≡ Some c.view
     pub own_is : own signs value.agent ≡ c.own
     pub knows : Knows c.view value.agent.floor value.agent.holding g.known
@@ -97,24 +97,25 @@ module _ {K S : Type 0} (signs : Signing S) where
     pub begun : 1 ≤ own_reach signs value.agent
 
 -- The agent after some turns stands where their fold ends, and its own log goes as far as what is known.
-pub record IsFolded {K S : Type 0} (signs : Signing S) (c : Course) (start : Point) (taken : List Taken) (value : Holder K S) : Type 0 where
+pub record IsFolded {K S : Type 0} (signs : Signing S) (c : Execution) (start : Point) (taken : List Taken)
+    (value : Holder K S) : Type 0 where
   pub point : Point
   pub folds : FoldsTo c start taken point
   pub stands : StandsAt signs c point value
   pub number : own_reach signs value.agent ≡ own_seq c.own point.known
 
 -- Until the first entry the agent holds what the opening agent held, and from then on all that is known at the point.
-abbrev pub HoldsFromFirst : {K S : Type 0} → Course → Point → Holder K S → Holder K S → List AgentEntry → Type 0
+abbrev pub HoldsFromFirst : {K S : Type 0} → Execution → Point → Holder K S → Holder K S → List AgentEntry → Type 0
 HoldsFromFirst c g opening value [] = value.agent.holding ≡ opening.agent.holding
 HoldsFromFirst c g opening value (e ∷ history) = HoldsAll c.view g.known value.agent.holding
 
 -- ---- laws
 
 module _ {K S : Type 0} (kind : AgentKind K S) where
-  -- Where names tell apart what was met, and each refresh is grounded, the turns that were taken are a legal history.
+  -- Where no names of what was met collide, and each refresh is grounded, the turns that were taken are a legal history.
   abbrev pub HistoriesFold : Type 0
-  HistoriesFold = (c : Course) (opening value : Holder K S) (known : List Record) (history : List AgentEntry) → SignsOn kind.signs
-      → NamesTellApart c.met → IsView c.view → Contains c.view.members c.own
+  HistoriesFold = (c : Execution) (opening value : Holder K S) (known : List Record) (history : List AgentEntry) → SignsOn kind.signs
+      → IsCollisionFree c.met → IsView c.view → Contains c.view.members c.own
       → StandsAt kind.signs c (start_of kind.signs opening known) opening
       → (has : HasTaken kind opening history value) → AreGrounded c (start_of kind.signs opening known) has.taken
       → IsFolded kind.signs c (start_of kind.signs opening known) has.taken value
@@ -127,8 +128,8 @@ module _ {K S : Type 0} (kind : AgentKind K S) where
 
   -- Where a history is legal and its first basis was fresh, with no snapshot to load, all that is known is held from the first entry on.
   abbrev pub HoldsWhatIsKnown : Type 0
-  HoldsWhatIsKnown = (c : Course) (opening value : Holder K S) (known : List Record) (history : List AgentEntry) → SignsOn kind.signs
-      → NamesTellApart c.met → IsView c.view → Contains c.view.members c.own
+  HoldsWhatIsKnown = (c : Execution) (opening value : Holder K S) (known : List Record) (history : List AgentEntry) → SignsOn kind.signs
+      → IsCollisionFree c.met → IsView c.view → Contains c.view.members c.own
       → StandsAt kind.signs c (start_of kind.signs opening known) opening
       → opening.agent.to_load ≡ None → opening.agent.holding.basis ≡ fresh_basis
       → (has : HasTaken kind opening history value) → AreGrounded c (start_of kind.signs opening known) has.taken

@@ -56,7 +56,7 @@ pub struct Unclosed<K: Keeper + Drop, S: Signs + Drop> {
 }
 
 impl<K: Keeper + Drop, S: Signs + Drop> Gate<K, S> {
-    /// A gate over an agent that has entered a view, and the first pass, which has all parts. The error is want of memory.
+    /// A gate over an agent that has entered a view, and the first pass, which has all parts. The error is: out of memory.
     pub fn make(alloc: Global, agent: Agent<K, S>) -> Result<(Gate<K, S>, Pass<K, S>), Memory>
         requires { IsSomeAnd agent.agent.view (λ view. Unit {0}) }
         ensures pass { IfOk result (λ made. IsPassOf made.0 made.1 × (made.0.opening ≡ agent)) }
@@ -100,7 +100,7 @@ impl<K: Keeper + Drop, S: Signs + Drop> Gate<K, S> {
     }
 
     /// Waits for the agent, and gives its standing. No entry is left; the pass has then seen the whole history as it came in.
-    /// The error is want of memory.
+    /// The error is: out of memory.
     pub fn standing<R: Wait>(
         &self,
         rt: &R,

@@ -20,8 +20,8 @@ pub fn fresh<K: Keeper, S: Signs>()
     ensures { FreshStaysFresh (kind_of S.signing S.is_whole K.saves) }
 {}
 
-/// A law and no code: where names tell the blocks apart and each refresh is grounded, a history is legal. Folding the turn of
-/// the definitions over it gives each reply and front, and what the agent knows, its leaves, its number and its fault.
+/// A law and no code: where no names collide and each refresh is grounded, a history is legal. Folding the turn of the
+/// definitions over it gives each reply and front, and what the agent knows, its leaves, its number and its fault.
 pub fn histories_fold<K: Keeper, S: Signs>()
     ensures { HistoriesFold (kind_of S.signing S.is_whole K.saves) }
 {}

@@ -102,7 +102,7 @@ pub same_behind : (xs ys zs : List Record) → xs ++ ys ≡ xs ++ zs → ys ≡ 
 same_behind [] ys zs e = e
 same_behind (x ∷ xs) ys zs e = same_behind xs ys zs (cc e)
 
--- of the own log, behind that number, and citing that
+-- of the own log, after that number, and citing that
 record IsCiting (own : PubKey) (v : Vector) (seq : ℕ) (r : Record) : Type 0 where
   owned : r.owner ≡ own
   cites : r.vector ≡ v

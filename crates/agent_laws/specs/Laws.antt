@@ -1,4 +1,4 @@
--- What an agent knows and holds behind a turn.
+-- What an agent knows and holds after a turn.
 use Rattle.std.specs.Prelude.{◌≡◌, ◌⊎◌, Bool, true, false, List, ◌∷◌, ◌++◌, Contains}
 use Rattle.ivy_base.specs.declared.format.Format.TheVariants.{One}
 use Rattle.ivy_base.specs.declared.operation.Moment.{Moment}

@@ -1,4 +1,4 @@
-//! Laws of agents: what an agent knows and holds behind a turn, whatever it signs with.
+//! Laws of agents: what an agent knows and holds after a turn, whatever it signs with.
 //!
 //! Layer: over `turn_laws` and the definitions of `agent_model`; below the laws of a world and whoever shares an agent.
 //! The lemmas stand in `proofs/`: `Floors.antt` has a floor with a front joined into it, what it names and how far it goes;

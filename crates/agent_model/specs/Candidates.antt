@@ -31,7 +31,7 @@ pub record Grounds : Type 0 where
 abbrev pub reading_in : Grounds → View → Reading
 reading_in g view = record { blocks = g.met; view = view; floor = g.standing.floor }
 
--- and what candidates are told by where nothing misleads
+-- and what candidates are determined by where nothing misleads
 abbrev pub evidence_in : Grounds → View → Evidence
 evidence_in g view = record { heads = g.heads; blocks = g.met; view = view; own = g.standing.own; floor = g.standing.floor; known = g.knew }
 

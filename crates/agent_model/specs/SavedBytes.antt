@@ -15,13 +15,13 @@ use Rattle.log_model.specs.Signing.{Signing}
 use Rattle.log_model.specs.ViewKeys.{HasKeys}
 use Rattle.agent_model.specs.Agent.{Kept, is_head, own_key}
 
-abbrev pub kind_number : PostKind → ℕ
-kind_number kind.Block = 0
-kind_number kind.Log = 1
-kind_number kind.Head = 2
+abbrev pub post_kind_number : PostKind → ℕ
+post_kind_number kind.Block = 0
+post_kind_number kind.Log = 1
+post_kind_number kind.Head = 2
 
 abbrev pub post_bytes : Post → List ℕ
-post_bytes p = word (kind_number p.kind) ++ p.key.0 ++ opaque p.bytes
+post_bytes p = word (post_kind_number p.kind) ++ p.key.0 ++ opaque p.bytes
 
 -- the view's block, or nothing before a view
 abbrev pub view_bytes : Option View → List ℕ

@@ -47,9 +47,9 @@ standing_in signs a view = record {
   pending = a.pending;
 }
 
--- after a turn that was refused a session begins anew without a snapshot
-abbrev pub anew_in : {S : Type 0} → Signing S → Agent S → View → Standing
-anew_in signs a view = record (standing_in signs a view) { to_load = None }
+-- after a turn that was refused a session begins again without a snapshot
+abbrev pub begun_again_in : {S : Type 0} → Signing S → Agent S → View → Standing
+begun_again_in signs a view = record (standing_in signs a view) { to_load = None }
 
 -- ---- what a refresh brings
 

@@ -1,5 +1,5 @@
 -- A turn of an agent: what it answers and how the agent is then. What is signed and saved is said in each case; what is answered is said
--- where names tell the blocks apart, for every set that the agent may know.
+-- where no names collide, for every set that the agent may know.
 use Rattle.std.specs.Prelude.{◌≡◌, ℕ, ◌+◌, nat_lt, ◌==◌, ◌≤◌, ◌<◌, Bool, true, false, ◌||◌, ◌&&◌, not, List, [], ◌∷◌, ◌++◌, length, IsTrue}
 use Rattle.std.specs.Prelude.{Option, Some, None}
 use Rattle.std.specs.Option.{option_map_or}
@@ -7,7 +7,7 @@ use Rattle.std.specs.List.{AllByRecursion, list_any}
 use Rattle.ivy_base.specs.declared.operation.Moment.{Moment}
 use Rattle.ivy_base.specs.declared.key.Key.{Key}
 use Rattle.ivy_base.specs.declared.key.PubKey.{PubKey}
-use Rattle.ivy_base.specs.Naming.{NamesTellApart, head_key_of}
+use Rattle.ivy_base.specs.Naming.{IsCollisionFree, head_key_of}
 use Rattle.tree_model.specs.Tree.{same_key}
 use Rattle.log_model.specs.View.{View, is_named}
 use Rattle.log_model.specs.Vector.{Stamp, Vector, join, stamp_at, seq_of}
@@ -18,7 +18,7 @@ use Rattle.log_model.specs.Closed.{IsClosedPart}
 use Rattle.log_model.specs.Spelling.{most_records}
 use Rattle.nfs_model.specs.declared.replies.Reply.{Reply}
 use Rattle.turn_model.specs.Basis.{Basis, Holding, HoldsAll, Knows, nothing_held}
-use Rattle.turn_model.specs.Turn.{Inputs, Asked, Candidate, Turned, IsAtHand, turn_on}
+use Rattle.turn_model.specs.Turn.{Inputs, Asked, Candidate, Turned, IsAvailable, turn_on}
 use Rattle.turn_model.specs.Work.{applied_between}
 use Rattle.snapshot_model.specs.Blocks.{IsVectorSpelled}
 use Rattle.log_model.specs.Signing.{Signing}
@@ -31,7 +31,7 @@ use Rattle.agent_model.specs.Candidates.{AreCandidatesOf, Grounds, MayTurn}
 abbrev pub with_held : Holding → List Record → Holding
 with_held h written = record h { held = h.held ++ written }
 
--- they are numbered one after the other behind that number
+-- they are numbered one after the other after that number
 abbrev pub AreNext : ℕ → List Record → Type 0
 AreNext seq [] = Unit {0}
 AreNext seq (r ∷ rs) = (r.seq ≡ seq + 1) × AreNext (seq + 1) rs
@@ -107,8 +107,8 @@ module _ {S : Type 0} (signs : Signing S) where
   abbrev pub written_by : Agent S → Holding → List Record → Record → Agent S
   written_by a h before last = having_written (taking a (with_held h (before ++ last ∷ []))) before last
 
-  -- These may be written, whether or not names tell apart: no save failed before, a signature is left, they are good records of its own,
-  -- the next ones behind its floor, and what is then to be published has a spelling.
+  -- These may be written, whether or not names collide: no save failed before, a signature is left, they are good records of its own, the
+  -- next ones after its floor, and what is then to be published has a spelling.
   pub record MayWrite (view : View) (a : Agent S) (before : List Record) (last : Record) : Type 0 where
     pub unfailed : a.has_failed ≡ false
     pub is_left : 0 < signs.remaining a.signer
@@ -117,8 +117,7 @@ module _ {S : Type 0} (signs : Signing S) where
     pub few : own_reach signs a + length (before ++ last ∷ []) ≤ most_records
     pub posts : ArePostsSpelled (having_written a before last).pending
 
-  -- What a turn takes can be saved, names logs of the view alone, and of the own log no more than the floor, whether or not names tell
-  -- apart.
+  -- What a turn takes can be saved, names logs of the view alone, and of the own log no more than the floor, whether or not names collide.
   pub record MayTake (view : View) (a : Agent S) (h : Holding) : Type 0 where
     pub spelled : IsVectorSpelled (joined h)
     pub named : AllByRecursion (λ e. IsTrue (is_named view e.0)) (joined h)
@@ -141,7 +140,7 @@ module _ {S : Type 0} (signs : Signing S) where
       : Type 0 where
     pub candidates : List Candidate
     pub of_heads : AreCandidatesOf found.grounds turning.view found.started candidates
-    pub largest : IsClosedPart turning.view (IsAtHand known candidates) taken
+    pub largest : IsClosedPart turning.view (IsAvailable known candidates) taken
     pub by_set : turned ≡ turn_on (inputs turning.agent turning.view turning.fails) taken asked turning.now
 
   -- Such is the reply; what is written, or would be, is what the turn appends; and what is held before it is written is all of the set.
@@ -157,7 +156,7 @@ module _ {S : Type 0} (signs : Signing S) where
   -- Whatever the agent may know, the turn is that of the definition.
   abbrev pub IsByDefinition : Refresh → Turning S → Asked → Holding → List Record → Reply → Type 0
   IsByDefinition brought turning asked h written reply =
-      (grounds : Grounds) (known : List Record) → NamesTellApart grounds.met
+      (grounds : Grounds) (known : List Record) → IsCollisionFree grounds.met
       → Knows turning.view turning.agent.floor turning.agent.holding known
       → MayTurn grounds turning.view (own signs turning.agent) known brought
       → IsTurnOf (record { grounds = grounds; started = brought.started }) turning known asked h written reply

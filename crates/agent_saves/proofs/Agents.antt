@@ -75,7 +75,7 @@ module _ {S : Type 0} (signs : Signing S) (IsWhole : S → Type 0) where
   refused_parts bytes Malformed = λ absent k f e. absent (told_of k) (fits_told k f) e
   refused_parts bytes Memory = λ absent. tt
 
-  -- ---- what may be saved is told by its bytes
+  -- ---- what may be saved is determined by its bytes
 
   pub told_apart_by_bytes : ((a b : S) → IsWhole a → IsWhole b → signs.saved a ≡ signs.saved b → a ≡ b) → (k l : Kept S) → IsKept signs CanBe k → IsKept signs CanBe l → kept_bytes signs k ≡ kept_bytes signs l → k ≡ l
   told_apart_by_bytes told_apart k l f g e = λ i. record { signer = signer i; view = (parts i).0.0.0.0.1; floor = (parts i).0.0.1; pending = (parts i).0.1; snapshot = (parts i).1 }

@@ -14,7 +14,7 @@ use Rattle.block_parts.proofs.OneParts.{one_key}
 use Rattle.dht_ids.specs.declared.post.Post.{Post}
 use Rattle.dht_ids.specs.declared.post.PostKind.{PostKind}
 use Rattle.dht_ids.specs.declared.post.PostKind.TheVariants as kind
-use Rattle.agent_model.specs.SavedBytes.{HasItsName, kind_number, post_bytes}
+use Rattle.agent_model.specs.SavedBytes.{HasItsName, post_kind_number, post_bytes}
 use Rattle.block_parts.specs.declared.fault.BlockFault.{BlockFault}
 use Rattle.block_parts.specs.declared.fault.BlockFault.TheVariants.{Malformed, Memory}
 use Rattle.agent_saves.specs.Parts.{IsPost, kind_bytes, most_counted}
@@ -28,12 +28,12 @@ refused absent Memory f = tt
 
 -- ---- what a post is
 
-small_number : (k : PostKind) → kind_number k < 2 ^ 32
+small_number : (k : PostKind) → post_kind_number k < 2 ^ 32
 small_number kind.Block = omega arith
 small_number kind.Log = omega arith
 small_number kind.Head = omega arith
 
-told_kind : (k l : PostKind) → kind_number k ≡ kind_number l → k ≡ l
+told_kind : (k l : PostKind) → post_kind_number k ≡ post_kind_number l → k ≡ l
 told_kind kind.Block kind.Block e = refl
 told_kind kind.Block kind.Log e = cc
 told_kind kind.Block kind.Head e = cc
@@ -45,7 +45,7 @@ told_kind kind.Head kind.Log e = cc
 told_kind kind.Head kind.Head e = refl
 
 pub one_kind : ReadsOne IsAny kind_bytes
-one_kind = of_parts kind_number (λ k f. small_number k) (λ k. refl) told_kind one_word
+one_kind = of_parts post_kind_number (λ k f. small_number k) (λ k. refl) told_kind one_word
 
 pub one_counted : ReadsOne (IsUpTo most_counted) opaque
 one_counted = one_short_opaque most_counted (omega arith)

@@ -13,7 +13,7 @@ use Rattle.block_parts.specs.Parts.{constant_bytes, key_bytes, IsOptional}
 use Rattle.version_vectors.specs.Vectors.{VectorFits}
 use Rattle.dht_ids.specs.declared.post.Post.{Post}
 use Rattle.dht_ids.specs.declared.post.PostKind.{PostKind}
-use Rattle.agent_model.specs.SavedBytes.{AreOpaque, HasItsName, kind_number, post_bytes, view_bytes, saved_tag}
+use Rattle.agent_model.specs.SavedBytes.{AreOpaque, HasItsName, post_kind_number, post_bytes, view_bytes, saved_tag}
 use Rattle.agent_saves.specs.declared.parts.Parts as read
 
 -- what a word can count
@@ -23,7 +23,7 @@ most_counted = 4294967295
 -- ---- posts
 
 abbrev pub kind_bytes : PostKind → List ℕ
-kind_bytes kind = word (kind_number kind)
+kind_bytes kind = word (post_kind_number kind)
 
 abbrev pub IsPost : Post → Type 0
 IsPost p = IsKey p.key × HasItsName p × AreOpaque p.bytes
@@ -36,7 +36,7 @@ ArePosts posts = (length posts ≤ most_counted) × AllByRecursion IsPost posts
 abbrev pub IsLegal : View → Type 0
 IsLegal v = IsView v × HasKeys v
 
--- the view's block behind its length, or nothing
+-- the view's block after its length, or nothing
 abbrev pub view_part : Option View → List ℕ
 view_part view = opaque (view_bytes view)
 

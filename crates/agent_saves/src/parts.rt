@@ -72,7 +72,7 @@ fn read_parts<'a>(alloc: Global, reader: &mut XdrRead<'a>) -> Result<Parts<'a>, 
     })
 }
 
-/// A name, where there is one, behind whether there is.
+/// A name, where there is one, after whether there is.
 fn read_name(reader: &mut XdrRead) -> Result<Option<Key>, Malformed>
     ensures ok { IfOk result (λ name. IsFront (IsOptional IsKey) (optional key_bytes) reader.old name reader.new) }
     ensures err { OnErr result (HasNoFront (IsOptional IsKey) (optional key_bytes) reader.old) }

@@ -17,7 +17,7 @@ use ivy_base::{Bytes, Key, Memory, name_of};
 use std::alloc::Global;
 use xdr_codec::XdrRead;
 
-/// The posts, behind their count. Each is read before memory is taken for it.
+/// The posts, after their count. Each is read before memory is taken for it.
 pub fn read_posts(alloc: Global, reader: &mut XdrRead) -> Result<Posts, BlockFault>
     ensures ok { IfOk result (λ posts. IsFront ArePosts (array post_bytes) reader.old posts reader.new) }
     ensures err { IfErr result (RefusesFront ArePosts (array post_bytes) reader.old) }
@@ -77,7 +77,7 @@ fn has_its_name(kind: PostKind, key: &Key, block: &[u8]) -> bool
     }
 }
 
-/// A copy of a block. The error is want of memory.
+/// A copy of a block. The error is: out of memory.
 fn copy_of(alloc: Global, block: &[u8]) -> Result<Bytes, Memory>
     ensures same { IfOk result (λ copy. copy ≡ block.now) }
     ensures each { IsTrue (list_all (λ b. nat_lt b 256) block.now) }

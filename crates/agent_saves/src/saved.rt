@@ -33,7 +33,7 @@ pub struct Saved<S> {
 }
 
 /// What was saved of an agent that signs with [`Hss`], of which these are the bytes. There is none where they are saved of
-/// no agent. The error is want of memory.
+/// no agent. The error is: out of memory.
 pub fn read_saved(alloc: Global, bytes: &[u8]) -> Result<Option<Saved<Hss>>, Memory>
     ensures { IfOk result (λ saved. MatchOption saved (AreSavedOfNone hss IsSigner bytes.now) (λ s. AreSavedOf hss IsSigner bytes.now (said s))) }
 {
@@ -42,7 +42,7 @@ pub fn read_saved(alloc: Global, bytes: &[u8]) -> Result<Option<Saved<Hss>>, Mem
 
 impl<S: Signs + Drop> Saved<S> {
     /// What was saved of an agent, of which these are the bytes. There is none where they are saved of no agent whose key's
-    /// own bytes a word can count. The error is want of memory.
+    /// own bytes a word can count. The error is: out of memory.
     pub fn read(alloc: Global, bytes: &[u8]) -> Result<Option<Self>, Memory>
         ensures { IfOk result (λ saved. MatchOption saved (AreSavedOfNone S.signing (IsCounted S.is_whole S.signing.saved) bytes.now) (λ s. AreSavedOf S.signing (IsCounted S.is_whole S.signing.saved) bytes.now (said s))) }
     {

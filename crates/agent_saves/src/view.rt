@@ -13,7 +13,7 @@ use std::alloc::Global;
 use view_blocks::View;
 use xdr_codec::XdrRead;
 
-/// The view, behind the length of its block.
+/// The view, after the length of its block.
 pub fn read_view(alloc: Global, reader: &mut XdrRead) -> Result<Option<View>, BlockFault>
     ensures ok { IfOk result (λ view. IsFront (IsOptional IsLegal) view_part reader.old view reader.new) }
     ensures err { IfErr result (RefusesFront (IsOptional IsLegal) view_part reader.old) }

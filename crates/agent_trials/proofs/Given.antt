@@ -49,7 +49,7 @@ pub first_contained : (xs : List PubKey) (x : PubKey) → Some x ≡ slice_get x
 first_contained [] x e = absurd (cc e)
 first_contained (y ∷ ys) x e = let same : y ≡ x = cc e in subst (λ (z : PubKey). Contains (y ∷ ys) z) same (here y ys)
 
--- behind a turn an agent is in a view, where it was before
+-- after a turn an agent is in a view, where it was before
 pub stays_in_view : {K S : Type 0} (kind : AgentKind K S) (before after : Holder K S) (asked : TurnRequest) (result : Result Turned TurnFault) (P : View → Type 0) (o : Option View) → before.agent.view ≡ o → IsSomeAnd o P
     → IfSome o (λ view. TakesTurn kind.signs kind.IsWhole kind.saves view (refresh_of asked.refresh) (asked_of asked.asked) asked.now before result after) → IsSomeAnd after.agent.view (λ view. Unit {0})
 stays_in_view kind before after asked result P (Some view) is some turn =

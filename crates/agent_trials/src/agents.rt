@@ -22,7 +22,7 @@ use view_blocks::View;
 /// No answer.
 const NONE: u32 = 9_999;
 
-/// An agent with 32 signatures, in the view of its own log alone. None is want of memory.
+/// An agent with 32 signatures, in the view of its own log alone. None means out of memory.
 fn agent(alloc: Global) -> Option<Agent<MemKeeper, Hss>> {
     let set = Set {
         w: Width::W8,
@@ -44,7 +44,7 @@ struct Start {
     root: Bytes,
 }
 
-/// What the agent begins with. None is want of memory, or that it is in no view.
+/// What the agent begins with. None means out of memory, or that it is in no view.
 fn start_of(alloc: Global, agent: &Agent<MemKeeper, Hss>) -> Option<Start>
     ensures { IfSome result (λ f. MayBegin agent.now f.refresh f.root) }
 {
@@ -73,7 +73,7 @@ pub struct Begun {
     pub root: Bytes,
 }
 
-/// A gate that was just opened. None is want of memory.
+/// A gate that was just opened. None means out of memory.
 fn begin(alloc: Global) -> Option<Begun>
     ensures pass { IfSome result (λ b. IsPassOf b.gate b.pass × (b.pass.parts ≡ 2 ^ 32)) }
     ensures view { IfSome result (λ b. IsSomeAnd b.gate.opening.agent.view (λ view. Unit {0})) }
@@ -199,7 +199,8 @@ pub struct Ended {
     pub answered: u32,
 }
 
-/// Two threads take so many turns, and end. The first turn of the first thread makes `x`. None is want of memory.
+/// Two threads take so many turns, and end. The first turn of the first thread makes `x`. None means out of
+/// memory.
 fn two_threads<R: Threads + Wait + Sync>(
     rt: &R,
     alloc: Global,

@@ -32,14 +32,14 @@ fn superuser() -> Caller
     }
 }
 
-/// The handle of the root in that view. None is want of memory.
+/// The handle of the root in that view. None means out of memory.
 pub fn root_of(alloc: Global, view: &View) -> Option<Bytes>
     ensures { IfSome result (λ root. length root ≡ 44) }
 {
     handle_of(alloc, view, &ROOT).ok()
 }
 
-/// What the name of one byte leads to in the root. None is want of memory.
+/// What the name of one byte leads to in the root. None means out of memory.
 pub fn lookup(alloc: Global, root: &Bytes, name: u8) -> Option<Asked>
     requires { length root.now ≡ 44 }
     ensures { IfSome result IsAsked }
@@ -56,7 +56,7 @@ pub fn lookup(alloc: Global, root: &Bytes, name: u8) -> Option<Asked>
     })
 }
 
-/// A directory of that name, of one byte, is to be made in the root. None is want of memory.
+/// A directory of that name, of one byte, is to be made in the root. None means out of memory.
 pub fn make_directory(alloc: Global, root: &Bytes, name: u8) -> Option<Asked>
     requires { length root.now ≡ 44 }
     ensures { IfSome result IsAsked }

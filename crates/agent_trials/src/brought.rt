@@ -14,7 +14,7 @@ use std::alloc::Global;
 use version_vectors::Vector;
 use view_blocks::View;
 
-/// Nothing. None is want of memory.
+/// Nothing. None means out of memory.
 pub fn nothing(alloc: Global) -> Option<Refresh>
     ensures fetched { IfSome result (λ r. (view : Seen) → IsFetchedIn view r.batch) }
     ensures basis { IfSome result (λ r. r.basis ≡ None) }
@@ -33,7 +33,7 @@ fn is_same(a: &PubKey, b: &PubKey) -> bool
     *a == *b
 }
 
-/// The chain of that record alone, under the view. None is want of memory, or that there is none.
+/// The chain of that record alone, under the view. None means out of memory, or that there is none.
 fn of_one(alloc: Global, view: &View, floor: &Vector, record: Record, name: Key) -> Option<Batch>
     requires { Contains view.now.members record.owner }
     ensures { IfSome result (λ b. IsFetchedIn view.now b) }
@@ -72,7 +72,8 @@ fn record_in(alloc: Global, view: &View, own: &PubKey, post: &Post) -> Option<Re
     Some(record)
 }
 
-/// The first record of the own log, which is the first that is pending. None is want of memory, or that there is none.
+/// The first record of the own log, which is the first that is pending. None means out of memory, or that there is
+/// none.
 pub fn opening(alloc: Global, standing: &Standing) -> Option<Refresh>
     ensures fetched { IfSome result (λ r. IsFetchedIn standing.now.view r.batch) }
     ensures basis { IfSome result (λ r. r.basis ≡ None) }

@@ -6,7 +6,7 @@
 //! thread takes no turn, so `x` isn't there. In the last two lines the gate is closed, first without the second pass: how
 //! many passes came back, and how many turns were taken.
 //!
-//! The answers are worked out by hand, and are the same whatever the schedule. `no answer` is want of memory.
+//! The answers are worked out by hand, and are the same whatever the schedule. `no answer` means out of memory.
 #![tactic(auto)]
 
 mod agents;

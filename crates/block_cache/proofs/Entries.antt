@@ -14,7 +14,7 @@ use Rattle.ivy_base.specs.declared.key.Key.{Key}
 use Rattle.lru.specs.LruCache.{LruCache, lru_cache, promoted, put_entries}
 use Rattle.lru.proofs.CallerLemmas.{Contains-lookup_entry}
 use Rattle.lru.proofs.Pairs.{lookup-lookup_entry}
-use Rattle.dhash_model.specs.Cache.{same_key, block_of, others, moved_to_front, kept}
+use Rattle.dhash_model.specs.Cache.{keys_equal, block_of, others, moved_to_front, kept}
 use Rattle.block_cache.specs.Blocks.{IsCache, pair_of}
 use Rattle.block_cache.proofs.Pairs.{same_key_laws, one_key, fewer, kept_valid, moved_valid}
 
@@ -30,7 +30,7 @@ module _ (key : Key) where
       by true rest = refl
       by false rest = rest
 
-  all_others : (pairs : List (Key × List ℕ)) → NonePasses (same_key key) pairs → others key pairs ≡ pairs
+  all_others : (pairs : List (Key × List ℕ)) → NonePasses (keys_equal key) pairs → others key pairs ≡ pairs
   all_others [] h = refl
   all_others (p ∷ ps) h = rw h.0 (ap (λ l. p ∷ l) (all_others ps h.1))
 
@@ -43,9 +43,9 @@ module _ (key : Key) where
       by false rest h = ap (λ l. e ∷ l) (rest h)
 
   -- as each key stands once, those that stay when the first is removed are the others
-  removed : (es : List (List ℕ × List ℕ)) → IsDistinct same_key (keys_of (map pair_of es)) → map pair_of (remove_entry is_key es) ≡ others key (map pair_of es)
+  removed : (es : List (List ℕ × List ℕ)) → IsDistinct keys_equal (keys_of (map pair_of es)) → map pair_of (remove_entry is_key es) ≡ others key (map pair_of es)
   removed [] d = refl
-  removed (e ∷ es) d = by (is_key e.0) refl (removed es (IsDistinct-tail same_key (pair_of e).0 (keys_of (map pair_of es)) d))
+  removed (e ∷ es) d = by (is_key e.0) refl (removed es (IsDistinct-tail keys_equal (pair_of e).0 (keys_of (map pair_of es)) d))
     where
       by : (b : Bool) → is_key e.0 ≡ b → map pair_of (remove_entry is_key es) ≡ others key (map pair_of es)
           → map pair_of (cond b es (e ∷ remove_entry is_key es)) ≡ cond (not b) (pair_of e ∷ others key (map pair_of es)) (others key (map pair_of es))

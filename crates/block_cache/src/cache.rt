@@ -35,7 +35,7 @@ impl Model for BlockCache {
 }
 
 impl BlockCache {
-    /// A cache with no block, with room for the keys of 256. The error is want of memory.
+    /// A cache with no block, with room for the keys of 256. The error is: out of memory.
     pub fn new(alloc: Global) -> Result<BlockCache, Memory>
         ensures { IfOk result (λ cache. cache ≡ []) }
     {
@@ -68,7 +68,7 @@ impl BlockCache {
     }
 
     /// Keeps a block under its name, as the most recently used. Where 256 others are held, the least recently used one
-    /// goes. False is want of memory, and then nothing has changed.
+    /// goes. False means out of memory, and then nothing has changed.
     pub fn keep(&mut self, key: Key, bytes: Bytes) -> bool
         requires { key ≡ name bytes }
         ensures kept { MatchBool result (self.new ≡ kept key bytes self.old) (self.new ≡ self.old) }

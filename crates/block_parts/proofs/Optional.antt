@@ -1,4 +1,4 @@
--- A part that may be left out, behind whether it is there.
+-- A part that may be left out, after whether it is there.
 use Rattle.std.proofs.Common.{ℕ, true, false, List, ◌++◌, Option, Some, None, sym, ◌∙◌}
 use Rattle.wire_model.specs.Xdr.{boolean, optional, IsAny}
 use Rattle.wire_model.specs.OneReading.{IsFront, HasNoFront}

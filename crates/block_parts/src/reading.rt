@@ -66,7 +66,7 @@ pub fn check_bytes(bytes: &[u8])
     let _ = bytes;
 }
 
-/// So many arrays of so many bytes, one behind the other, where no zeros fill them up.
+/// So many arrays of so many bytes, one after the other, where no zeros fill them up.
 pub fn read_blocks<'a, const N: usize>(
     reader: &mut XdrRead<'a>,
     count: u32,

@@ -8,7 +8,7 @@ use Rattle.ring_model.specs.Members.{IsAmong}
 use Rattle.ring_model.proofs.Lists.{among_filter, among_filtered, among_take, filter_front}
 use Rattle.dht_ids.specs.declared.ask.Answer.{Answer}
 use Rattle.dht_ids.specs.declared.peer.Peer.{Peer}
-use Rattle.dhash_model.specs.Course.{Told}
+use Rattle.dhash_model.specs.Execution.{Told}
 use Rattle.round_laws.proofs.Owning.{AreDistinct, passes}
 
 firsts_from : (seen ps qs : List Peer) → AreFirsts seen ps qs → (x : Peer) → IsAmong x qs → IsAmong x ps

@@ -2,7 +2,7 @@
 use Rattle.std.proofs.Common.{◌≡◌, inl, inr, ℕ, Bool, true, false, ◌&&◌, not, List, [], filter, refl, sym, ap, ◌∙◌, Contains}
 use Rattle.std.specs.List.{AllByRecursion, list_any}
 use Rattle.ivy_base.specs.declared.key.PubKey.{PubKey}
-use Rattle.ivy_base.specs.Naming.{NamesTellApart, head_key_of, name}
+use Rattle.ivy_base.specs.Naming.{IsCollisionFree, head_key_of, name}
 use Rattle.tree_model.proofs.Keys.{same_key_is}
 use Rattle.log_model.specs.Record.{Record}
 use Rattle.log_model.specs.Spelling.{record_block}
@@ -13,25 +13,25 @@ use Rattle.dht_ids.specs.declared.post.Ack.{Ack}
 use Rattle.dht_ids.specs.declared.post.Post.{Post}
 use Rattle.agent_model.specs.Agent.{is_head, record_post}
 use Rattle.agent_model.specs.Others.{is_of, settled}
-use Rattle.world_model.specs.Agents.{Kept, own, own_reach}
+use Rattle.world_model.specs.Agents.{HssKept, own_hss_key, own_reach}
 use Rattle.world_model.specs.World.{Participant}
-use Rattle.world_laws.specs.Keeps.{IsKeptSo}
+use Rattle.world_laws.specs.Invariant.{IsKeptSo}
 use Rattle.calm_laws.specs.Put.{IsPutOr, WasPut}
 use Rattle.calm_laws.proofs.UpTo.{more_put_or, over_weaker}
 use Rattle.calm_laws.proofs.Stages.{IsHeadPutOr, IsMet, WasAcked}
 
--- each own record among those known, and each behind a head among the posts, was put, or is among the posts
+-- each own record among those known, and each after a head among the posts, was put, or is among the posts
 pub record IsBackedBy (acked : List Post) (owner : PubKey) (known : List Record) (posts : List Post) : Type 0 where
   pub records : (one : Record) → Contains known one → one.owner ≡ owner → IsPutOr acked posts one
   pub heads : (h : Post) → Contains posts h → is_head h.kind ≡ true → IsHeadPutOr acked posts h
 
 -- what would be loaded goes as far in the own log, and has no less to publish
-pub record IsBackedKept (acked : List Post) (known : List Record) (p : Participant) (k : Kept) : Type 0 where
-  pub same_reach : seq_of k.floor (head_key_of (own p.agent)) ≡ own_reach p.agent
-  pub backed : IsBackedBy acked (own p.agent) known k.pending
+pub record IsBackedKept (acked : List Post) (known : List Record) (p : Participant) (k : HssKept) : Type 0 where
+  pub same_reach : seq_of k.floor (head_key_of (own_hss_key p.agent)) ≡ own_reach p.agent
+  pub backed : IsBackedBy acked (own_hss_key p.agent) known k.pending
 
 pub record IsBackedIn (met : List (List ℕ)) (acked : List Post) (p : Participant) (known : List Record) : Type 0 where
-  pub agent : IsBackedBy acked (own p.agent) known p.agent.pending
+  pub agent : IsBackedBy acked (own_hss_key p.agent) known p.agent.pending
   pub pending : AllByRecursion (IsMet met) p.agent.pending
   pub fine : p.keeper.failing ≡ []
   pub keeper : IsKeptSo (IsBackedKept acked known) p
@@ -49,9 +49,9 @@ backed_more acked more grows owner known fewer posts less h = record {
 }
 
 pub in_more : (met now : List (List ℕ)) (acked more : List Post) (p : Participant) (known fewer : List Record) → ((b : List ℕ) → Contains met b → Contains now b) → ((q : Post) → Contains acked q → Contains more q)
-    → ((one : Record) → Contains fewer one → one.owner ≡ own p.agent → Contains known one) → IsBackedIn met acked p known → IsBackedIn now more p fewer
+    → ((one : Record) → Contains fewer one → one.owner ≡ own_hss_key p.agent → Contains known one) → IsBackedIn met acked p known → IsBackedIn now more p fewer
 in_more met now acked more p known fewer meets grows less h = record {
-  agent = backed_more acked more grows (own p.agent) known fewer p.agent.pending less h.agent;
+  agent = backed_more acked more grows (own_hss_key p.agent) known fewer p.agent.pending less h.agent;
   pending = all_weaker (IsMet met) (IsMet now) p.agent.pending (λ q m. meets q.bytes m) h.pending;
   fine = h.fine;
   keeper = (
@@ -60,7 +60,7 @@ in_more met now acked more p known fewer meets grows less h = record {
     h.keeper.2,
     record {
       same_reach = h.keeper.3.same_reach;
-      backed = backed_more acked more grows (own p.agent) known fewer h.keeper.0.pending less h.keeper.3.backed;
+      backed = backed_more acked more grows (own_hss_key p.agent) known fewer h.keeper.0.pending less h.keeper.3.backed;
     },
   );
 }
@@ -72,7 +72,7 @@ both_true true true e = (refl, refl)
 both_true true false e = cc e
 both_true false b e = cc e
 
-module _ (met : List (List ℕ)) (apart : NamesTellApart met) (acked : List Post) (put_met : (p : Post) → Contains acked p → Contains met p.bytes) (acks : List Ack) (acks_so : AllByRecursion (WasAcked acked) acks) where
+module _ (met : List (List ℕ)) (apart : IsCollisionFree met) (acked : List Post) (put_met : (p : Post) → Contains acked p → Contains met p.bytes) (acks : List Ack) (acks_so : AllByRecursion (WasAcked acked) acks) where
   abbrev left : List Post → List Post
   left posts = filter (λ (p : Post). not (list_any (λ ack. is_of ack p) acks)) posts
 
@@ -100,7 +100,7 @@ module _ (met : List (List ℕ)) (apart : NamesTellApart met) (acked : List Post
 
   pub settled_in : (p : Participant) (known : List Record) → IsBackedIn met acked p known → IsBackedIn met acked (record p { agent = settled p.agent acks }) known
   settled_in p known h = record {
-    agent = settled_by (own p.agent) known p.agent.pending h.pending h.agent;
+    agent = settled_by (own_hss_key p.agent) known p.agent.pending h.pending h.agent;
     pending = each_from (IsMet met) (left p.agent.pending) (λ q c. each (IsMet met) p.agent.pending q h.pending (from_filter (λ (x : Post). not (list_any (λ ack. is_of ack x) acks)) p.agent.pending q c).0);
     fine = h.fine;
     keeper = (h.keeper.0, h.keeper.1, h.keeper.2, record { same_reach = h.keeper.3.same_reach; backed = h.keeper.3.backed });

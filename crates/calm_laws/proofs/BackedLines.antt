@@ -1,6 +1,6 @@
 -- Each line of a calm script leaves it so.
 use Rattle.std.proofs.Common.{◌≡◌, ⊎_elim, ℕ, List, Some, refl, sym, ◌∙◌, subst}
-use Rattle.ivy_base.specs.Naming.{NamesTellApart}
+use Rattle.ivy_base.specs.Naming.{IsCollisionFree}
 use Rattle.dhash_model.specs.Signed.{hss_judged}
 use Rattle.script_driver.specs.Run.{Ends, Goes, Outcome}
 use Rattle.script_model.specs.Lines.{command_of}
@@ -12,7 +12,7 @@ use Rattle.world_model.specs.Step.{Does, IvyStep}
 use Rattle.world_model.specs.World.{named_bytes, participant, session_named, view_named}
 use Rattle.calm_laws.specs.Calm.{Calmly, IsCalm, IsQuiet, Since}
 use Rattle.calm_laws.specs.Calm.Calmly.{more as calmly_more, none as calmly_none}
-use Rattle.world_laws.specs.Keeps.{Keeps}
+use Rattle.world_laws.specs.Invariant.{Invariant}
 use Rattle.world_laws.specs.Laws.{IsStill, LinesKeep}
 use Rattle.world_laws.proofs.AllLines.{does_line}
 use Rattle.calm_laws.proofs.CalmRuns.{some_command}
@@ -39,7 +39,7 @@ still_so w next c output still does h =
 
 -- ---- all of them
 
-module _ (w next : Played) (output : List ℕ) (keeps : Keeps w) (kept : Keeps next) (apart : NamesTellApart (named_bytes next.0)) (h : IsBackedWorld w.0 w.1) where
+module _ (w next : Played) (output : List ℕ) (keeps : Invariant w) (kept : Invariant next) (apart : IsCollisionFree (named_bytes next.0)) (h : IsBackedWorld w.0 w.1) where
   such : (o : Outcome Played) → ToSuch IsThenBacked o → o ≡ Goes next output → IsBackedWorld next.0 next.1
   such o s e = (subst (ToSuch IsThenBacked) e s) kept apart
 
@@ -65,7 +65,7 @@ module _ (w next : Played) (output : List ℕ) (keeps : Keeps w) (kept : Keeps n
 -- ---- runs
 
 -- a line of a calm script
-pub calm_line : {r : ℕ} {since after : Since} (w next : Played) (output : List ℕ) (c : Command) → Keeps w → Keeps next → NamesTellApart (named_bytes next.0) → IsCalm w.0 r since c after → Fits c → Does hss_judged w c (Goes next output) → IsBackedWorld w.0 w.1 → IsBackedWorld next.0 next.1
+pub calm_line : {r : ℕ} {since after : Since} (w next : Played) (output : List ℕ) (c : Command) → Invariant w → Invariant next → IsCollisionFree (named_bytes next.0) → IsCalm w.0 r since c after → Fits c → Does hss_judged w c (Goes next output) → IsBackedWorld w.0 w.1 → IsBackedWorld next.0 next.1
 calm_line w next output c keeps kept apart calm fits does h = ⊎_elim (λ quiet. command_so w next output keeps kept apart h c quiet fits does) (λ ring. ring_so w next output c keeps ring does h) (calm_kind calm)
 
 -- what such a line's command does
@@ -76,13 +76,13 @@ calm_does v mid line output c is step =
     (subst Fits same (command_fits line done.0 done.1), subst (λ d. Does hss_judged v d (Goes mid output)) same done.2)
 
 module _ (lines_keep : LinesKeep) where
-  -- names that tell apart in the end did so before
-  pub apart_first : {r : ℕ} {v w : Played} {since after : Since} {lines : List (List ℕ)} → Calmly r v since lines w after → Keeps v → NamesTellApart (named_bytes w.0) → NamesTellApart (named_bytes v.0)
+  -- names that don't collide in the end didn't before
+  pub apart_first : {r : ℕ} {v w : Played} {since after : Since} {lines : List (List ℕ)} → Calmly r v since lines w after → Invariant v → IsCollisionFree (named_bytes w.0) → IsCollisionFree (named_bytes v.0)
   apart_first calmly_none keeps apart = apart
   apart_first (calmly_more {w = v} {mid = mid} {line = line} c output is calm step rest) keeps apart =
       names_stay v mid line output keeps step (command_stays v mid output keeps c (calm_does v mid line output c is step).1) (apart_first rest (lines_keep v mid line output keeps step) apart)
 
-  pub runs_backed : {r : ℕ} {v w : Played} {since after : Since} {lines : List (List ℕ)} → Calmly r v since lines w after → Keeps v → NamesTellApart (named_bytes w.0) → IsBackedWorld v.0 v.1 → IsBackedWorld w.0 w.1
+  pub runs_backed : {r : ℕ} {v w : Played} {since after : Since} {lines : List (List ℕ)} → Calmly r v since lines w after → Invariant v → IsCollisionFree (named_bytes w.0) → IsBackedWorld v.0 v.1 → IsBackedWorld w.0 w.1
   runs_backed calmly_none keeps apart h = h
   runs_backed (calmly_more {w = v} {mid = mid} {line = line} c output is calm step rest) keeps apart h =
       let done = calm_does v mid line output c is step in

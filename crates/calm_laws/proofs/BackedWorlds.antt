@@ -1,4 +1,5 @@
--- A world with its story in which all is so, and what leaves it so: nodes that an ask changes, and one participant in place of another.
+-- A world with its ghost state in which all is so, and what leaves it so: nodes that an ask changes, and one participant in place of
+-- another.
 use Rattle.std.proofs.Common.{◌≡◌, ℕ, Bool, true, false, cond, List, [], ◌∷◌, map, find, Some, refl, sym, ap, ◌∙◌, subst, Contains}
 use Rattle.std.specs.List.{AllByRecursion}
 use Rattle.std.specs.Str.{bytes_eq}
@@ -6,24 +7,24 @@ use Rattle.log_model.specs.Record.{Record}
 use Rattle.ring_model.proofs.Lists.{all_weaker}
 use Rattle.dht_ids.specs.declared.post.Post.{Post}
 use Rattle.world_model.specs.World.{NamedSession, Participant, World, participant, with_participant}
-use Rattle.world_model.specs.Story.{Story, knowing_of, known_of}
+use Rattle.world_model.specs.GhostState.{GhostState, knowing_of, known_of}
 use Rattle.world_laws.proofs.Bringing.{found_named}
 use Rattle.world_laws.proofs.Placed.{same_name}
 use Rattle.calm_laws.proofs.HeldHeads.{AllHoldPut, more_hold}
 use Rattle.calm_laws.proofs.Stages.{IsEntryPut, SessionSo, more_entry, more_session}
 use Rattle.calm_laws.proofs.Backed.{IsBackedIn, in_more}
 
-abbrev pub AgentsBacked : World → Story → Type 0
+abbrev pub AgentsBacked : World → GhostState → Type 0
 AgentsBacked w st = (n : List ℕ) (p : Participant) → participant w n ≡ Some p → IsBackedIn w.met st.acked p (known_of st n)
 
 -- of each participant, the heads that it received
-abbrev pub AllReceived : List (List ℕ) → List Post → Story → Type 0
+abbrev pub AllReceived : List (List ℕ) → List Post → GhostState → Type 0
 AllReceived met acked st = (n : List ℕ) → AllByRecursion (IsEntryPut met acked) (knowing_of st n).received
 
-abbrev pub IsStagedIn : World → Story → NamedSession → Type 0
+abbrev pub IsStagedIn : World → GhostState → NamedSession → Type 0
 IsStagedIn w st s = SessionSo w.met st.acked s.session
 
-pub record IsBackedWorld (w : World) (st : Story) : Type 0 where
+pub record IsBackedWorld (w : World) (st : GhostState) : Type 0 where
   pub nodes : AllHoldPut w.met st.acked w.nodes
   pub agents : AgentsBacked w st
   pub sessions : AllByRecursion (IsStagedIn w st) w.sessions
@@ -32,22 +33,22 @@ pub record IsBackedWorld (w : World) (st : Story) : Type 0 where
 
 -- ---- the same participants, and more
 
-pub record IsLater (w : World) (st : Story) (v : World) (su : Story) : Type 0 where
+pub record IsLater (w : World) (st : GhostState) (v : World) (su : GhostState) : Type 0 where
   pub participants : v.participants ≡ w.participants
   pub known : (n : List ℕ) → known_of su n ≡ known_of st n
   pub met : (b : List ℕ) → Contains w.met b → Contains v.met b
   pub acked : (p : Post) → Contains st.acked p → Contains su.acked p
 
-agents_later : (w v : World) (st su : Story) → IsLater w st v su → AgentsBacked w st → AgentsBacked v su
+agents_later : (w v : World) (st su : GhostState) → IsLater w st v su → AgentsBacked w st → AgentsBacked v su
 agents_later w v st su l h n p is =
     subst (IsBackedIn v.met su.acked p) (sym (l.known n))
     (in_more w.met v.met st.acked su.acked p (known_of st n) (known_of st n) l.met l.acked (λ one c mine. c) (h n p (subst (λ ps. find (λ (x : Participant). bytes_eq x.name n) ps ≡ Some p) l.participants is)))
 
-pub sessions_later : (w v : World) (st su : Story) (ss : List NamedSession) → ((b : List ℕ) → Contains w.met b → Contains v.met b) → ((p : Post) → Contains st.acked p → Contains su.acked p) → AllByRecursion (IsStagedIn w st) ss → AllByRecursion (IsStagedIn v su) ss
+pub sessions_later : (w v : World) (st su : GhostState) (ss : List NamedSession) → ((b : List ℕ) → Contains w.met b → Contains v.met b) → ((p : Post) → Contains st.acked p → Contains su.acked p) → AllByRecursion (IsStagedIn w st) ss → AllByRecursion (IsStagedIn v su) ss
 sessions_later w v st su ss met acked h = all_weaker (IsStagedIn w st) (IsStagedIn v su) ss (λ s g. more_session w.met v.met st.acked su.acked met acked s.session g) h
 
 -- nodes and what was acknowledged are so then
-pub later_backed : (w v : World) (st su : Story) → IsLater w st v su → AllHoldPut v.met su.acked v.nodes → AllByRecursion (IsStagedIn w st) v.sessions → ((p : Post) → Contains su.acked p → Contains v.met p.bytes) → AllReceived v.met su.acked su → IsBackedWorld w st → IsBackedWorld v su
+pub later_backed : (w v : World) (st su : GhostState) → IsLater w st v su → AllHoldPut v.met su.acked v.nodes → AllByRecursion (IsStagedIn w st) v.sessions → ((p : Post) → Contains su.acked p → Contains v.met p.bytes) → AllReceived v.met su.acked su → IsBackedWorld w st → IsBackedWorld v su
 later_backed w v st su l nodes sessions put_met received h = record {
   nodes = nodes;
   agents = agents_later w v st su l h.agents;
@@ -68,7 +69,7 @@ found_back f same (p ∷ ps) n q is =
     by true h later = (p, refl, cc h)
     by false h later = later h
 
-module _ (w : World) (st su : Story) (p q : Participant) (met : List (List ℕ)) (named : q.name ≡ p.name) (meets : (b : List ℕ) → Contains w.met b → Contains met b) (set : List Record)
+module _ (w : World) (st su : GhostState) (p q : Participant) (met : List (List ℕ)) (named : q.name ≡ p.name) (meets : (b : List ℕ) → Contains w.met b → Contains met b) (set : List Record)
     (its : known_of su p.name ≡ set) (others : (n : List ℕ) → bytes_eq n p.name ≡ false → known_of su n ≡ known_of st n) (same_acked : su.acked ≡ st.acked) (same_received : (n : List ℕ) → (knowing_of su n).received ≡ (knowing_of st n).received) where
   abbrev put_in : Participant → Participant
   put_in o = cond (bytes_eq o.name q.name) q o

@@ -1,4 +1,5 @@
--- Which blocks may stand under a key: what was met under its name, and heads that left an agent under their owner's key. While names tell apart, no key has both.
+-- Which blocks may stand under a key: what was met under its name, and heads that left an agent under their owner's key. While no names
+-- collide, no key has both.
 use Rattle.std.proofs.Common.{◌≡◌, ℕ, Bool, true, false, cond, ◌&&◌, List, Some, None, refl, sym, ap, ◌∙◌, Contains, is_some}
 use Rattle.std.specs.Str.{bytes_eq}
 use Rattle.std.proofs.lemmas.Slice.Eq.{bytes_eq-Decides}
@@ -6,9 +7,9 @@ use Rattle.ivy_base.specs.declared.key.Key.{Key}
 use Rattle.ivy_base.specs.Naming.{head_key_of, name}
 use Rattle.dht_ids.specs.declared.judge.Judged.{Judged}
 use Rattle.dht_ids.specs.declared.post.Post.{Post}
-use Rattle.dhash_model.specs.Signed.{hss_judged, is_signed_head, signature_in, is_head as is_head_block}
-use Rattle.dhash_model.specs.declared.kind.Kind.{Kind}
-use Rattle.dhash_model.specs.declared.kind.Kind.TheVariants.{Content, Head}
+use Rattle.dhash_model.specs.Signed.{hss_judged, is_signed_head, signature_in, is_head_with as is_head_block}
+use Rattle.dhash_model.specs.declared.kind.BlockKind.{BlockKind}
+use Rattle.dhash_model.specs.declared.kind.BlockKind.TheVariants.{Content, Head}
 use Rattle.log_model.specs.Heads.{name_in, owner_in, seq_in}
 use Rattle.agent_model.specs.Agent.{is_head}
 use Rattle.dht_ids.specs.declared.ask.Ask.{Ask}
@@ -27,7 +28,7 @@ OfContent end key b = Contains end.met b × (name b ≡ key)
 abbrev pub OfHeads : World → Key → List ℕ → Type 0
 OfHeads end key b = Contains end.met b × IsLeft end b × (is_some (hss_judged key b) ≡ true)
 
-abbrev pub IsOf : World → Key → Kind → List ℕ → Type 0
+abbrev pub IsOf : World → Key → BlockKind → List ℕ → Type 0
 IsOf end = IsOfKind (OfContent end) (OfHeads end)
 
 abbrev pub FitsIn : World → Ask → Type 0
@@ -43,26 +44,26 @@ AreApart end = (key : Key) (b c : List ℕ) → OfContent end key b → OfHeads 
 pub fewer_apart : (w end : World) → IsMore w end → AreApart end → AreApart w
 fewer_apart w end more apart key b c content heads = apart key b c (more.met b content.0, content.1) (more.met c heads.0, more.left c heads.1, heads.2)
 
-pub one_kind : (end : World) → AreApart end → (key : Key) (a b : Kind) (x y : List ℕ) → IsOf end key a x → IsOf end key b y → a ≡ b
+pub one_kind : (end : World) → AreApart end → (key : Key) (a b : BlockKind) (x y : List ℕ) → IsOf end key a x → IsOf end key b y → a ≡ b
 one_kind end apart key Content Content x y h g = refl
 one_kind end apart key Content Head x y h g = absurd (apart key x y h g)
 one_kind end apart key Head Content x y h g = absurd (apart key y x g h)
 one_kind end apart key Head Head x y h g = refl
 
-pub of_more : (w end : World) → IsMore w end → (key : Key) (kind : Kind) (x : List ℕ) → IsOf w key kind x → IsOf end key kind x
+pub of_more : (w end : World) → IsMore w end → (key : Key) (kind : BlockKind) (x : List ℕ) → IsOf w key kind x → IsOf end key kind x
 of_more w end more key Content x h = (more.met x h.0, h.1)
 of_more w end more key Head x h = (more.met x h.0, more.left x h.1, h.2)
 
-pub is_met : (end : World) (key : Key) (kind : Kind) (x : List ℕ) → IsOf end key kind x → Contains end.met x
+pub is_met : (end : World) (key : Key) (kind : BlockKind) (x : List ℕ) → IsOf end key kind x → Contains end.met x
 is_met end key Content x h = h.0
 is_met end key Head x h = h.0
 
 -- what a node takes, where it has room
-abbrev pub IsFit : Kind → Key → List ℕ → Type 0
+abbrev pub IsFit : BlockKind → Key → List ℕ → Type 0
 IsFit Content key b = name b ≡ key
 IsFit Head key b = is_some (hss_judged key b) ≡ true
 
-pub of_fit : (end : World) (key : Key) (kind : Kind) (x : List ℕ) → IsOf end key kind x → IsFit kind key x
+pub of_fit : (end : World) (key : Key) (kind : BlockKind) (x : List ℕ) → IsOf end key kind x → IsFit kind key x
 of_fit end key Content x h = h.1
 of_fit end key Head x h = h.2
 
@@ -74,7 +75,7 @@ post_fits w end p more own = by (is_head p.kind) own.1
     by true h = λ is. (more.met p.bytes own.0, more.left p.bytes (h refl), is)
     by false h = λ is. (more.met p.bytes own.0, is)
 
-pub fit_of : (end : World) (kind : Kind) (key : Key) (x : List ℕ) → FitsIn end (question_as kind key x) → IsFit kind key x → IsOf end key kind x
+pub fit_of : (end : World) (kind : BlockKind) (key : Key) (x : List ℕ) → FitsIn end (question_as kind key x) → IsFit kind key x → IsOf end key kind x
 fit_of end Content key x f h = f h
 fit_of end Head key x f h = f h
 
@@ -99,6 +100,6 @@ judged_key key bytes some =
     ap (λ (x : List ℕ). record { 0 = x }) ((bytes_eq-Decides key.0 (head_key_of (owner_in bytes)).0).0 tested)
 
 -- so each block fits one key of a kind
-pub one_key : (kind : Kind) (j k : Key) (bytes : List ℕ) → IsFit kind j bytes → IsFit kind k bytes → j ≡ k
+pub one_key : (kind : BlockKind) (j k : Key) (bytes : List ℕ) → IsFit kind j bytes → IsFit kind k bytes → j ≡ k
 one_key Content j k bytes h g = sym h ∙ g
 one_key Head j k bytes h g = judged_key j bytes h ∙ sym (judged_key k bytes g)

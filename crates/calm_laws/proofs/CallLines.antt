@@ -3,26 +3,26 @@ use Rattle.std.proofs.Common.{◌≡◌, ℕ, Bool, true, false, cond, List, [],
 use Rattle.std.specs.Prelude.{is_some}
 use Rattle.std.specs.List.{AllByRecursion}
 use Rattle.std.specs.Str.{bytes_eq}
-use Rattle.ivy_base.specs.Naming.{NamesTellApart}
+use Rattle.ivy_base.specs.Naming.{IsCollisionFree}
 use Rattle.dhash_model.specs.Signed.{hss_judged}
 use Rattle.log_model.proofs.Lists.{each, each_append, each_from, from_filter}
 use Rattle.dht_ids.specs.declared.post.Post.{Post}
-use Rattle.session_model.specs.Courses.Begins.{alone as begins_alone, refreshes as begins_refreshing}
+use Rattle.session_model.specs.Executions.Begins.{alone as begins_alone, refreshes as begins_refreshing}
 use Rattle.session_model.specs.Sessions.{Said, Session}
 use Rattle.script_driver.specs.Run.{Goes}
 use Rattle.log_model.specs.View.{View}
 use Rattle.script_model.specs.declared.command.Piece.{Piece}
 use Rattle.script_model.specs.Messages.{message_of}
 use Rattle.script_model.specs.Words.{◌>>=◌}
-use Rattle.world_model.specs.Calls.{AsLine, BeginsWith, FinishLine, OpenLine, Sending, StepLine, replied, scene_of, sending_of}
+use Rattle.world_model.specs.Calls.{AsLine, BeginsWith, FinishLine, OpenLine, Sending, StepLine, replied, configuration_of, sending_of}
 use Rattle.world_model.specs.Calls.AsLine.{calls}
 use Rattle.world_model.specs.Calls.OpenLine.{opens}
 use Rattle.world_model.specs.Calls.StepLine.{steps}
 use Rattle.world_model.specs.Calls.FinishLine.{ends}
 use Rattle.world_model.specs.Logs.{Played}
-use Rattle.world_model.specs.Story.{Story, began_of, beginning, having_begun, without_began}
+use Rattle.world_model.specs.GhostState.{GhostState, began_of, beginning, having_begun, without_began}
 use Rattle.world_model.specs.World.{NamedSession, Participant, World, named_bytes, participant, session_named, without_session}
-use Rattle.world_laws.specs.Keeps.{Keeps}
+use Rattle.world_laws.specs.Invariant.{Invariant}
 use Rattle.world_laws.proofs.Beginning.{calls_begin}
 use Rattle.world_laws.proofs.Bringing.{found_named}
 use Rattle.world_laws.proofs.OneCalls.{begins_by, found_session, replied_named}
@@ -30,7 +30,7 @@ use Rattle.world_laws.proofs.OneSteps.{GoesWell}
 use Rattle.world_laws.proofs.OpenSessions.{begun_keeps, named_hand}
 use Rattle.calm_laws.proofs.Stages.{SessionSo}
 use Rattle.calm_laws.proofs.BackedWorlds.{IsBackedWorld, IsStagedIn}
-use Rattle.calm_laws.proofs.BackedSteps.{SceneSo, runs_so, steps_so}
+use Rattle.calm_laws.proofs.BackedSteps.{ConfigurationSo, runs_so, steps_so}
 
 -- who sends, and from which view
 abbrev pub IsSentBy : World → List ℕ → Sending → Type 0
@@ -65,7 +65,7 @@ begins_stage : (met : List (List ℕ)) (acked : List Post) (w : World) (s : Send
 begins_stage met acked w s _ (begins_alone given by) = (tt, tt)
 begins_stage met acked w s _ (begins_refreshing xid asked asks) = (tt, tt)
 
-replied_so : (w : World) (st : Story) (said : Said) → IsBackedWorld w st → IsBackedWorld (replied w said) st
+replied_so : (w : World) (st : GhostState) (said : Said) → IsBackedWorld w st → IsBackedWorld (replied w said) st
 replied_so w st said h = by (is_some said.message)
   where
     by : (b : Bool) → IsBackedWorld (cond b (record w { replies = w.replies ++ record { handle = said.handle; verifier = said.verifier } ∷ [] }) w) st
@@ -81,9 +81,9 @@ placed_so met acked name s (x ∷ xs) h all = (by (bytes_eq x.name name), placed
     by true = h
     by false = all.0
 
-module _ (w : Played) (keeps : Keeps w) (h : IsBackedWorld w.0 w.1) where
+module _ (w : Played) (keeps : Invariant w) (h : IsBackedWorld w.0 w.1) where
   pub begun_well : (r : ℕ) → w.0.replicas ≡ Some r → (log : List ℕ) (pieces : List Piece) (s : Sending) → sending_of w.0 log pieces ≡ Some s → (t : Session) → BeginsWith w.0 s t
-      → GoesWell r (record { world = w.0; story = having_begun w.1; session = t; began = beginning w.1 s.by.name })
+      → GoesWell r (record { world = w.0; ghost_state = having_begun w.1; session = t; began = beginning w.1 s.by.name })
   begun_well r ringed log pieces s sends t begins =
       let sent : IsSentBy w.0 log s = sent_by w.0 log pieces s sends in record {
         keeps = begun_keeps w keeps r ringed;
@@ -91,16 +91,16 @@ module _ (w : Played) (keeps : Keeps w) (h : IsBackedWorld w.0 w.1) where
         ringed = ringed;
       }
 
-  pub open_well : (r : ℕ) → w.0.replicas ≡ Some r → (name : List ℕ) (s : Session) → session_named w.0 name ≡ Some s → GoesWell r (scene_of w s (began_of w.1 name))
+  pub open_well : (r : ℕ) → w.0.replicas ≡ Some r → (name : List ℕ) (s : Session) → session_named w.0 name ≡ Some s → GoesWell r (configuration_of w s (began_of w.1 name))
   open_well r ringed name s is = record { keeps = keeps; hand = (named_hand w keeps r ringed name s is).0; ringed = ringed }
 
   begun_so : IsBackedWorld w.0 (having_begun w.1)
   begun_so = record { nodes = h.nodes; agents = h.agents; sessions = h.sessions; put_met = h.put_met; received = h.received }
 
-  pub as_so : (log : List ℕ) (pieces : List Piece) (o : Option Sending) → sending_of w.0 log pieces ≡ o → (next : Played) (output : List ℕ) → AsLine hss_judged w o (Goes next output) → NamesTellApart (named_bytes next.0) → IsBackedWorld next.0 next.1
+  pub as_so : (log : List ℕ) (pieces : List Piece) (o : Option Sending) → sending_of w.0 log pieces ≡ o → (next : Played) (output : List ℕ) → AsLine hss_judged w o (Goes next output) → IsCollisionFree (named_bytes next.0) → IsBackedWorld next.0 next.1
   as_so log pieces _ sends _ _ (calls s r t end said ringed begins runs over) apart =
-      replied_so end.world end.story said
-      (runs_so r runs (begins_by w.0 s t begins) (begun_well r ringed log pieces s sends t begins) (subst NamesTellApart (replied_named end.world said) apart) (begun_so, begins_stage w.0.met w.1.acked w.0 s t begins)).0
+      replied_so end.world end.ghost_state said
+      (runs_so r runs (begins_by w.0 s t begins) (begun_well r ringed log pieces s sends t begins) (subst IsCollisionFree (replied_named end.world said) apart) (begun_so, begins_stage w.0.met w.1.acked w.0 s t begins)).0
 
   pub open_so : (name : List ℕ) (o : Option Sending) (next : Played) (output : List ℕ) → OpenLine hss_judged w name o (Goes next output) → IsBackedWorld next.0 next.1
   open_so name _ _ _ (opens s t closed begins) = record {
@@ -111,21 +111,21 @@ module _ (w : Played) (keeps : Keeps w) (h : IsBackedWorld w.0 w.1) where
     received = h.received;
   }
 
-  named_so : (name : List ℕ) (s : Session) → session_named w.0 name ≡ Some s → SceneSo (scene_of w s (began_of w.1 name))
+  named_so : (name : List ℕ) (s : Session) → session_named w.0 name ≡ Some s → ConfigurationSo (configuration_of w s (began_of w.1 name))
   named_so name s is = let x = found_session w.0.sessions name s is in (h, subst (λ (t : Session). SessionSo w.0.met w.1.acked t) x.3 (each (IsStagedIn w.0 w.1) w.0.sessions x.0 h.sessions x.1))
 
-  pub step_so : (name : List ℕ) (count : ℕ) (o : Option Session) → session_named w.0 name ≡ o → (next : Played) (output : List ℕ) → StepLine hss_judged w name count o (Goes next output) → NamesTellApart (named_bytes next.0) → IsBackedWorld next.0 next.1
+  pub step_so : (name : List ℕ) (count : ℕ) (o : Option Session) → session_named w.0 name ≡ o → (next : Played) (output : List ℕ) → StepLine hss_judged w name count o (Goes next output) → IsCollisionFree (named_bytes next.0) → IsBackedWorld next.0 next.1
   step_so name count _ is _ _ (steps s r end counts ringed on) apart =
       let done = steps_so r on refl (open_well r ringed name s is) apart (named_so name s is) in
-      record { nodes = done.0.nodes; agents = done.0.agents; sessions = placed_so end.world.met end.story.acked name end.session end.world.sessions done.1 done.0.sessions; put_met = done.0.put_met; received = done.0.received }
+      record { nodes = done.0.nodes; agents = done.0.agents; sessions = placed_so end.world.met end.ghost_state.acked name end.session end.world.sessions done.1 done.0.sessions; put_met = done.0.put_met; received = done.0.received }
 
-  pub finish_so : (name : List ℕ) (o : Option Session) → session_named w.0 name ≡ o → (next : Played) (output : List ℕ) → FinishLine hss_judged w name o (Goes next output) → NamesTellApart (named_bytes next.0) → IsBackedWorld next.0 next.1
+  pub finish_so : (name : List ℕ) (o : Option Session) → session_named w.0 name ≡ o → (next : Played) (output : List ℕ) → FinishLine hss_judged w name o (Goes next output) → IsCollisionFree (named_bytes next.0) → IsBackedWorld next.0 next.1
   finish_so name _ is _ _ (ends s r end said ringed runs over) apart =
-      let done = runs_so r runs refl (open_well r ringed name s is) (subst NamesTellApart (replied_named (without_session end.world name) said) apart) (named_so name s is) in
-      replied_so (without_session end.world name) (without_began end.story name) said (record {
+      let done = runs_so r runs refl (open_well r ringed name s is) (subst IsCollisionFree (replied_named (without_session end.world name) said) apart) (named_so name s is) in
+      replied_so (without_session end.world name) (without_began end.ghost_state name) said (record {
         nodes = done.0.nodes;
         agents = done.0.agents;
-        sessions = each_from (IsStagedIn end.world end.story) (without_session end.world name).sessions (λ s c. each (IsStagedIn end.world end.story) end.world.sessions s done.0.sessions (from_filter _ end.world.sessions s c).0);
+        sessions = each_from (IsStagedIn end.world end.ghost_state) (without_session end.world name).sessions (λ s c. each (IsStagedIn end.world end.ghost_state) end.world.sessions s done.0.sessions (from_filter _ end.world.sessions s c).0);
         put_met = done.0.put_met;
         received = done.0.received;
       })

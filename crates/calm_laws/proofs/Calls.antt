@@ -7,7 +7,7 @@ use Rattle.std.specs.FinMap.Entries.{find as value_at}
 use Rattle.std.proofs.lemmas.List.{append-nil}
 use Rattle.ivy_base.specs.declared.key.Key.{Key}
 use Rattle.ivy_base.specs.declared.key.PubKey.{PubKey}
-use Rattle.ivy_base.specs.Naming.{NamesTellApart, head_key_of, key_cmp, name}
+use Rattle.ivy_base.specs.Naming.{IsCollisionFree, head_key_of, key_cmp, name}
 use Rattle.tree_model.specs.Tree.{same_key}
 use Rattle.tree_model.proofs.Keys.{same_key_itself}
 use Rattle.ring_model.specs.Circle.{number}
@@ -32,14 +32,14 @@ use Rattle.dhash_model.specs.GetBlock.{IsGetOfBlock}
 use Rattle.dhash_model.specs.GetHead.{IsGetOfHead}
 use Rattle.dhash_model.specs.declared.miss.Miss.{Miss}
 use Rattle.dhash_model.specs.Stores.{Block}
-use Rattle.dhash_model.specs.declared.kind.Kind.{Kind}
-use Rattle.dhash_model.specs.declared.kind.Kind.TheVariants.{Content, Head}
+use Rattle.dhash_model.specs.declared.kind.BlockKind.{BlockKind}
+use Rattle.dhash_model.specs.declared.kind.BlockKind.TheVariants.{Content, Head}
 use Rattle.agent_model.specs.Agent.{is_head, record_post}
 use Rattle.log_model.specs.declared.chain_fault.ChainFault.{ChainFault}
 use Rattle.log_model.specs.Fetched.{Edge}
 use Rattle.agent_model.specs.Standing.{Chain, Refresh, Standing}
-use Rattle.session_model.specs.Brought.{BlockOf, Brought, HeadsOf, Want, brought_in, stamp_of}
-use Rattle.session_model.specs.Brought.Want.{Content as wants_content, Heads as wants_heads}
+use Rattle.session_model.specs.Brought.{BlockOf, Brought, HeadsOf, WantedOfRing, brought_in, stamp_of}
+use Rattle.session_model.specs.Brought.WantedOfRing.{Content as wants_content, Heads as wants_heads}
 use Rattle.session_model.specs.Refreshing.{FailsBy, Fetches, FetchesAll, Needs, Note, RefreshEnd, Refreshes, end_of_log}
 use Rattle.session_model.specs.Refreshing.Fetches.{no_heads, of_heads, of_own, wants_heads as fetch_heads}
 use Rattle.session_model.specs.Refreshing.FetchesAll.{all as fetches_all, goes_on as fetches_on, stays as fetches_stay}
@@ -51,7 +51,7 @@ use Rattle.session_model.specs.Sessions.Hears.{gets_on, got, puts, puts_on}
 use Rattle.session_model.specs.Sessions.Gets.{content as got_content, heads as got_heads}
 use Rattle.session_model.specs.Sessions.Takes.{cached, posted}
 use Rattle.session_model.specs.Sessions.TakesAll.{more as takes_more, none as takes_none}
-use Rattle.world_model.specs.Agents.{own}
+use Rattle.world_model.specs.Agents.{own_hss_key}
 use Rattle.world_model.specs.Nodes.{Node}
 use Rattle.world_model.specs.World.{Participant, World, node_at, peer_of}
 use Rattle.world_model.specs.Fates.{FateOf, asking}
@@ -90,7 +90,7 @@ found_some test (y ∷ xs) x c so none = by (test y) refl none (λ later. found_
         differ : test x ≡ false → ⊥
         differ g = cc (sym so ∙ g)
 
--- a record among the posts is at hand
+-- a record among the posts is available
 posted_so : (posts : List Post) (one : Record) → Contains posts (record_post one) → pending_block one.name posts ≡ None → ⊥
 posted_so posts one c none = found_some (λ (p : Post). not (is_head p.kind) && same_key p.key one.name) posts (record_post one) c (same_key_itself one.name) (not_found (find (λ (p : Post). not (is_head p.kind) && same_key p.key one.name) posts) none)
   where
@@ -98,7 +98,7 @@ posted_so posts one c none = found_some (λ (p : Post). not (is_head p.kind) && 
     not_found None e = refl
     not_found (Some p) e = cc e
 
-module _ (r : ℕ) (w : Played) (world : IsCalmWorld r w) (backed : IsBackedWorld w.0 w.1) (apart : NamesTellApart w.0.met) (have : HaveHeads w) where
+module _ (r : ℕ) (w : Played) (world : IsCalmWorld r w) (backed : IsBackedWorld w.0 w.1) (apart : IsCollisionFree w.0.met) (have : HaveHeads w) where
   abbrev Ring : Stretch
   Ring = ring_of r w world
 
@@ -108,7 +108,7 @@ module _ (r : ℕ) (w : Played) (world : IsCalmWorld r w) (backed : IsBackedWorl
   abbrev pub AllKinds : World → Type 0
   AllKinds v = AreOrderly w.0 v
 
-  abbrev Owned : Key → Kind → Type 0
+  abbrev Owned : Key → BlockKind → Type 0
   Owned key kind = IsOwnedAs Ring w.0 key kind 0
 
   abbrev Got : List Heard → Type 0
@@ -116,7 +116,7 @@ module _ (r : ℕ) (w : Played) (world : IsCalmWorld r w) (backed : IsBackedWorl
 
   -- ---- who holds what was put
 
-  any_rank : (key : Key) (kind : Kind) (least : ℕ) (m : Peer) → IsHeld w.0 key kind least m → IsHeld w.0 key kind 0 m
+  any_rank : (key : Key) (kind : BlockKind) (least : ℕ) (m : Peer) → IsHeld w.0 key kind least m → IsHeld w.0 key kind 0 m
   any_rank key kind least m h = (h.0, h.1, h.2, omega arith)
 
   node_holds : (key : Key) (m : Peer) (c : Block) → held_in w.0 key m ≡ Some c → (n : Node) × (node_at w.0 m.id ≡ Some n) × (under key n ≡ Some c)
@@ -154,7 +154,7 @@ module _ (r : ℕ) (w : Played) (world : IsCalmWorld r w) (backed : IsBackedWorl
       by true e = absurd (no_head_there one spelled (block_met one put) ack.owner 0 (at_name true e))
       by false e = record { owner = ack.owner; owns = subst (λ k. IsAmong ack.owner (owners place Ring.r (order_by Ring.base) (number k))) put.2 ack.owns; holds = at_name false e }
 
-  head_owned : (q : Participant) → Contains w.0.participants q → Owned (head_key_of (own q.agent)) Head
+  head_owned : (q : Participant) → Contains w.0.participants q → Owned (head_key_of (own_hss_key q.agent)) Head
   head_owned q among =
       let put = have q among in
       let ack = ack_held put.0 put.1 in
@@ -172,9 +172,9 @@ module _ (r : ℕ) (w : Played) (world : IsCalmWorld r w) (backed : IsBackedWorl
       (block_met one put, sym spelled.named) (λ b c. apart b (record_block one) c.0 (block_met one put) (c.1 ∙ spelled.named)) get
 
   pub head_got : (v : World) → IsRinged v → (q : Participant) → Contains w.0.participants q → (trail : List Heard) (came : Result (List Judged) Miss) → Got trail
-      → IsGetOfHead (hss_judged (head_key_of (own q.agent))) (head_key_of (own q.agent)) r (entries_by Ring.base) trail came → (heads : List Judged) × (came ≡ Ok heads)
+      → IsGetOfHead (hss_judged (head_key_of (own_hss_key q.agent))) (head_key_of (own_hss_key q.agent)) r (entries_by Ring.base) trail came → (heads : List Judged) × (came ≡ Ok heads)
   head_got v ring q among trail came so get =
-      let given = head_given Ring w.0 v (head_key_of (own q.agent)) 0 trail came (head_owned q among) ring so get in
+      let given = head_given Ring w.0 v (head_key_of (own_hss_key q.agent)) 0 trail came (head_owned q among) ring so get in
       (given.heads, given.came_is)
 
   -- one ask of a get
@@ -214,7 +214,7 @@ module _ (r : ℕ) (w : Played) (world : IsCalmWorld r w) (backed : IsBackedWorl
     pub unposted : s.current ≢ [] → (key : Key) → Wants hss_judged r s (wants_content key) → pending_block key s.standing.pending ≡ None
     pub parts : AllByRecursion (PartKept s.standing.pending) (brought_in s.parts)
     pub floor : FloorSo w.1.acked s.standing.pending s.standing s.standing.view.members
-    pub members : (owner : PubKey) → Contains s.standing.view.members owner → (q : Participant) × Contains w.0.participants q × (own q.agent ≡ owner)
+    pub members : (owner : PubKey) → Contains s.standing.view.members owner → (q : Participant) × Contains w.0.participants q × (own_hss_key q.agent ≡ owner)
     pub entries : s.entries ≡ entries_by Ring.base
 
   with_part_so : (s : Session) (b : Brought) (asks : List Heard) → IsFetched s → PartKept s.standing.pending b → IsFetched (with_part s b asks)
@@ -240,9 +240,9 @@ module _ (r : ℕ) (w : Played) (world : IsCalmWorld r w) (backed : IsBackedWorl
   takes_end (takes_none none) = none
   takes_end (takes_more one rest) = takes_end rest
 
-  -- what is asked for isn't at hand
-  pub not_at_hand : {s t : Session} {cache after : Cache} → TakesAll hss_judged r s cache t after → IsFetched t → (key : Key) → Wants hss_judged r t (wants_content key) → pending_block key t.standing.pending ≡ None
-  not_at_hand {t = t} {after = after} takes h key wants = by t.current refl
+  -- what is asked for isn't available
+  pub not_available : {s t : Session} {cache after : Cache} → TakesAll hss_judged r s cache t after → IsFetched t → (key : Key) → Wants hss_judged r t (wants_content key) → pending_block key t.standing.pending ≡ None
+  not_available {t = t} {after = after} takes h key wants = by t.current refl
     where
       none_posted : t.current ≡ [] → (o : Option (List ℕ)) → pending_block key t.standing.pending ≡ o → o ≡ None
       none_posted empty None e = refl
@@ -262,10 +262,10 @@ module _ (r : ℕ) (w : Played) (world : IsCalmWorld r w) (backed : IsBackedWorl
 
   -- ---- one ask
 
-  module _ (clear : (q : Participant) → Contains w.0.participants q → (b : List ℕ) → Contains w.0.met b → name b ≡ head_key_of (own q.agent) → ⊥) where
+  module _ (clear : (q : Participant) → Contains w.0.participants q → (b : List ℕ) → Contains w.0.met b → name b ≡ head_key_of (own_hss_key q.agent) → ⊥) where
     -- what a get brings is so
     brought_kept : (s : Session) → IsFetched s → ((key : Key) → Wants hss_judged r s (wants_content key) → pending_block key s.standing.pending ≡ None) → ((owner : PubKey) → Wants hss_judged r s (wants_heads owner) → Contains s.standing.view.members owner)
-        → (v : World) → IsRinged v → (want : Want) → Wants hss_judged r s want → (trail : List Heard) (b : Brought) → Gets hss_judged r (entries_by Ring.base) want trail b → Got trail → AllByRecursion (IsHeardPut w.0.met w.1.acked) trail → PartKept s.standing.pending b
+        → (v : World) → IsRinged v → (want : WantedOfRing) → Wants hss_judged r s want → (trail : List Heard) (b : Brought) → Gets hss_judged r (entries_by Ring.base) want trail b → Got trail → AllByRecursion (IsHeardPut w.0.met w.1.acked) trail → PartKept s.standing.pending b
     brought_kept s h unposted member v ring _ wants trail _ (got_heads {owner = owner} came get) so heard =
         let q = h.members owner (member owner wants) in
         let at : (heads : List Judged) × (came ≡ Ok heads) = head_got v ring q.0 q.1 trail came so (subst (λ o. IsGetOfHead (hss_judged (head_key_of o)) (head_key_of o) r (entries_by Ring.base) trail came) (sym q.2) get) in

@@ -5,7 +5,7 @@ use Rattle.std.proofs.lemmas.Bool.{lt-ltb}
 use Rattle.ivy_base.specs.declared.key.Key.{Key}
 use Rattle.ivy_base.specs.declared.key.PubKey.{PubKey}
 use Rattle.ivy_base.specs.declared.operation.Moment.{Moment}
-use Rattle.ivy_base.specs.Naming.{NamesTellApart, head_key_of, name}
+use Rattle.ivy_base.specs.Naming.{IsCollisionFree, head_key_of, name}
 use Rattle.dhash_model.specs.Signed.{hss_judged}
 use Rattle.log_heads.specs.Signed.{IsSignedHead}
 use Rattle.log_heads.proofs.SignedHeads.{signed_heads}
@@ -14,22 +14,22 @@ use Rattle.log_model.specs.Spelling.{IsMoment, head_block, head_tag}
 use Rattle.log_model.specs.Vector.{Stamp}
 use Rattle.wire_model.specs.Xdr.{opaque, word}
 use Rattle.wire_model.proofs.OneReading.{same_fronts}
-use Rattle.hash_signature_model.specs.Signer.{Signer, hss_key_of, owner_of}
+use Rattle.hash_signature_model.specs.Signer.{Signer, hss_key_of, public_key_of as owner_of}
 use Rattle.dht_ids.specs.declared.judge.Judged.{Judged}
 use Rattle.dht_ids.specs.declared.post.Post.{Post}
 use Rattle.agent_model.specs.Agent.{is_head}
-use Rattle.dhash_model.specs.declared.kind.Kind.TheVariants.{Content, Head}
+use Rattle.dhash_model.specs.declared.kind.BlockKind.TheVariants.{Content, Head}
 use Rattle.script_driver.specs.Run.{Goes}
 use Rattle.script_model.specs.declared.command.Command.TheVariants as command
-use Rattle.world_model.specs.Agents.{own}
+use Rattle.world_model.specs.Agents.{own_hss_key as own}
 use Rattle.world_model.specs.World.{Participant, empty_world, named_bytes}
-use Rattle.world_model.specs.Story.{empty_story}
+use Rattle.world_model.specs.GhostState.{empty_ghost_state}
 use Rattle.world_model.specs.Logs.{Played, beside, goes_if}
 use Rattle.world_model.specs.Ring.{RingLine}
-use Rattle.world_model.specs.Holding.{rank}
+use Rattle.world_model.specs.Holding.{block_rank}
 use Rattle.calm_laws.specs.Calm.{Calmly, IsCalmAt, Since, Stopped, post_rank}
 use Rattle.calm_laws.specs.Calm.Calmly.{none as calmly_none, more as calmly_more}
-use Rattle.world_laws.specs.Keeps.{IsKeptSo, Keeps, SignsOnce, sealed_with}
+use Rattle.world_laws.specs.Invariant.{IsKeptSo, Invariant, SignsOnce, sealed_with}
 use Rattle.world_laws.specs.Laws.{LinesKeep}
 use Rattle.world_laws.proofs.Bringing.{found_named}
 use Rattle.world_laws.proofs.FirstWorld.{empty_keeps}
@@ -41,28 +41,28 @@ use Rattle.world_laws.proofs.SignedHeads.{from_map}
 use Rattle.calm_laws.proofs.CalmPuts.{block_of}
 use Rattle.calm_laws.proofs.CalmStates.{IsLeft}
 
--- ---- the world keeps what it should
+-- ---- the invariant holds of the world
 
 fits_clock : (now : Moment) → IsMoment now → (nat_lt now.sec 4294967296 && nat_lt now.nsec 1000000000) ≡ true
 fits_clock now h = both (nat_lt now.sec 4294967296) (nat_lt now.nsec 1000000000) (lt-ltb now.sec 4294967296 h.sec) (lt-ltb now.nsec 1000000000 h.nsec)
 
 -- before its ring is made
-pub moment_keeps : (now : Moment) → IsMoment now → Keeps (record empty_world { now = now }, empty_story)
+pub moment_keeps : (now : Moment) → IsMoment now → Invariant (record empty_world { now = now }, empty_ghost_state)
 moment_keeps now h =
-    let next : Played = (record empty_world { now = now }, empty_story) in
-    still_lines_keep (command.At now.sec now.nsec) tt (empty_world, empty_story) next [] empty_keeps
-    (sym (ap (λ b. beside empty_story (goes_if b (record empty_world { now = now }))) (fits_clock now h)))
+    let next : Played = (record empty_world { now = now }, empty_ghost_state) in
+    still_lines_keep (command.At now.sec now.nsec) tt (empty_world, empty_ghost_state) next [] empty_keeps
+    (sym (ap (λ b. beside empty_ghost_state (goes_if b (record empty_world { now = now }))) (fits_clock now h)))
 
-calm_keeps : {r : ℕ} {v w : Played} {since after : Since} {lines : List (List ℕ)} → LinesKeep → Calmly r v since lines w after → Keeps v → Keeps w
+calm_keeps : {r : ℕ} {v w : Played} {since after : Since} {lines : List (List ℕ)} → LinesKeep → Calmly r v since lines w after → Invariant v → Invariant w
 calm_keeps lines_keep calmly_none keeps = keeps
 calm_keeps lines_keep (calmly_more {w = v} {mid = mid} {line = line} c output is calm step rest) keeps = calm_keeps lines_keep rest (lines_keep v mid line output keeps step)
 
-pub calmly_keeps : LinesKeep → (r : ℕ) (w : Played) (since : Since) (lines : List (List ℕ)) → IsCalmAt r w since lines → Keeps w
+pub calmly_keeps : LinesKeep → (r : ℕ) (w : Played) (since : Since) (lines : List (List ℕ)) → IsCalmAt r w since lines → Invariant w
 calmly_keeps lines_keep r w since lines calm =
-    let before : Played = (record empty_world { now = calm.fresh.0 }, empty_story) in
+    let before : Played = (record empty_world { now = calm.fresh.0 }, empty_ghost_state) in
     let rings : RingLine before.0 calm.count r (Goes calm.made []) = subst (λ (v : Played). RingLine v.0 calm.count r (Goes calm.made [])) calm.fresh.2 calm.rings in
-    let calmly : Calmly r (calm.made, empty_story) (Stopped 0) lines w since = subst (λ (v : Played). Calmly r (calm.made, v.1) (Stopped 0) lines w since) calm.fresh.2 calm.calmly in
-    calm_keeps lines_keep calmly (ring_lines_keep calm.count r before (calm.made, empty_story) [] (moment_keeps calm.fresh.0 calm.fresh.1) (Goes calm.made [], rings, refl))
+    let calmly : Calmly r (calm.made, empty_ghost_state) (Stopped 0) lines w since = subst (λ (v : Played). Calmly r (calm.made, v.1) (Stopped 0) lines w since) calm.fresh.2 calm.calmly in
+    calm_keeps lines_keep calmly (ring_lines_keep calm.count r before (calm.made, empty_ghost_state) [] (moment_keeps calm.fresh.0 calm.fresh.1) (Goes calm.made [], rings, refl))
 
 -- ---- content and heads have keys of their own
 
@@ -86,7 +86,7 @@ owner_told o u s t a b size other same = tail_of o.0 u.0 (same_fronts (tagged o)
     whole p x c = append_assoc (tagged p ++ word x.seq) x.name.0 (opaque c) ∙ append_assoc (tagged p) (word x.seq) (x.name.0 ++ opaque c)
 
 -- a head that left a participant is under its key alone
-left_under : (w : Played) (p : Participant) (h : List ℕ) (key : Key) → Keeps w → Contains w.0.participants p → Contains p.left h → is_some (hss_judged key h) ≡ true → key ≡ head_key_of (own p.agent)
+left_under : (w : Played) (p : Participant) (h : List ℕ) (key : Key) → Invariant w → Contains w.0.participants p → Contains p.left h → is_some (hss_judged key h) ≡ true → key ≡ head_key_of (own p.agent)
 left_under w p h key keeps p_in among judged = by (hss_judged key h) refl judged
   where
     so : IsKeptSo SignsOnce p
@@ -101,7 +101,7 @@ left_under w p h key keeps p_in among judged = by (hss_judged key h) refl judged
         let owned : signed.owner.0 ≡ owner_of so.0.signer = owner_told signed.owner (record { 0 = owner_of so.0.signer }) _ found.0.1 _ _ signed.head.owner_is_key.size key_size.size (sym signed.head.spelled ∙ found.2) in
         signed.key_is ∙ (λ i. head_key_of (record { 0 = owned i })) ∙ (λ i. head_key_of (record { 0 = same_key so.0.signer p.agent.signer so.3.same i }))
 
-pub apart_of : (w : Played) → Keeps w → NamesTellApart (named_bytes w.0) → ((p : Participant) → Contains w.0.participants p → Contains w.0.met (own p.agent).0 → ⊥)
+pub apart_of : (w : Played) → Invariant w → IsCollisionFree (named_bytes w.0) → ((p : Participant) → Contains w.0.participants p → Contains w.0.met (own p.agent).0 → ⊥)
     → (key : Key) (b c : List ℕ) → Contains w.0.met b → name b ≡ key → IsLeft w.0 c → is_some (hss_judged key c) ≡ true → ⊥
 apart_of w keeps names no_key key b c met named left judged =
     let p_in = (found_named w.0.participants left.0 left.1 left.2).0 in
@@ -112,10 +112,10 @@ apart_of w keeps names no_key key b c met named left judged =
 -- ---- ranks
 
 -- the rank of a post is that of its block
-pub post_rank_is : (p : Post) → post_rank p ≡ rank hss_judged p.key (block_of p)
+pub post_rank_is : (p : Post) → post_rank p ≡ block_rank hss_judged p.key (block_of p)
 post_rank_is p = by (is_head p.kind) (hss_judged p.key p.bytes) refl
   where
-    by : (b : Bool) (o : Option Judged) → hss_judged p.key p.bytes ≡ o → cond b (option_map_or (λ (j : Judged). j.seq) (hss_judged p.key p.bytes) 0) 0 ≡ rank hss_judged p.key (record { kind = cond b Head Content; bytes = p.bytes })
+    by : (b : Bool) (o : Option Judged) → hss_judged p.key p.bytes ≡ o → cond b (option_map_or (λ (j : Judged). j.seq) (hss_judged p.key p.bytes) 0) 0 ≡ block_rank hss_judged p.key (record { kind = cond b Head Content; bytes = p.bytes })
     by false o e = refl
     by true o e = head_rank (hss_judged p.key p.bytes)
       where

@@ -18,14 +18,14 @@ use Rattle.dht_ids.specs.declared.ask.StoreFault.{StoreFault}
 use Rattle.dht_ids.specs.declared.peer.Peer.{Peer}
 use Rattle.dhash_model.specs.Puts.{is_of_put}
 use Rattle.dhash_model.specs.Stores.{Block, content, content_fault, head, head_fault}
-use Rattle.dhash_model.specs.declared.kind.Kind.{Kind}
-use Rattle.dhash_model.specs.declared.kind.Kind.TheVariants.{Content, Head}
+use Rattle.dhash_model.specs.declared.kind.BlockKind.{BlockKind}
+use Rattle.dhash_model.specs.declared.kind.BlockKind.TheVariants.{Content, Head}
 use Rattle.world_model.specs.Nodes.{Node, answered, stored}
 use Rattle.world_model.specs.World.{World}
 use Rattle.world_model.specs.Fates.{FateOf}
 use Rattle.world_model.specs.Fates.FateOf.{lost, stopped, answers}
 use Rattle.world_model.specs.Rounds.{question_as}
-use Rattle.world_model.specs.Holding.{held_in, rank}
+use Rattle.world_model.specs.Holding.{held_in, block_rank}
 use Rattle.round_laws.specs.RingOf.{AreApart, links_in}
 use Rattle.round_laws.proofs.Nodes.{Shape, made_by}
 use Rattle.round_laws.proofs.Standing.{IsBase, IsWithin, KeepsRing, fated, still_asked}
@@ -84,15 +84,15 @@ asked_rings w next to question given for_data fate r base links start known h =
     let a = still_asked hss_judged r base [] start start b w next to question given h.within (keeps_ring question for_data) (fated hss_judged r base [] start start b w next to question given h.within fate) in
     record { within = a.within; linked = a.links ∙ h.linked; replicas = fate_replicas fate ∙ h.replicas }
 
-abbrev pub IsIn : Key → Kind → ℕ → Option Block → Type 0
-IsIn key kind least o = (c : Block) × (o ≡ Some c) × (c.kind ≡ kind) × (least ≤ rank hss_judged key c)
+abbrev pub IsIn : Key → BlockKind → ℕ → Option Block → Type 0
+IsIn key kind least o = (c : Block) × (o ≡ Some c) × (c.kind ≡ kind) × (least ≤ block_rank hss_judged key c)
 
-abbrev pub IsHeld : World → Key → Kind → ℕ → Peer → Type 0
+abbrev pub IsHeld : World → Key → BlockKind → ℕ → Peer → Type 0
 IsHeld w key kind least p = IsIn key kind least (held_in w key p)
 
 -- what is held stays
 abbrev pub HeldStays : World → World → Type 0
-HeldStays w next = (key : Key) (kind : Kind) (least : ℕ) (p : Peer) → IsHeld w key kind least p → IsHeld next key kind least p
+HeldStays w next = (key : Key) (kind : BlockKind) (least : ℕ) (p : Peer) → IsHeld w key kind least p → IsHeld next key kind least p
 
 pub raised_to : (f : Block → ℕ) (o : Option Block) (v w : ℕ) → option_map f o ≡ raised v (Some w) → (c : Block) × (o ≡ Some c) × (v ≤ f c) × (w ≤ f c)
 raised_to f o v w e = by o (nat_lt w v) refl e
@@ -112,13 +112,13 @@ stored_answers : (n : Node) (key : Key) (block : Block) (fault : Option StoreFau
 stored_answers n key block (Some f) = refl
 stored_answers n key block None = refl
 
-pub put_answers : (kind : Kind) (key : Key) (bytes : List ℕ) (n : Node) → is_of_put (answered hss_judged n (question_as kind key bytes)).0 ≡ true
+pub put_answers : (kind : BlockKind) (key : Key) (bytes : List ℕ) (n : Node) → is_of_put (answered hss_judged n (question_as kind key bytes)).0 ≡ true
 put_answers Content key bytes n = stored_answers n key (content bytes) (content_fault key bytes n.blocks)
 put_answers Head key bytes n = stored_answers n key (head bytes) (head_fault hss_judged key bytes n.blocks)
 
 -- blocks that may stand under a key as content, and as heads
 module _ (OfContent OfHeads : Key → List ℕ → Type 0) where
-  abbrev pub IsOfKind : Key → Kind → List ℕ → Type 0
+  abbrev pub IsOfKind : Key → BlockKind → List ℕ → Type 0
   IsOfKind key Content bytes = OfContent key bytes
   IsOfKind key Head bytes = OfHeads key bytes
 

@@ -6,8 +6,8 @@ use Rattle.ring_model.specs.Circle.{number}
 use Rattle.ring_model.specs.Members.{IsAmong}
 use Rattle.dhash_model.specs.Signed.{hss_judged}
 use Rattle.dhash_model.specs.Stores.{Block}
-use Rattle.dhash_model.specs.declared.kind.Kind.{Kind}
-use Rattle.dhash_model.specs.declared.kind.Kind.TheVariants.{Content, Head}
+use Rattle.dhash_model.specs.declared.kind.BlockKind.{BlockKind}
+use Rattle.dhash_model.specs.declared.kind.BlockKind.TheVariants.{Content, Head}
 use Rattle.dht_ids.specs.declared.ask.Ask.TheVariants as ask
 use Rattle.dht_ids.specs.declared.peer.Peer.{Peer}
 use Rattle.dht_ids.specs.declared.post.Post.{Post}
@@ -15,13 +15,13 @@ use Rattle.agent_model.specs.Agent.{is_head}
 use Rattle.session_model.specs.Sessions.{put_question}
 use Rattle.world_model.specs.World.{World, with_numbered}
 use Rattle.world_model.specs.Rounds.{question_as}
-use Rattle.world_model.specs.Holding.{rank}
+use Rattle.world_model.specs.Holding.{block_rank}
 use Rattle.round_laws.proofs.Nodes.{Shape, made_by}
 use Rattle.calm_laws.proofs.CalmNodes.{HeldStays, IsHeld}
 
 -- ---- posts that are held
 
-abbrev pub kind_of : Post → Kind
+abbrev pub kind_of : Post → BlockKind
 kind_of p = cond (is_head p.kind) Head Content
 
 abbrev pub block_of : Post → Block
@@ -29,12 +29,12 @@ block_of p = record { kind = kind_of p; bytes = p.bytes }
 
 -- the node holds the post, or something newer of its kind; the post's block is met, and has its name where it isn't a head
 pub record IsHeldFor (w : World) (p : Post) (node : Peer) : Type 0 where
-  pub held : IsHeld w p.key (kind_of p) (rank hss_judged p.key (block_of p)) node
+  pub held : IsHeld w p.key (kind_of p) (block_rank hss_judged p.key (block_of p)) node
   pub met : Contains w.met p.bytes
   pub named : is_head p.kind ≡ false → name p.bytes ≡ p.key
 
 pub held_for : (w v : World) (p : Post) (node : Peer) → ((b : List ℕ) → Contains w.met b → Contains v.met b) → HeldStays w v → IsHeldFor w p node → IsHeldFor v p node
-held_for w v p node grows held h = record { held = held p.key (kind_of p) (rank hss_judged p.key (block_of p)) node h.held; met = grows p.bytes h.met; named = h.named }
+held_for w v p node grows held h = record { held = held p.key (kind_of p) (block_rank hss_judged p.key (block_of p)) node h.held; met = grows p.bytes h.met; named = h.named }
 
 pub question_is : (p : Post) → put_question p ≡ question_as (kind_of p) p.key p.bytes
 question_is p = by (is_head p.kind)

@@ -19,7 +19,7 @@ use Rattle.dhash_model.specs.State.{alone_node}
 use Rattle.script_driver.specs.Run.{Outcome, Goes, Ends, Refuses, Exceeds}
 use Rattle.world_model.specs.Nodes.{Node}
 use Rattle.world_model.specs.World.{World, live_peers, peer_of, with_node}
-use Rattle.world_model.specs.Story.{Story}
+use Rattle.world_model.specs.GhostState.{GhostState}
 use Rattle.world_model.specs.Fates.{FateOf, Fates}
 use Rattle.world_model.specs.Fates.FateOf.{lost as was_lost, stopped as was_stopped, answers as was_answered}
 use Rattle.world_model.specs.Fates.Fates.{none as fates_end, more as fates_on}
@@ -176,7 +176,7 @@ joins_few w next number _ _ output (join_fails r through found mid h room least 
 
 -- ---- runs
 
-pub beside_goes : (st : Story) (o : Outcome World) (mid : Played) (output : List ℕ) → Goes mid output ≡ beside st o → o ≡ Goes mid.0 output
+pub beside_goes : (st : GhostState) (o : Outcome World) (mid : Played) (output : List ℕ) → Goes mid output ≡ beside st o → o ≡ Goes mid.0 output
 beside_goes st (Goes next words) mid output e = by e
   where
     worlds : Goes mid output ≡ Goes (next, st) words → mid ≡ (next, st)

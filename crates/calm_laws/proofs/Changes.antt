@@ -18,18 +18,18 @@ use Rattle.dht_ids.specs.declared.peer.Peer.{Peer}
 use Rattle.dht_ids.specs.declared.post.Post.{Post}
 use Rattle.dhash_model.specs.Signed.{hss_judged}
 use Rattle.dhash_model.specs.Stores.{Block}
-use Rattle.dhash_model.specs.declared.kind.Kind.{Kind}
+use Rattle.dhash_model.specs.declared.kind.BlockKind.{BlockKind}
 use Rattle.dhash_model.specs.State.{alone_node}
 use Rattle.script_driver.specs.Run.{Outcome, Goes, Refuses}
 use Rattle.world_model.specs.Nodes.{Node}
 use Rattle.world_model.specs.World.{NamedSession, World, node_at, peer_of, with_node}
-use Rattle.world_model.specs.Story.{Story}
+use Rattle.world_model.specs.GhostState.{GhostState}
 use Rattle.world_model.specs.Fates.{asking}
 use Rattle.world_model.specs.Ring.{JoinLine, empty_node, joined_node, live_in_order, peer_numbered, stop_line, with_new_node}
 use Rattle.world_model.specs.Ring.JoinLine.{before_ring as join_before_ring, known as join_known, exceeds as join_exceeds, alone as join_alone, joins as join_joins, fails as join_fails}
 use Rattle.world_model.specs.Rounds.{IsRoundOf}
 use Rattle.world_model.specs.RingOf.{lives_in, own_node}
-use Rattle.world_model.specs.Holding.{held_in, rank}
+use Rattle.world_model.specs.Holding.{held_in, block_rank}
 use Rattle.round_laws.specs.RingOf.{AreNodes, links_in}
 use Rattle.round_laws.proofs.Nodes.{lives_by, lives_shape, order_by, order_shape}
 use Rattle.round_laws.proofs.Order.{lives_order, same_lists}
@@ -44,7 +44,7 @@ use Rattle.calm_laws.proofs.CalmNodes.{HeldStays, IsHeld, IsIn, base_from}
 use Rattle.calm_laws.proofs.CalmPuts.{IsHeldFor, block_of, held_for, kind_of}
 use Rattle.calm_laws.proofs.CalmStates.{IsMore}
 use Rattle.calm_laws.proofs.CalmRounds.{loses_none}
-use Rattle.world_laws.proofs.Newcomer.{found_before}
+use Rattle.world_laws.proofs.NewParticipant.{found_before}
 use Rattle.calm_laws.proofs.Finding.{old_or_last}
 use Rattle.calm_laws.proofs.BlockKinds.{AreApart, fewer_apart, one_kind}
 use Rattle.calm_laws.specs.Laws.{IsWithinLimit}
@@ -76,7 +76,7 @@ stop_is w next n output e = by n.is_live e
     by true f = goes_to f
     by false f = absurd (refused f)
 
-module _ (r k : ℕ) (w next : World) (st : Story) (n : Node) (output : List ℕ) (f : HasFacts r w (Stopped k)) (short : k + 1 < r) (two : 2 ≤ length (live_in_order w)) (among : IsAmong n w.nodes) (e : stop_line w (Some n) ≡ Goes next output) where
+module _ (r k : ℕ) (w next : World) (st : GhostState) (n : Node) (output : List ℕ) (f : HasFacts r w (Stopped k)) (short : k + 1 < r) (two : 2 ≤ length (live_in_order w)) (among : IsAmong n w.nodes) (e : stop_line w (Some n) ≡ Goes next output) where
   is : next ≡ with_node w (record n { is_live = false })
   is = stop_is w next n output e
 
@@ -164,17 +164,17 @@ module _ (r k : ℕ) (w next : World) (st : Story) (n : Node) (output : List ℕ
 
 -- ---- a round
 
-at_least_held : (w : World) (key : Key) (kind : Kind) (least : ℕ) (m : Peer) → IsHeld w key kind least m → IsAtLeast least (option_map (rank hss_judged key) (held_in w key m))
-at_least_held w key kind least m h = subst (λ o. IsAtLeast least (option_map (rank hss_judged key) o)) (sym h.1) h.3
+at_least_held : (w : World) (key : Key) (kind : BlockKind) (least : ℕ) (m : Peer) → IsHeld w key kind least m → IsAtLeast least (option_map (block_rank hss_judged key) (held_in w key m))
+at_least_held w key kind least m h = subst (λ o. IsAtLeast least (option_map (block_rank hss_judged key) o)) (sym h.1) h.3
 
-held_at_least : (w : World) (key : Key) (least : ℕ) (m : Peer) → IsAtLeast least (option_map (rank hss_judged key) (held_in w key m)) → (c : Block) × (held_in w key m ≡ Some c) × (least ≤ rank hss_judged key c)
+held_at_least : (w : World) (key : Key) (least : ℕ) (m : Peer) → IsAtLeast least (option_map (block_rank hss_judged key) (held_in w key m)) → (c : Block) × (held_in w key m ≡ Some c) × (least ≤ block_rank hss_judged key c)
 held_at_least w key least m h = by (held_in w key m) refl h
   where
-    by : (o : Option Block) → held_in w key m ≡ o → IsAtLeast least (option_map (rank hss_judged key) o) → (c : Block) × (held_in w key m ≡ Some c) × (least ≤ rank hss_judged key c)
+    by : (o : Option Block) → held_in w key m ≡ o → IsAtLeast least (option_map (block_rank hss_judged key) o) → (c : Block) × (held_in w key m ≡ Some c) × (least ≤ block_rank hss_judged key c)
     by None e h = absurd h
     by (Some c) e h = (c, e, h)
 
-module _ (r : ℕ) (w next : World) (st : Story) (since : Since) (f : HasFacts r w since) (x : IsRoundOf hss_judged r w next) where
+module _ (r : ℕ) (w next : World) (st : GhostState) (since : Since) (f : HasFacts r w since) (x : IsRoundOf hss_judged r w next) where
   rest : next ≡ record w { nodes = next.nodes; asked = next.asked }
   rest = (leaves_the_rest hss_judged r w next x).0
 
@@ -227,9 +227,9 @@ module _ (r : ℕ) (w next : World) (st : Story) (since : Since) (f : HasFacts r
           all m i =
               let owns = (is_in_tells (own_then p.key) m).1 (subst (IsAmong m) (sym (same_own p.key)) i) in
               let moved = after.moved p.key (is_in (own_then p.key)) (is_in_tells (own_then p.key)) in
-              let least = owners_hold (is_in (own_then p.key)) peer_or_not (rank hss_judged p.key (block_of p)) moved
-              (inr (holder.0, order_in r w holder.0 f.has.nodes holder.1, at_least_held w p.key (kind_of p) (rank hss_judged p.key (block_of p)) holder.0 holder.2.held)) m owns in
-              let now = held_at_least next p.key (rank hss_judged p.key (block_of p)) m least in
+              let least = owners_hold (is_in (own_then p.key)) peer_or_not (block_rank hss_judged p.key (block_of p)) moved
+              (inr (holder.0, order_in r w holder.0 f.has.nodes holder.1, at_least_held w p.key (kind_of p) (block_rank hss_judged p.key (block_of p)) holder.0 holder.2.held)) m owns in
+              let now = held_at_least next p.key (block_rank hss_judged p.key (block_of p)) m least in
               let was = holder.2.held in
               let same = one_kind w apart_before p.key now.0.kind was.0.kind now.0.bytes was.0.bytes (held_of w next p.key m now.0 after.orderly now.1) (held_of w w p.key holder.0 was.0 h.orderly was.1) in
               record { held = (now.0, now.1, same ∙ was.2, now.2); met = round_more.met p.bytes holder.2.met; named = holder.2.named }
@@ -244,7 +244,7 @@ module _ (r : ℕ) (w next : World) (st : Story) (since : Since) (f : HasFacts r
 
 -- ---- a node joins
 
--- the look-up of one that joins leaves each node as it was; and one that holds nothing may stand behind them then
+-- the look-up of one that joins leaves each node as it was; and one that holds nothing may stand after them then
 record Joins (w next : World) : Type 0 where
   mid : World
   same : (id : Key) → node_at mid id ≡ node_at w id
@@ -277,7 +277,7 @@ joins_so r w next since number _ _ output f (join_fails s through found mid h ro
   last = inl (sym (one_world _ next _ output e));
 }
 
-module _ (r : ℕ) (w next : World) (st : Story) (since : Since) (number : ℕ) (output : List ℕ) (f : HasFacts r w since) (line : JoinLine hss_judged w number (Some r) (Goes next output)) where
+module _ (r : ℕ) (w next : World) (st : GhostState) (since : Since) (number : ℕ) (output : List ℕ) (f : HasFacts r w since) (line : JoinLine hss_judged w number (Some r) (Goes next output)) where
   joined : Joins w next
   joined = joins_so r w next since number (Some r) (Goes next output) output f line refl
 

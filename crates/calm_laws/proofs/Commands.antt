@@ -16,7 +16,7 @@ use Rattle.dht_ids.specs.declared.ask.Ask.TheVariants as ask
 use Rattle.dht_ids.specs.declared.ask.Heard.{Heard}
 use Rattle.dht_ids.specs.declared.peer.Peer.{Peer}
 use Rattle.dht_ids.specs.declared.post.Post.{Post}
-use Rattle.dhash_model.specs.Course.{IsCourse, Told, told_all}
+use Rattle.dhash_model.specs.Execution.{IsExecution, Told, told_all}
 use Rattle.dhash_model.specs.Puts.{EndsPut}
 use Rattle.dhash_model.specs.declared.miss.Miss.{Miss}
 use Rattle.agent_model.specs.Agent.{is_head, restored}
@@ -25,14 +25,14 @@ use Rattle.session_model.specs.Sessions.{Said, Session, acknowledged, put_questi
 use Rattle.script_driver.specs.Run.{Goes}
 use Rattle.script_model.specs.declared.command.Command.{Command}
 use Rattle.script_model.specs.declared.command.Command.TheVariants as command
-use Rattle.world_model.specs.Agents.{Agent, opened}
+use Rattle.world_model.specs.Agents.{HssAgent, hss_opened}
 use Rattle.world_model.specs.World.{NamedSession, Participant, World, entries, participant, with_participant, with_session, without_session}
-use Rattle.world_model.specs.Story.{Story, began_nothing, began_of}
+use Rattle.world_model.specs.GhostState.{GhostState, began_nothing, began_of}
 use Rattle.world_model.specs.Fates.{Fates, Puts, asking}
 use Rattle.world_model.specs.Fates.Fates.{none as fates_end, more as fates_on}
-use Rattle.world_model.specs.Steps.{RunsOut, Scene, StepsOn, having_made, met_by}
-use Rattle.world_model.specs.Logs.{Played, acked_view, afresh, afresh_told, fresh_signer, newcomer, to_publish, with_view}
-use Rattle.world_model.specs.Calls.{replied, scene_of}
+use Rattle.world_model.specs.Steps.{RunsOut, Configuration, StepsOn, having_made, met_by}
+use Rattle.world_model.specs.Logs.{Played, acked_view, afresh, afresh_told, fresh_signer, new_participant, to_publish, with_view}
+use Rattle.world_model.specs.Calls.{replied, configuration_of}
 use Rattle.world_model.specs.Step.{Does}
 use Rattle.round_laws.proofs.Fixing.{fates_first, fates_none as fates_nothing}
 use Rattle.world_laws.proofs.Frames.{all_mapped, into_map}
@@ -41,7 +41,7 @@ use Rattle.world_laws.proofs.NodeFates.{fate_rest}
 use Rattle.world_laws.proofs.SignedAmong.{met_stays, met_then}
 use Rattle.world_laws.proofs.SignedHeads.{from_map}
 use Rattle.calm_laws.specs.Calm.{IsQuiet}
-use Rattle.world_laws.specs.Effects.{Effect, Effects, IsRingCommand, LaterEffect, Plays, PublishesAlone, Renews, Touches, begun_scene}
+use Rattle.world_laws.specs.Effects.{Effect, Effects, IsRingCommand, LaterEffect, Plays, PublishesAlone, Renews, Touches, begun_configuration}
 use Rattle.world_laws.specs.Effects.Effect.{comes, loses, makes_view, of_nodes, opens, plays, renews, shows, times, touches}
 use Rattle.world_laws.specs.Effects.Effects.{once, twice}
 use Rattle.world_laws.specs.Effects.LaterEffect.{publishes, replies}
@@ -56,11 +56,11 @@ use Rattle.calm_laws.proofs.Holding.{AreOrderly}
 use Rattle.calm_laws.proofs.Stretches.{AreTrue, IsAckHeld, IsRingOf, IsTrueAt, Stretch, put_ends}
 use Rattle.calm_laws.proofs.States.{InStep, good_later, kept_ring, more_heard, still_acked}
 use Rattle.calm_laws.proofs.Steps.{placed_good, placed_ring, put_data, put_goes, put_told}
-use Rattle.calm_laws.proofs.Scenes.{runs_go, steps_go}
-use Rattle.calm_laws.proofs.Lines.{LineGoes, changes_go, entries_are, goes_nowhere, goes_then, newcomer_goes, publishes_go, scene_goes, scene_goes_to, sent_step}
+use Rattle.calm_laws.proofs.Configurations.{runs_go, steps_go}
+use Rattle.calm_laws.proofs.Lines.{LineGoes, changes_go, entries_are, goes_nowhere, goes_then, new_participant_goes, publishes_go, configuration_goes, configuration_goes_to, sent_step}
 
 -- the posts of an agent of which a snapshot was made are those that it had, and blocks
-snap_posts : (a : Agent) (root : Key) (blocks : List (List ℕ)) (p : Post) → Contains (snapped a root blocks).pending p → is_head p.kind ≡ true → Contains a.pending p
+snap_posts : (a : HssAgent) (root : Key) (blocks : List (List ℕ)) (p : Post) → Contains (snapped a root blocks).pending p → is_head p.kind ≡ true → Contains a.pending p
 snap_posts a root blocks p c head = ⊎_elim (λ old. old) new (Contains-append_cases a.pending (map block_post made) p c)
   where
     made : List (List ℕ)
@@ -121,7 +121,7 @@ module _ (ring : Stretch) where
       (later.0, fates_on s.0 question s.1 one.fate later.1, later.2)
 
   -- a whole put of a block
-  puts_go : (w : World) (st : Story) (block : List ℕ) (next : World) (made : List Post) → Contains w.met block → (put : Puts hss_judged w ring.r (block_post block).key (ask.PutBlock (block_post block).key block) next)
+  puts_go : (w : World) (st : GhostState) (block : List ℕ) (next : World) (made : List Post) → Contains w.met block → (put : Puts hss_judged w ring.r (block_post block).key (ask.PutBlock (block_post block).key block) next)
       → (acknowledged put.came ≡ true → IsAckHeld ring next (block_post block) → AllByRecursion (IsAckHeld ring next) made) → (acknowledged put.came ≡ false → made ≡ []) → LineGoes ring w st next (record st { acked = st.acked ++ made })
   puts_go w st block next made met put held_then none_then = record {
     grows = more;
@@ -133,7 +133,7 @@ module _ (ring : Stretch) where
         let held : HeldStays w next = λ key kind least m i. b.1 key kind least m (a.1 key kind least m i) in
         let all = each_append (λ (x : Heard). IsTrueAt ring next (Some p) x.kind x) (told_all (ask.Route p.key) put.looks) (told_all (put_question p) put.asks) (more_heard ring mid next (Some p) (told_all (ask.Route p.key) put.looks) second.grows b.1 a.2) b.2 in
         let ends = put_ends ring next p (told_all (ask.Route p.key) put.looks ++ told_all (put_question p) put.asks) put.came (kept_ring ring mid next second.still (kept_ring ring w mid first_part.still h)) all
-        (subst (λ es. IsCourse p.key (put_question p) es (EndsPut ring.r) (told_all (ask.Route p.key) put.looks ++ told_all (put_question p) put.asks) put.came) (entries_are ring w h) put.whole) in
+        (subst (λ es. IsExecution p.key (put_question p) es (EndsPut ring.r) (told_all (ask.Route p.key) put.looks ++ told_all (put_question p) put.asks) put.came) (entries_are ring w h) put.whole) in
         good_later ring w next st (record st { acked = st.acked ++ made }) g more held b.0 (second.pending (first_part.pending g.pending)) (second.sessions ∙ first_part.sessions)
         (each_append (IsAckHeld ring next) st.acked made (still_acked ring w next st.acked more held g.acked) (came_so (acknowledged put.came) refl ends));
   }
@@ -164,7 +164,7 @@ module _ (ring : Stretch) where
       came_so false e held = subst (AllByRecursion (IsAckHeld ring next)) (sym (none_then e)) tt
 
   -- a participant in place of another
-  placed_goes : (w : World) (st su : Story) (n : List ℕ) (p q : Participant) (met : List (List ℕ)) (is_p : participant w n ≡ Some p) (named : q.name ≡ p.name) (grows : (b : List ℕ) → Contains w.met b → Contains met b) (left : (b : List ℕ) → Contains p.left b → Contains q.left b) → su.acked ≡ st.acked
+  placed_goes : (w : World) (st su : GhostState) (n : List ℕ) (p q : Participant) (met : List (List ℕ)) (is_p : participant w n ≡ Some p) (named : q.name ≡ p.name) (grows : (b : List ℕ) → Contains w.met b → Contains met b) (left : (b : List ℕ) → Contains p.left b → Contains q.left b) → su.acked ≡ st.acked
       → ((v : World) → participant v n ≡ Some q → v.met ≡ met → IsMore w v → ArePending w → AllByRecursion (IsOwnPost v) q.agent.pending) → LineGoes ring w st (record (with_participant w q) { met = met }) su
   placed_goes w st su n p q met is_p named grows left e own = record {
     grows = placed_more w n p q met is_p named grows left;
@@ -175,7 +175,7 @@ module _ (ring : Stretch) where
 
   -- ---- effects
 
-  replied_goes : (w : World) (st : Story) (said : Said) → LineGoes ring w st (replied w said) st
+  replied_goes : (w : World) (st : GhostState) (said : Said) → LineGoes ring w st (replied w said) st
   replied_goes w st said = by (is_some said.message)
     where
       by : (t : Bool) → LineGoes ring w st (cond t (record w { replies = w.replies ++ record { handle = said.handle; verifier = said.verifier } ∷ [] }) w) st
@@ -191,7 +191,7 @@ module _ (ring : Stretch) where
   no_ring _ quiet ring_it = ring_it
 
   module _ (w : Played) (ringed : w.0.replicas ≡ Some ring.r) where
-    abbrev GoesTo : World → Story → Type 0
+    abbrev GoesTo : World → GhostState → Type 0
     GoesTo next st = LineGoes ring w.0 w.1 next st
 
     -- a view is made
@@ -220,7 +220,7 @@ module _ (ring : Stretch) where
               asks = put.asks;
               came = put.came;
               fates = put.fates;
-              whole = subst (λ k. IsCourse (view_name view) (ask.PutBlock (view_name view) (view_block view)) (entries (with_view w.0 name view)) (EndsPut k) (told_all (ask.Route (view_name view)) put.looks ++ told_all (ask.PutBlock (view_name view) (view_block view)) put.asks) put.came) e put.whole;
+              whole = subst (λ k. IsExecution (view_name view) (ask.PutBlock (view_name view) (view_block view)) (entries (with_view w.0 name view)) (EndsPut k) (told_all (ask.Route (view_name view)) put.looks ++ told_all (ask.PutBlock (view_name view) (view_block view)) put.asks) put.came) e put.whole;
             })
             (yes_so put.came) (no_so put.came)
 
@@ -260,28 +260,28 @@ module _ (ring : Stretch) where
       goes : GoesTo next.0 next.1
       ringed_then : PublishesAlone k → next.0.replicas ≡ Some ring.r
 
-    played_goes : {k : Command} {s : ℕ} {name : List ℕ} {c end : Scene} {next : Played} → s ≡ ring.r → Plays hss_judged w s k name c end next → Onward k next
+    played_goes : {k : Command} {s : ℕ} {name : List ℕ} {c end : Configuration} {next : Played} → s ≡ ring.r → Plays hss_judged w s k name c end next → Onward k next
     played_goes same (calls log pieces s t end sends begins runs over) = record {
       goes =
-          let c : Scene = begun_scene w s t in
+          let c : Configuration = begun_configuration w s t in
           let mine : RunsOut hss_judged ring.r s.by.name c end = subst (λ x. RunsOut hss_judged x s.by.name c end) same runs in
-          scene_goes ring w.0 w.1 c end refl refl (runs_go ring s.by.name mine) (λ h g. sent_step ring w.0 s t h begins);
+          configuration_goes ring w.0 w.1 c end refl refl (runs_go ring s.by.name mine) (λ h g. sent_step ring w.0 s t h begins);
       ringed_then = λ alone. absurd alone;
     }
     played_goes same (steps name count s end is on) = record {
       goes =
-          let c : Scene = scene_of w s (began_of w.1 name) in
+          let c : Configuration = configuration_of w s (began_of w.1 name) in
           let mine : StepsOn hss_judged ring.r s.by count c end = subst (λ x. StepsOn hss_judged x s.by count c end) same on in
-          scene_goes_to ring w.0 w.1 c end (with_session end.world name end.session) _ refl refl (steps_go ring s.by mine)
+          configuration_goes_to ring w.0 w.1 c end (with_session end.world name end.session) _ refl refl (steps_go ring s.by mine)
           (λ i g. session_in (InStep ring w.0) w.0.sessions name s is g.sessions) refl refl refl refl refl (λ b g. g)
           (λ ss mine. all_mapped (λ (x : NamedSession). InStep ring end.world x.session) _ end.world.sessions (λ x among. either (bytes_eq x.name name) (InStep ring end.world) x name end.session (each (λ (x : NamedSession). InStep ring end.world x.session) end.world.sessions x ss among) mine)) refl;
       ringed_then = λ alone. absurd alone;
     }
     played_goes same (ends name s end is runs over) = record {
       goes =
-          let c : Scene = scene_of w s (began_of w.1 name) in
+          let c : Configuration = configuration_of w s (began_of w.1 name) in
           let mine : RunsOut hss_judged ring.r s.by c end = subst (λ x. RunsOut hss_judged x s.by c end) same runs in
-          scene_goes_to ring w.0 w.1 c end (without_session end.world name) _ refl refl (runs_go ring s.by mine)
+          configuration_goes_to ring w.0 w.1 c end (without_session end.world name) _ refl refl (runs_go ring s.by mine)
           (λ i g. session_in (InStep ring w.0) w.0.sessions name s is g.sessions) refl refl refl refl refl (λ b g. g)
           (λ ss mine. each_filtered (λ (x : NamedSession). InStep ring end.world x.session) _ end.world.sessions ss) refl;
       ringed_then = λ alone. absurd alone;
@@ -294,9 +294,9 @@ module _ (ring : Stretch) where
     effect_goes quiet _ (of_nodes k ring_it next is) = absurd (no_ring k quiet ring_it)
     effect_goes quiet _ (makes_view name names others members former s view next are also_are new own_keys small also is put) = record { goes = view_goes name s view next also put; ringed_then = λ alone. absurd alone }
     effect_goes quiet _ (comes name id seed sets new) =
-        let a : Agent = opened (fresh_signer id seed sets) w.0.now in
-        let q : Participant = newcomer name a in
-        record { goes = newcomer_goes ring w q (record { name = name; agent = a; keeper = q.keeper; cache = []; made = []; printed = None; work = 0; left = [] }) refl new; ringed_then = λ alone. ringed }
+        let a : HssAgent = hss_opened (fresh_signer id seed sets) w.0.now in
+        let q : Participant = new_participant name a in
+        record { goes = new_participant_goes ring w q (record { name = name; agent = a; keeper = q.keeper; cache = []; made = []; printed = None; work = 0; left = [] }) refl new; ringed_then = λ alone. ringed }
     effect_goes quiet _ (touches k name p q posts is touching) = record { goes = touched_goes name p q quiet is touching; ringed_then = λ alone. ringed }
     effect_goes quiet _ (renews k name p q posts set is renewing) = record { goes = renewed_goes name p q is renewing; ringed_then = λ alone. ringed }
     effect_goes quiet _ (opens name log pieces s t new sends begins) = record {
@@ -309,8 +309,8 @@ module _ (ring : Stretch) where
     later_goes : {k : Command} (mid next : Played) → Onward k mid → LaterEffect hss_judged mid k next → GoesTo next.0 next.1
     later_goes mid _ h (publishes k alone s p end also is_p over runs) =
         let same : s ≡ ring.r = one_r s ring.r (sym also ∙ h.ringed_then alone) in
-        goes_then ring w.0 mid.0 end.world w.1 mid.1 end.story h.goes
-        (publishes_go ring mid p (end.world, end.story) is_p (end, subst (λ x. RunsOut hss_judged x p.name (record { world = mid.0; story = mid.1; session = to_publish mid.0 p; began = began_nothing }) end) same runs, refl))
+        goes_then ring w.0 mid.0 end.world w.1 mid.1 end.ghost_state h.goes
+        (publishes_go ring mid p (end.world, end.ghost_state) is_p (end, subst (λ x. RunsOut hss_judged x p.name (record { world = mid.0; ghost_state = mid.1; session = to_publish mid.0 p; began = began_nothing }) end) same runs, refl))
     later_goes mid _ h (replies k ended said) = goes_then ring w.0 mid.0 (replied mid.0 said) w.1 mid.1 mid.1 h.goes (replied_goes mid.0 mid.1 said)
 
     effects_go : {k : Command} {next : Played} → IsQuiet k → Effects hss_judged w k next → GoesTo next.0 next.1

@@ -10,11 +10,11 @@ use Rattle.dht_ids.specs.declared.post.Post.{Post}
 use Rattle.dhash_model.specs.Signed.{hss_judged}
 use Rattle.world_model.specs.Logs.{Played}
 use Rattle.world_model.specs.Ring.{live_in_order}
-use Rattle.world_model.specs.Holding.{rank}
+use Rattle.world_model.specs.Holding.{block_rank}
 use Rattle.round_laws.proofs.Nodes.{lives_by, order_by, order_shape}
 use Rattle.round_laws.proofs.Order.{lives_order, same_lists}
 use Rattle.round_laws.proofs.Rounding.{leaves_who_lives}
-use Rattle.calm_laws.specs.Calm.{IsCalmAt, Stopped, post_rank, rank_in}
+use Rattle.calm_laws.specs.Calm.{IsCalmAt, Stopped, post_rank, held_rank}
 use Rattle.calm_laws.proofs.CalmHeld.{post_rank_is}
 use Rattle.calm_laws.proofs.CalmRounds.{covered_then}
 use Rattle.calm_laws.proofs.CalmPuts.{IsHeldFor, block_of}
@@ -39,8 +39,8 @@ round_moves_blocks r w next since lines calm room x m key live =
     let after = rounded r w.0 next w.1 since f x (apart_at r w since lines calm) room holds.orderly in
     round_moves r w.0 next f.has.nodes after.moved (leaves_who_lives hss_judged r w.0 next f.has.nodes x).1 m key live
 
-at_least : (w : Played) (p : Post) (m : Peer) → IsHeldFor w.0 p m → IsAtLeast (post_rank p) (rank_in w.0 p.key m)
-at_least w p m h = subst (λ v. IsAtLeast v (rank_in w.0 p.key m)) (sym (post_rank_is p)) (subst (λ o. IsAtLeast (rank hss_judged p.key (block_of p)) (option_map (rank hss_judged p.key) o)) (sym h.held.1) h.held.3)
+at_least : (w : Played) (p : Post) (m : Peer) → IsHeldFor w.0 p m → IsAtLeast (post_rank p) (held_rank w.0 p.key m)
+at_least w p m h = subst (λ v. IsAtLeast v (held_rank w.0 p.key m)) (sym (post_rank_is p)) (subst (λ o. IsAtLeast (block_rank hss_judged p.key (block_of p)) (option_map (block_rank hss_judged p.key) o)) (sym h.held.1) h.held.3)
 
 same_order : (r count : ℕ) (w : Played) (s : IsStanding r count w.0 w.1) → live_in_order w.0 ≡ order_by s.base
 same_order r count w s = order_shape w.0 ∙ ap order_by s.still.within.shapes

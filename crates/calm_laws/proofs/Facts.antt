@@ -1,7 +1,7 @@
 -- What holds of the ring at each line of a calm run, line by line.
 use Rattle.std.proofs.Common.{◌≡◌, inl, inr, ⊎_elim, ℕ, ◌+◌, ◌<◌, ◌≤◌, Bool, true, false, not, List, [], ◌∷◌, length, map, filter, Some, refl, sym, ap, ◌∙◌, subst, arith}
 use Rattle.std.proofs.lemmas.List.{length-map}
-use Rattle.ring_model.specs.Members.{IsAmong, IsAscending}
+use Rattle.ring_model.specs.Members.{IsAmong, HasAscendingPlaces}
 use Rattle.ring_model.specs.Ring.{IsCoveredRing}
 use Rattle.dhash_model.specs.Signed.{hss_judged}
 use Rattle.dht_ids.specs.Peers.{place}
@@ -156,7 +156,7 @@ lives_on r w stopped h two = by (live_in_order w) refl
         (peer_or_not a stopped)
       where
         apart : AreDistinct (a ∷ b ∷ l)
-        apart = distinct_ascending (a ∷ b ∷ l) (subst (IsAscending place) e (order_ascending r w h))
+        apart = distinct_ascending (a ∷ b ∷ l) (subst (HasAscendingPlaces place) e (order_ascending r w h))
 
 pub stop_facts : (r k : ℕ) (w next : World) (n : Node) (output : List ℕ) → HasFacts r w (Stopped k) → k + 1 < r → 2 ≤ length (live_in_order w) → IsAmong n w.nodes → stop_line w (Some n) ≡ Goes next output → HasFacts r next (Stopped (k + 1))
 stop_facts r k w next n output f short two among e =

@@ -20,17 +20,17 @@ use Rattle.dht_ids.specs.declared.ask.Heard.{Heard}
 use Rattle.dht_ids.specs.declared.judge.Judged.{Judged}
 use Rattle.dht_ids.specs.declared.peer.Peer.{Peer}
 use Rattle.dhash_model.specs.declared.miss.Miss.TheVariants as miss
-use Rattle.dhash_model.specs.Course.{IsCourse, Told, result_of, told_all, outcome}
-use Rattle.dhash_model.specs.Course.IsCourse.{no_route, of_owners}
+use Rattle.dhash_model.specs.Execution.{IsExecution, Told, result_of, told_all, outcome}
+use Rattle.dhash_model.specs.Execution.IsExecution.{no_route, of_owners}
 use Rattle.dhash_model.specs.GetBlock.{IsGetOfBlock, block_in, is_of_get}
 use Rattle.dhash_model.specs.GetHead.{IsGetOfHead}
 use Rattle.dhash_model.specs.declared.miss.Miss.{Miss}
 use Rattle.dhash_model.specs.Stores.{Block, bytes_at}
-use Rattle.dhash_model.specs.declared.kind.Kind.{Kind}
-use Rattle.dhash_model.specs.declared.kind.Kind.TheVariants.{Content, Head}
+use Rattle.dhash_model.specs.declared.kind.BlockKind.{BlockKind}
+use Rattle.dhash_model.specs.declared.kind.BlockKind.TheVariants.{Content, Head}
 use Rattle.world_model.specs.World.{World}
 use Rattle.world_model.specs.Fates.{FateOf, Fates, asking}
-use Rattle.world_model.specs.Holding.{held_in, rank}
+use Rattle.world_model.specs.Holding.{held_in, block_rank}
 use Rattle.round_laws.proofs.Fixing.{fates_first, fates_none}
 use Rattle.round_laws.proofs.Holding.{held_at, node_is}
 use Rattle.round_laws.proofs.Storing.{under}
@@ -92,7 +92,7 @@ some_block : (o : Option Block) (bytes : List ℕ) → option_map (λ (b : Block
 some_block None bytes e = cc e
 some_block (Some c) bytes e = (c, refl, cc e)
 
-judged_head : (key : Key) (bytes : List ℕ) (least : ℕ) → is_some (hss_judged key bytes) ≡ true → least ≤ rank hss_judged key (record { kind = Head; bytes = bytes }) → (j : Judged) × (hss_judged key bytes ≡ Some j) × (least ≤ j.seq)
+judged_head : (key : Key) (bytes : List ℕ) (least : ℕ) → is_some (hss_judged key bytes) ≡ true → least ≤ block_rank hss_judged key (record { kind = Head; bytes = bytes }) → (j : Judged) × (hss_judged key bytes ≡ Some j) × (least ≤ j.seq)
 judged_head key bytes least some l = by (hss_judged key bytes) some l
   where
     by : (o : Option Judged) → is_some o ≡ true → least ≤ option_map_or (λ (seq : ℕ). seq) (option_map (λ (j : Judged). j.seq) o) 0 → (j : Judged) × (o ≡ Some j) × (least ≤ j.seq)
@@ -103,17 +103,17 @@ module _ (ring : Stretch) where
   -- ---- answers
 
   -- a block of that kind and rank was given, or a greater one
-  pub record IsGivenAs (key : Key) (kind : Kind) (least : ℕ) (got : Answer) : Type 0 where
+  pub record IsGivenAs (key : Key) (kind : BlockKind) (least : ℕ) (got : Answer) : Type 0 where
     pub bytes : List ℕ
     pub gives : block_in got ≡ Some bytes
     pub of_kind : IsOf ring.end key kind bytes
-    pub ranked : least ≤ rank hss_judged key (record { kind = kind; bytes = bytes })
+    pub ranked : least ≤ block_rank hss_judged key (record { kind = kind; bytes = bytes })
 
   -- a live node answers a get, by what it holds
   pub record IsGot (w : World) (key : Key) (node : Peer) (got : Answer) : Type 0 where
     pub answers : is_of_get got ≡ lives ring node
-    pub each_kind : (bytes : List ℕ) → block_in got ≡ Some bytes → (kind : Kind) × IsOf ring.end key kind bytes
-    pub holder : lives ring node ≡ true → (kind : Kind) (least : ℕ) → IsHeld w key kind least node → IsGivenAs key kind least got
+    pub each_kind : (bytes : List ℕ) → block_in got ≡ Some bytes → (kind : BlockKind) × IsOf ring.end key kind bytes
+    pub holder : lives ring node ≡ true → (kind : BlockKind) (least : ℕ) → IsHeld w key kind least node → IsGivenAs key kind least got
 
   abbrev IsGotAt : World → AskKind → Heard → Type 0
   IsGotAt w kind.Route h = IsMade ring h.node → IsRouted ring h.key h.node h.got
@@ -148,7 +148,7 @@ module _ (ring : Stretch) where
                   bytes = j.0.bytes;
                   gives = sym told_block ∙ ap (option_map (λ (b : Block). b.bytes)) here;
                   of_kind = subst (λ x. IsOf ring.end key x j.0.bytes) j.2 ((orderly to.id n is).kinds key j.0 here);
-                  ranked = subst (λ x. least ≤ rank hss_judged key (record { kind = x; bytes = j.0.bytes })) j.2 j.3;
+                  ranked = subst (λ x. least ≤ block_rank hss_judged key (record { kind = x; bytes = j.0.bytes })) j.2 j.3;
                 };
           }
 
@@ -191,7 +191,7 @@ module _ (ring : Stretch) where
   asks_got w key (s ∷ asks) h = (h.0, asks_got w key asks h.1)
 
   -- an owner that holds something under the key
-  pub record IsOwnedAs (w : World) (key : Key) (kind : Kind) (least : ℕ) : Type 0 where
+  pub record IsOwnedAs (w : World) (key : Key) (kind : BlockKind) (least : ℕ) : Type 0 where
     pub owner : Peer
     pub owns : IsAmong owner (own ring key)
     pub holds : IsHeld w key kind least owner
@@ -206,7 +206,7 @@ module _ (ring : Stretch) where
     ends : Ends found asks came
 
   has_asked : {T : Type 0} (w v : World) (key : Key) (owner : Peer) (Ends : List Peer → Told → Result T Miss → Type 0) (trail : List Heard) (came : Result T Miss) → IsAmong owner (own ring key) → IsRingOf ring v → AreGot w trail
-      → IsCourse key (ask.Get key) (entries_by ring.base) Ends trail came → HasAsked w key T Ends came
+      → IsExecution key (ask.Get key) (entries_by ring.base) Ends trail came → HasAsked w key T Ends came
   has_asked w v key owner Ends trail came o h got (no_route looks found is l nobody result_is) =
       let so = finds ring v key looks found h (looks_got w key looks (subst (AreGot w) is got)) l in
       absurd (never so.list (subst (λ f. outcome key f ≡ Err (miss.NoRoute key)) so.found_is nobody) (subst (IsAmong owner) (sym so.owners_are) o))
@@ -239,7 +239,7 @@ module _ (ring : Stretch) where
     got_of a s i = all-among (AskGot w key) s asks got i (made s.0 (asked_found found asks a.once a.firsts a.order s i))
 
     -- an owner is asked, where too few have answered before, and gives what it holds
-    holder_gives : (kind : Kind) (least : ℕ) (o : IsOwnedAs w key kind least) (IsEnough : Told → Type 0) → (IsEnough asks → ring.r ≤ answered_in is_of_get asks) → AreAsks found IsEnough asks → (s : Peer × Answer) × IsAmong s asks × IsGivenAs key kind least s.1
+    holder_gives : (kind : BlockKind) (least : ℕ) (o : IsOwnedAs w key kind least) (IsEnough : Told → Type 0) → (IsEnough asks → ring.r ≤ answered_in is_of_get asks) → AreAsks found IsEnough asks → (s : Peer × Answer) × IsAmong s asks × IsGivenAs key kind least s.1
     holder_gives kind least o IsEnough only a =
         let i = owner_asked (λ m. lives ring m) is_of_get ring.r ring.stands.covered.positive found (own ring key) are (own_distinct ring key) asks (all_from (λ (s : Peer × Answer). is_of_get s.1 ≡ lives ring s.0) asks (λ s i. (got_of a s i).answers))
         IsEnough only a o.owner o.owns in
@@ -252,7 +252,7 @@ module _ (ring : Stretch) where
       let asked = has_asked w v key o.owner _ trail came o.owns h got get in
       asked.ends.2 ∙ by asked.found asked.asks asked.owners_are asked.made asked.got asked.ends.0 asked.ends.1
     where
-      kind_so : (k : Kind) (b : List ℕ) → IsOf ring.end key k b → b ≡ bytes
+      kind_so : (k : BlockKind) (b : List ℕ) → IsOf ring.end key k b → b ≡ bytes
       kind_so Content b h = one b h
       kind_so Head b h = absurd (ring.apart key bytes b content h)
 

@@ -3,18 +3,18 @@ use Rattle.std.proofs.Common.{◌≡◌, inl, inr, ℕ, true, false, List, cond,
 use Rattle.std.proofs.lemmas.List.Elements.{Contains-append_left}
 use Rattle.ring_model.proofs.Lists.{all-both}
 use Rattle.dhash_model.specs.Signed.{hss_judged}
-use Rattle.dhash_model.specs.Course.{Told, told_all}
+use Rattle.dhash_model.specs.Execution.{Told, told_all}
 use Rattle.dhash_model.specs.GetBlock.{IsGetOfBlock}
 use Rattle.dhash_model.specs.GetHead.{IsGetOfHead}
-use Rattle.dhash_model.specs.declared.kind.Kind.{Kind}
-use Rattle.dhash_model.specs.declared.kind.Kind.TheVariants.{Content, Head}
+use Rattle.dhash_model.specs.declared.kind.BlockKind.{BlockKind}
+use Rattle.dhash_model.specs.declared.kind.BlockKind.TheVariants.{Content, Head}
 use Rattle.dht_ids.specs.declared.ask.Ask.TheVariants as ask
 use Rattle.dht_ids.specs.declared.post.Post.{Post}
 use Rattle.agent_model.specs.Agent.{is_head}
 use Rattle.world_model.specs.World.{World}
 use Rattle.world_model.specs.Fates.{Fates, asking}
 use Rattle.world_model.specs.Logs.{Played}
-use Rattle.world_model.specs.Holding.{rank}
+use Rattle.world_model.specs.Holding.{block_rank}
 use Rattle.calm_laws.specs.Calm.{IsCalmAt, Stopped, post_rank}
 use Rattle.calm_laws.specs.Readable.{GetsGiveBlock, GetsGiveHead}
 use Rattle.calm_laws.proofs.CalmHeld.{post_rank_is}
@@ -31,11 +31,11 @@ module _ (r count : ℕ) (w : Played) (s : IsStanding r count w.0 w.1) (p : Post
   held : IsAckHeld (on r count w s) w.0 p
   held = acked_on r count w s p acked
 
-  owned : (kind : Kind) → kind_of p ≡ kind → IsOwnedAs (on r count w s) w.0 p.key kind (post_rank p)
+  owned : (kind : BlockKind) → kind_of p ≡ kind → IsOwnedAs (on r count w s) w.0 p.key kind (post_rank p)
   owned kind e = record {
     owner = held.owner;
     owns = held.owns;
-    holds = subst (λ v. IsHeld w.0 p.key kind v held.owner) (sym (post_rank_is p)) (subst (λ k. IsHeld w.0 p.key k (rank hss_judged p.key (block_of p)) held.owner) e held.holds.held);
+    holds = subst (λ v. IsHeld w.0 p.key kind v held.owner) (sym (post_rank_is p)) (subst (λ k. IsHeld w.0 p.key k (block_rank hss_judged p.key (block_of p)) held.owner) e held.holds.held);
   }
 
   got : (next : World) (looks asks : Told) → Fates hss_judged w.0 (asking (ask.Route p.key) looks ++ asking (ask.Get p.key) asks) next → AreGot (on r count w s) w.0 (told_all (ask.Route p.key) looks ++ told_all (ask.Get p.key) asks)

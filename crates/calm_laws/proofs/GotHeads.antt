@@ -20,16 +20,16 @@ use Rattle.dht_ids.specs.declared.ask.Heard.{Heard}
 use Rattle.dht_ids.specs.declared.ask.StoreFault.{StoreFault}
 use Rattle.dht_ids.specs.declared.judge.Judged.{Judged}
 use Rattle.dht_ids.specs.declared.peer.Peer.{Peer}
-use Rattle.dhash_model.specs.Course.{Told, result_of, told_all}
-use Rattle.dhash_model.specs.Course.IsCourse.{no_route, of_owners}
+use Rattle.dhash_model.specs.Execution.{Told, result_of, told_all}
+use Rattle.dhash_model.specs.Execution.IsExecution.{no_route, of_owners}
 use Rattle.dhash_model.specs.GetBlock.{block_in, is_of_get}
 use Rattle.dhash_model.specs.GetHead.{IsGetOfHead}
 use Rattle.dhash_model.specs.declared.miss.Miss.{Miss}
 use Rattle.dhash_model.specs.Stores.{Block, Blocks, bytes_at, content, content_fault, head, head_fault}
-use Rattle.session_model.specs.Brought.{Brought, HeadsOf, Part, Want, all_heads, brought_in, heads_of, stamp_of}
-use Rattle.session_model.specs.Courses.{Fails, LacksMemory}
-use Rattle.session_model.specs.Courses.Fails.{fails, goes_on}
-use Rattle.session_model.specs.Courses.LacksMemory.{lacks}
+use Rattle.session_model.specs.Brought.{Brought, HeadsOf, Part, WantedOfRing, all_heads, brought_in, heads_of, stamp_of}
+use Rattle.session_model.specs.Executions.{Fails, LacksMemory}
+use Rattle.session_model.specs.Executions.Fails.{fails, goes_on}
+use Rattle.session_model.specs.Executions.LacksMemory.{lacks}
 use Rattle.session_model.specs.Sessions.{Cache, Gets, Hears, Session, Takes, TakesAll}
 use Rattle.session_model.specs.Sessions.Gets.{content as got_content, heads as got_heads}
 use Rattle.session_model.specs.Sessions.Hears.{gets_on, got, puts_on, puts}
@@ -161,7 +161,7 @@ module _ (Of : Key → List ℕ → Type 0) where
   of_heads key [] h = tt
   of_heads key (j ∷ heads) h = (h.0, of_heads key heads h.1)
 
-  pub brings_so : {r : ℕ} {entries : List Peer} {want : Want} {asks : List Heard} {b : Brought} → Gets hss_judged r entries want asks b → AllByRecursion IsHeardOf asks → AllByRecursion EntryOf (heads_of b)
+  pub brings_so : {r : ℕ} {entries : List Peer} {want : WantedOfRing} {asks : List Heard} {b : Brought} → Gets hss_judged r entries want asks b → AllByRecursion IsHeardOf asks → AllByRecursion EntryOf (heads_of b)
   brings_so {r} {entries} (got_heads {owner = owner} {asks = asks} came gets) h = by came gets
     where
       by : (came : Result (List Judged) Miss) → IsGetOfHead (hss_judged (head_key_of owner)) (head_key_of owner) r entries asks came → AllByRecursion EntryOf (heads_of (HeadsOf owner came))

@@ -17,8 +17,8 @@ use Rattle.dht_ids.specs.declared.ask.Heard.{Heard}
 use Rattle.dht_ids.specs.declared.ask.StoreFault.TheVariants.{WrongName}
 use Rattle.dhash_model.specs.GetBlock.{block_in}
 use Rattle.dhash_model.specs.Stores.{Block, Blocks, bytes_at, content, content_fault, full, head, head_fault}
-use Rattle.dhash_model.specs.declared.kind.Kind.{Kind}
-use Rattle.dhash_model.specs.declared.kind.Kind.TheVariants.{Content, Head}
+use Rattle.dhash_model.specs.declared.kind.BlockKind.{BlockKind}
+use Rattle.dhash_model.specs.declared.kind.BlockKind.TheVariants.{Content, Head}
 use Rattle.dht_ids.specs.declared.ask.Ask.{Ask}
 use Rattle.dht_ids.specs.declared.ask.Ask.TheVariants as ask
 use Rattle.dht_ids.specs.declared.ask.StoreFault.{StoreFault}
@@ -43,7 +43,7 @@ IsHeadPut acked key bytes = (j : Judged) → hss_judged key bytes ≡ Some j →
 abbrev pub IsNamed : List (List ℕ) → Key → List ℕ → Type 0
 IsNamed met key bytes = (name bytes ≡ key) × Contains met bytes
 
-abbrev pub IsPutAs : List (List ℕ) → List Post → Kind → Key → List ℕ → Type 0
+abbrev pub IsPutAs : List (List ℕ) → List Post → BlockKind → Key → List ℕ → Type 0
 IsPutAs met acked Content key bytes = IsNamed met key bytes
 IsPutAs met acked Head key bytes = IsHeadPut acked key bytes
 
@@ -73,7 +73,7 @@ pub more_head : (acked more : List Post) → ((p : Post) → Contains acked p �
 more_head acked more grows key bytes h j judged = over_weaker (WasPut acked) (WasPut more) key j (more_put acked more grows) (h j judged)
 
 module _ (met now : List (List ℕ)) (acked more : List Post) (meets : (b : List ℕ) → Contains met b → Contains now b) (grows : (p : Post) → Contains acked p → Contains more p) where
-  more_as : (kind : Kind) (key : Key) (bytes : List ℕ) → IsPutAs met acked kind key bytes → IsPutAs now more kind key bytes
+  more_as : (kind : BlockKind) (key : Key) (bytes : List ℕ) → IsPutAs met acked kind key bytes → IsPutAs now more kind key bytes
   more_as Content key bytes h = (h.0, meets bytes h.1)
   more_as Head key bytes h = more_head acked more grows key bytes h
 
@@ -142,7 +142,7 @@ module _ (met : List (List ℕ)) (acked : List Post) where
 
   -- ---- what is heard
 
-  of_kind : (kind : Kind) (key : Key) (bytes : List ℕ) → IsPutAs met acked kind key bytes → IsPutUnder met acked key bytes
+  of_kind : (kind : BlockKind) (key : Key) (bytes : List ℕ) → IsPutAs met acked kind key bytes → IsPutUnder met acked key bytes
   of_kind Content key bytes h = inr h
   of_kind Head key bytes h = inl h
 

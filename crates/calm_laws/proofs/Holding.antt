@@ -19,17 +19,17 @@ use Rattle.dht_ids.specs.declared.judge.Judged.{Judged}
 use Rattle.dht_ids.specs.declared.peer.Peer.{Peer}
 use Rattle.dhash_model.specs.Puts.{holds}
 use Rattle.dhash_model.specs.Signed.{hss_judged}
-use Rattle.dhash_model.specs.Stores.{Block, Blocks, bytes_held, capacity, content, content_fault, full, head, head_fault, not_judged, number_at, older}
-use Rattle.dhash_model.specs.declared.kind.Kind.{Kind}
-use Rattle.dhash_model.specs.declared.kind.Kind.TheVariants.{Content, Head}
+use Rattle.dhash_model.specs.Stores.{Block, Blocks, bytes_held, store_capacity as capacity, content, content_fault, full, head, head_fault, not_judged, number_at, older}
+use Rattle.dhash_model.specs.declared.kind.BlockKind.{BlockKind}
+use Rattle.dhash_model.specs.declared.kind.BlockKind.TheVariants.{Content, Head}
 use Rattle.node_store.proofs.Maps.{keys_total}
 use Rattle.world_model.specs.Nodes.{Node, answered, stored}
 use Rattle.world_model.specs.World.{World, node_at, peer_of, with_node}
-use Rattle.world_model.specs.Fates.{FateOf, counted}
+use Rattle.world_model.specs.Fates.{FateOf, ask_counted as counted}
 use Rattle.world_model.specs.Fates.FateOf.{lost, stopped, answers}
 use Rattle.world_model.specs.Rounds.{question_as}
 use Rattle.world_model.specs.RingOf.{own_node}
-use Rattle.world_model.specs.Holding.{held_in, rank}
+use Rattle.world_model.specs.Holding.{held_in, block_rank as rank}
 use Rattle.round_laws.proofs.Nodes.{at, at_id, at_other, at_same, replaced, same_id, same_or_not, ties}
 use Rattle.round_laws.proofs.Standing.{peer_or_not}
 use Rattle.round_laws.proofs.Holding.{held_at, node_here, node_is, node_other}
@@ -48,7 +48,7 @@ stored_same : (n : Node) (key : Key) (block : Block) (fault : Option StoreFault)
 stored_same n key block (Some f) e = refl
 stored_same n key block None e = absurd cc
 
-put_refused : (kind : Kind) (key : Key) (bytes : List ℕ) (n : Node) → holds (answered hss_judged n (question_as kind key bytes)).0 ≡ false → (answered hss_judged n (question_as kind key bytes)).1 ≡ n
+put_refused : (kind : BlockKind) (key : Key) (bytes : List ℕ) (n : Node) → holds (answered hss_judged n (question_as kind key bytes)).0 ≡ false → (answered hss_judged n (question_as kind key bytes)).1 ≡ n
 put_refused Content key bytes n e = stored_same n key (content bytes) (content_fault key bytes n.blocks) e
 put_refused Head key bytes n e = stored_same n key (head bytes) (head_fault hss_judged key bytes n.blocks) e
 
@@ -70,7 +70,7 @@ no_fault_holds : (n : Node) (key : Key) (block : Block) (fault : Option StoreFau
 no_fault_holds n key block fault e = subst (λ o. holds (stored n key block o).0 ≡ true) (sym e) refl
 
 module _ (end : World) where
-  pub taken_of : (kind : Kind) (key : Key) (bytes : List ℕ) (n : Node) → FitsIn end (question_as kind key bytes) → holds (answered hss_judged n (question_as kind key bytes)).0 ≡ true → IsOf end key kind bytes
+  pub taken_of : (kind : BlockKind) (key : Key) (bytes : List ℕ) (n : Node) → FitsIn end (question_as kind key bytes) → holds (answered hss_judged n (question_as kind key bytes)).0 ≡ true → IsOf end key kind bytes
   taken_of Content key bytes n f h = f (content_named n key bytes h)
   taken_of Head key bytes n f h = f (head_judged n key bytes h)
 
@@ -95,7 +95,7 @@ module _ (end : World) where
   stored_orderly n key block (Some f) new h = h
   stored_orderly n key block None new h = record { kinds = put_of n key block (new refl) h.kinds; sorted = is_sorted-put key_cmp keys_total key block n.blocks h.sorted }
 
-  put_orderly : (kind : Kind) (key : Key) (bytes : List ℕ) (n : Node) → FitsIn end (question_as kind key bytes) → IsOrderly n → IsOrderly (answered hss_judged n (question_as kind key bytes)).1
+  put_orderly : (kind : BlockKind) (key : Key) (bytes : List ℕ) (n : Node) → FitsIn end (question_as kind key bytes) → IsOrderly n → IsOrderly (answered hss_judged n (question_as kind key bytes)).1
   put_orderly Content key bytes n f h = stored_orderly n key (content bytes) (content_fault key bytes n.blocks) (λ e. taken_of Content key bytes n f (no_fault_holds n key (content bytes) (content_fault key bytes n.blocks) e)) h
   put_orderly Head key bytes n f h = stored_orderly n key (head bytes) (head_fault hss_judged key bytes n.blocks) (λ e. taken_of Head key bytes n f (no_fault_holds n key (head bytes) (head_fault hss_judged key bytes n.blocks) e)) h
 
@@ -129,7 +129,7 @@ module _ (end : World) where
       let less : nat_lt capacity (bytes_held (put key_cmp key block n.blocks)) ≡ false = le-ltb capacity (bytes_held (put key_cmp key block n.blocks)) within in
       ap (λ b. cond b (Some Full) None) less
 
-  pub put_held : IsWithinLimit end → (kind : Kind) (key : Key) (bytes : List ℕ) (n : Node) → IsOrderly n → IsOf end key kind bytes → holds (answered hss_judged n (question_as kind key bytes)).0 ≡ true
+  pub put_held : IsWithinLimit end → (kind : BlockKind) (key : Key) (bytes : List ℕ) (n : Node) → IsOrderly n → IsOf end key kind bytes → holds (answered hss_judged n (question_as kind key bytes)).0 ≡ true
   put_held room Content key bytes n h of =
       let none = never_full room n key (content bytes) h of in
       let named : eq_by_cmp key_cmp key (name bytes) ≡ true = ties key (name bytes) (sym of.1) in
@@ -155,14 +155,14 @@ module _ (end : World) where
 
   pub record NodeGoesOn (n next : Node) : Type 0 where
     pub orderly : IsOrderly next
-    pub held : (key : Key) (kind : Kind) (least : ℕ) → IsIn key kind least (under key n) → IsIn key kind least (under key next)
+    pub held : (key : Key) (kind : BlockKind) (least : ℕ) → IsIn key kind least (under key n) → IsIn key kind least (under key next)
 
   module _ (apart : AreApart end) where
     stays_so : (n next : Node) → next ≡ n → IsOrderly n → NodeGoesOn n next
     stays_so n next e h = subst (NodeGoesOn n) (sym e) (record { orderly = h; held = λ key kind least i. i })
 
     -- a put that is taken
-    put_taken : (kind : Kind) (key : Key) (bytes : List ℕ) (n : Node) → IsOrderly n → FitsIn end (question_as kind key bytes) → holds (answered hss_judged n (question_as kind key bytes)).0 ≡ true
+    put_taken : (kind : BlockKind) (key : Key) (bytes : List ℕ) (n : Node) → IsOrderly n → FitsIn end (question_as kind key bytes) → holds (answered hss_judged n (question_as kind key bytes)).0 ≡ true
         → NodeGoesOn n (answered hss_judged n (question_as kind key bytes)).1 × IsIn key kind (rank hss_judged key (record { kind = kind; bytes = bytes })) (under key (answered hss_judged n (question_as kind key bytes)).1)
     put_taken kind key bytes n h fit taken = (record { orderly = put_orderly kind key bytes n fit h; held = held }, (fresh.0, fresh.1, s.kind_then fresh.0 fresh.1, fresh.2))
       where
@@ -178,18 +178,18 @@ module _ (end : World) where
         fresh : (c : Block) × (under key next ≡ Some c) × (rank hss_judged key (record { kind = kind; bytes = bytes }) ≤ rank hss_judged key c)
         fresh = raised_from (rank hss_judged key) (under key next) (under key n) (rank hss_judged key (record { kind = kind; bytes = bytes })) s.rank_then
 
-        held_here : (k : Kind) (least : ℕ) → IsIn key k least (under key n) → IsIn key k least (under key next)
+        held_here : (k : BlockKind) (least : ℕ) → IsIn key k least (under key n) → IsIn key k least (under key next)
         held_here k least i =
             let found = raised_to (rank hss_judged key) (under key next) (rank hss_judged key (record { kind = kind; bytes = bytes })) (rank hss_judged key i.0) (s.rank_then ∙ ap (λ (o : Option Block). raised (rank hss_judged key (record { kind = kind; bytes = bytes })) (option_map (rank hss_judged key) o)) i.1) in
             (found.0, found.1, s.kind_then found.0 found.1 ∙ sym (one_kind end apart key i.0.kind kind i.0.bytes bytes (h.kinds key i.0 i.1) of) ∙ i.2, omega (arith, i.3, found.3))
 
-        held : (other : Key) (k : Kind) (least : ℕ) → IsIn other k least (under other n) → IsIn other k least (under other next)
+        held : (other : Key) (k : BlockKind) (least : ℕ) → IsIn other k least (under other n) → IsIn other k least (under other next)
         held other k least i = ⊎_elim
             (λ same. subst (λ x. IsIn x k least (under x next)) (sym same) (held_here k least (subst (λ x. IsIn x k least (under x n)) same i)))
             (λ d. subst (IsIn other k least) (sym (s.others other d)) i)
             (same_or_not other key)
 
-    put_goes_on : (kind : Kind) (key : Key) (bytes : List ℕ) (n : Node) → IsOrderly n → FitsIn end (question_as kind key bytes) → NodeGoesOn n (answered hss_judged n (question_as kind key bytes)).1
+    put_goes_on : (kind : BlockKind) (key : Key) (bytes : List ℕ) (n : Node) → IsOrderly n → FitsIn end (question_as kind key bytes) → NodeGoesOn n (answered hss_judged n (question_as kind key bytes)).1
     put_goes_on kind key bytes n h fit = by (holds (answered hss_judged n (question_as kind key bytes)).0) refl
       where
         by : (b : Bool) → holds (answered hss_judged n (question_as kind key bytes)).0 ≡ b → NodeGoesOn n (answered hss_judged n (question_as kind key bytes)).1
@@ -227,7 +227,7 @@ module _ (end : World) where
         orderly_then : AreOrderly (with_node (counted w) new)
         orderly_then = orderly_with (counted w) old new (subst (λ (q : Peer). at w.nodes q.id ≡ Some old) (sym me) here) (λ id n e. h id n e) on.orderly
 
-        held_then : (key : Key) (kind : Kind) (least : ℕ) (p : Peer) → IsHeld w key kind least p → IsHeld (with_node (counted w) new) key kind least p
+        held_then : (key : Key) (kind : BlockKind) (least : ℕ) (p : Peer) → IsHeld w key kind least p → IsHeld (with_node (counted w) new) key kind least p
         held_then key kind least p i = ⊎_elim
             (λ same.
             let was : held_in w key p ≡ under key old = ap (held_at key) (subst (λ (q : Peer). own_node q (node_at w q.id) ≡ Some old) (sym same) (node_is w (peer_of old) old here refl)) in
@@ -237,7 +237,7 @@ module _ (end : World) where
             (peer_or_not p (peer_of old))
 
     -- a put that was taken is held where it was
-    pub put_is_held : (w : World) (to : Peer) (kind : Kind) (key : Key) (bytes : List ℕ) (old : Node) → FitsIn end (question_as kind key bytes) → AreOrderly w → node_at w to.id ≡ Some old → peer_of old ≡ to → holds (answered hss_judged old (question_as kind key bytes)).0 ≡ true
+    pub put_is_held : (w : World) (to : Peer) (kind : BlockKind) (key : Key) (bytes : List ℕ) (old : Node) → FitsIn end (question_as kind key bytes) → AreOrderly w → node_at w to.id ≡ Some old → peer_of old ≡ to → holds (answered hss_judged old (question_as kind key bytes)).0 ≡ true
         → IsHeld (with_node (counted w) (answered hss_judged old (question_as kind key bytes)).1) key kind (rank hss_judged key (record { kind = kind; bytes = bytes })) to
     put_is_held w to kind key bytes old fit h is mine taken =
         let new : Node = (answered hss_judged old (question_as kind key bytes)).1 in
@@ -245,6 +245,6 @@ module _ (end : World) where
         let now : held_in (with_node (counted w) new) key to ≡ under key new = ap (held_at key) (node_here (counted w) to old new is me) in
         subst (IsIn key kind (rank hss_judged key (record { kind = kind; bytes = bytes }))) (sym now) (put_taken kind key bytes old (h to.id old is) fit taken).1
       where
-        put_data : (kind : Kind) → IsForData (question_as kind key bytes)
+        put_data : (kind : BlockKind) → IsForData (question_as kind key bytes)
         put_data Content = tt
         put_data Head = tt

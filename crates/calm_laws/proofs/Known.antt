@@ -5,7 +5,7 @@ use Rattle.std.specs.List.{AllByRecursion}
 use Rattle.std.proofs.lemmas.List.Elements.{Contains-append_left}
 use Rattle.ivy_base.specs.declared.key.Key.{Key}
 use Rattle.ivy_base.specs.declared.key.PubKey.{PubKey}
-use Rattle.ivy_base.specs.Naming.{NamesTellApart, head_key_of, name}
+use Rattle.ivy_base.specs.Naming.{IsCollisionFree, head_key_of, name}
 use Rattle.log_model.specs.Chain.{LinkedFrom}
 use Rattle.log_model.specs.Closed.{log_of}
 use Rattle.log_model.specs.Record.{Record}
@@ -18,11 +18,11 @@ use Rattle.log_model.proofs.Lists.{each, each_append, each_from, each_left, each
 use Rattle.dht_ids.specs.declared.post.Post.{Post}
 use Rattle.agent_model.specs.Agent.{record_post}
 use Rattle.turn_model.specs.Known.{EndsAt, IsBacked, IsUnderHead}
-use Rattle.world_model.specs.Agents.{own}
+use Rattle.world_model.specs.Agents.{own_hss_key}
 use Rattle.world_model.specs.World.{Participant, named_bytes, participant}
-use Rattle.world_model.specs.Story.{knowing_of, known_of}
+use Rattle.world_model.specs.GhostState.{knowing_of, known_of}
 use Rattle.world_model.specs.Logs.{Played}
-use Rattle.world_laws.specs.Keeps.{AreParticipants, EntersOwned, IsSound, IsSoundIn, Keeps}
+use Rattle.world_laws.specs.Invariant.{AreParticipants, EntersOwned, IsSound, IsSoundIn, Invariant}
 use Rattle.world_laws.proofs.Bringing.{found_named}
 use Rattle.world_laws.proofs.HeadKeys.{block_is_key}
 use Rattle.turn_laws.proofs.LinkedLogs.{chain_linked, ends_some}
@@ -57,7 +57,7 @@ newest_of : (prev : Key) (before : List Record) (last : Record) → newest prev 
 newest_of prev [] last = refl
 newest_of prev (b ∷ before) last = newest_of b.name before last
 
-module _ (acked : List Post) (met : List (List ℕ)) (apart : NamesTellApart met) (put_met : (p : Post) → Contains acked p → Contains met p.bytes) (log : Key) where
+module _ (acked : List Post) (met : List (List ℕ)) (apart : IsCollisionFree met) (put_met : (p : Post) → Contains acked p → Contains met p.bytes) (log : Key) where
   abbrev Back : ℕ → Key → Type 0
   Back n key = IsBack acked [] log n key
 
@@ -88,14 +88,14 @@ module _ (acked : List Post) (met : List (List ℕ)) (apart : NamesTellApart met
 
 -- ---- what stands under a head that was received
 
-module _ (w : Played) (keeps : Keeps w) (apart : NamesTellApart (named_bytes w.0)) (no_key : (p : Participant) → Contains w.0.participants p → Contains w.0.met (own p.agent).0 → ⊥) (h : IsBackedWorld w.0 w.1) where
-  met_apart : NamesTellApart w.0.met
+module _ (w : Played) (keeps : Invariant w) (apart : IsCollisionFree (named_bytes w.0)) (no_key : (p : Participant) → Contains w.0.participants p → Contains w.0.met (own_hss_key p.agent).0 → ⊥) (h : IsBackedWorld w.0 w.1) where
+  met_apart : IsCollisionFree w.0.met
   met_apart a b in_a in_b same = apart a b (Contains-append_left w.0.met _ a in_a) (Contains-append_left w.0.met _ b in_b) same
 
   -- no block that was met has the name of a member's key
   not_named : (view : View) → AreParticipants w.0 view → (owner : PubKey) → Contains view.members owner → (b : List ℕ) → Contains w.0.met b → name b ≡ head_key_of owner → ⊥
   not_named view owned owner member b in_met named =
-      let found = from_map (λ (p : Participant). own p.agent) w.0.participants owner (each (Contains (map (λ (p : Participant). own p.agent) w.0.participants)) view.members owner owned member) in
+      let found = from_map (λ (p : Participant). own_hss_key p.agent) w.0.participants owner (each (Contains (map (λ (p : Participant). own_hss_key p.agent) w.0.participants)) view.members owner owned member) in
       no_key found.0 found.1 (subst (Contains w.0.met) (block_is_key w keeps apart b found.0 in_met found.1 (named ∙ ap head_key_of found.2)) in_met)
 
   under_put : (view : View) → AreParticipants w.0 view → (received : List Entry) → AllByRecursion (IsEntryPut w.0.met w.1.acked) received → (one : Record) → Contains view.members one.owner → IsUnderHead w.0.met received one → WasPut w.1.acked one
@@ -127,14 +127,14 @@ module _ (w : Played) (keeps : Keeps w) (apart : NamesTellApart (named_bytes w.0
     pub owned : AreParticipants w.0 view
     owned = subst (λ o. IfSome o (AreParticipants w.0)) in_view (each (EntersOwned w.0) w.0.participants p keeps.entered among).agent
 
-    pub known_put : (one : Record) → Contains (known_of w.1 p.name) one → WasPut w.1.acked one ⊎ ((one.owner ≡ own p.agent) × Contains p.agent.pending (record_post one))
-    known_put one c = by (each (IsBacked w.0.met (own p.agent) p.agent.floor (knowing_of w.1 p.name).received) (known_of w.1 p.name) one sound.verified.backed c)
+    pub known_put : (one : Record) → Contains (known_of w.1 p.name) one → WasPut w.1.acked one ⊎ ((one.owner ≡ own_hss_key p.agent) × Contains p.agent.pending (record_post one))
+    known_put one c = by (each (IsBacked w.0.met (own_hss_key p.agent) p.agent.floor (knowing_of w.1 p.name).received) (known_of w.1 p.name) one sound.verified.backed c)
       where
-        mine_put : one.owner ≡ own p.agent → IsPutOr w.1.acked p.agent.pending one → WasPut w.1.acked one ⊎ ((one.owner ≡ own p.agent) × Contains p.agent.pending (record_post one))
+        mine_put : one.owner ≡ own_hss_key p.agent → IsPutOr w.1.acked p.agent.pending one → WasPut w.1.acked one ⊎ ((one.owner ≡ own_hss_key p.agent) × Contains p.agent.pending (record_post one))
         mine_put mine (inl put) = inl put
         mine_put mine (inr later) = inr (mine, later)
 
-        by : IsBacked w.0.met (own p.agent) p.agent.floor (knowing_of w.1 p.name).received one → WasPut w.1.acked one ⊎ ((one.owner ≡ own p.agent) × Contains p.agent.pending (record_post one))
+        by : IsBacked w.0.met (own_hss_key p.agent) p.agent.floor (knowing_of w.1 p.name).received one → WasPut w.1.acked one ⊎ ((one.owner ≡ own_hss_key p.agent) × Contains p.agent.pending (record_post one))
         by (inl mine) = mine_put mine.0 (its.agent.records one c mine.0)
         by (inr other) = inl (under_put view owned (knowing_of w.1 p.name).received (h.received p.name) one (each (λ (x : Record). Contains view.members x.owner) (known_of w.1 p.name) one sound.knows.by_floor.members c) other.1)
 
@@ -147,13 +147,13 @@ module _ (w : Played) (keeps : Keeps w) (apart : NamesTellApart (named_bytes w.0
       each = each_from (IsPutOr w.1.acked p.agent.pending) (log_of owner (known_of w.1 p.name)) (λ one c. either one (known_put one (from_log owner (known_of w.1 p.name) one c)));
     }
       where
-        either : (one : Record) → WasPut w.1.acked one ⊎ ((one.owner ≡ own p.agent) × Contains p.agent.pending (record_post one)) → IsPutOr w.1.acked p.agent.pending one
+        either : (one : Record) → WasPut w.1.acked one ⊎ ((one.owner ≡ own_hss_key p.agent) × Contains p.agent.pending (record_post one)) → IsPutOr w.1.acked p.agent.pending one
         either one (inl put) = inl put
         either one (inr later) = inr later.1
 
 -- before it enters a view an agent knows its own opening alone
-pub outside_put : (w : Played) → Keeps w → NamesTellApart (named_bytes w.0) → IsBackedWorld w.0 w.1 → (p : Participant) → participant w.0 p.name ≡ Some p → p.agent.view ≡ None → (one : Record) → Contains (known_of w.1 p.name) one
-    → WasPut w.1.acked one ⊎ ((one.owner ≡ own p.agent) × Contains p.agent.pending (record_post one))
+pub outside_put : (w : Played) → Invariant w → IsCollisionFree (named_bytes w.0) → IsBackedWorld w.0 w.1 → (p : Participant) → participant w.0 p.name ≡ Some p → p.agent.view ≡ None → (one : Record) → Contains (known_of w.1 p.name) one
+    → WasPut w.1.acked one ⊎ ((one.owner ≡ own_hss_key p.agent) × Contains p.agent.pending (record_post one))
 outside_put w keeps apart h p is_p outside one c = with_mine (its.agent.records one c mine)
   where
     its : IsBackedIn w.0.met w.1.acked p (known_of w.1 p.name)
@@ -162,9 +162,9 @@ outside_put w keeps apart h p is_p outside one c = with_mine (its.agent.records 
     sound : IsSoundIn w.0.met p (knowing_of w.1 p.name) None
     sound = subst (IsSoundIn w.0.met p (knowing_of w.1 p.name)) outside (each (λ (x : Participant). IsSoundIn w.0.met x (knowing_of w.1 x.name) x.agent.view) w.0.participants p (keeps.sound apart).agents (found_named w.0.participants p.name p is_p).0)
 
-    mine : one.owner ≡ own p.agent
-    mine = ⊎_elim (λ (e : sound.0 ≡ one). subst (λ (x : Record). x.owner ≡ own p.agent) e sound.4.0.owned) (λ none. absurd (in_nothing one none)) (in_cons sound.0 [] one (subst (λ l. Contains l one) sound.1 c))
+    mine : one.owner ≡ own_hss_key p.agent
+    mine = ⊎_elim (λ (e : sound.0 ≡ one). subst (λ (x : Record). x.owner ≡ own_hss_key p.agent) e sound.4.0.owned) (λ none. absurd (in_nothing one none)) (in_cons sound.0 [] one (subst (λ l. Contains l one) sound.1 c))
 
-    with_mine : IsPutOr w.1.acked p.agent.pending one → WasPut w.1.acked one ⊎ ((one.owner ≡ own p.agent) × Contains p.agent.pending (record_post one))
+    with_mine : IsPutOr w.1.acked p.agent.pending one → WasPut w.1.acked one ⊎ ((one.owner ≡ own_hss_key p.agent) × Contains p.agent.pending (record_post one))
     with_mine (inl put) = inl put
     with_mine (inr later) = inr (mine, later)

@@ -12,12 +12,12 @@ use Rattle.log_model.specs.Spelling.{head_block, head_tag}
 use Rattle.log_model.specs.Vector.{Stamp}
 use Rattle.wire_model.specs.Xdr.{opaque, word}
 use Rattle.wire_model.proofs.OneReading.{same_fronts}
-use Rattle.hash_signature_model.specs.Signer.{Signer, hss_key_of, owner_of}
+use Rattle.hash_signature_model.specs.Signer.{Signer, hss_key_of, public_key_of as owner_of}
 use Rattle.dht_ids.specs.declared.judge.Judged.{Judged}
-use Rattle.world_model.specs.Agents.{own}
+use Rattle.world_model.specs.Agents.{own_hss_key}
 use Rattle.world_model.specs.World.{Participant}
 use Rattle.world_model.specs.Logs.{Played}
-use Rattle.world_laws.specs.Keeps.{IsKeptSo, Keeps, SignsOnce, sealed_with}
+use Rattle.world_laws.specs.Invariant.{IsKeptSo, Invariant, SignsOnce, sealed_with}
 use Rattle.world_laws.proofs.PublicKeys.{owner_is_key}
 use Rattle.world_laws.proofs.SignedHeads.{from_map}
 
@@ -40,13 +40,13 @@ owner_told o u s t a b size other same = tail_of o.0 u.0 (same_fronts (tagged o)
     whole : (p : PubKey) (x : Stamp) (c : List ℕ) → head_block p x c ≡ tagged p ++ (word x.seq ++ (x.name.0 ++ opaque c))
     whole p x c = append_assoc (tagged p ++ word x.seq) x.name.0 (opaque c) ∙ append_assoc (tagged p) (word x.seq) (x.name.0 ++ opaque c)
 
-pub left_under : (w : Played) (p : Participant) (h : List ℕ) (key : Key) → Keeps w → Contains w.0.participants p → Contains p.left h → is_some (hss_judged key h) ≡ true → key ≡ head_key_of (own p.agent)
+pub left_under : (w : Played) (p : Participant) (h : List ℕ) (key : Key) → Invariant w → Contains w.0.participants p → Contains p.left h → is_some (hss_judged key h) ≡ true → key ≡ head_key_of (own_hss_key p.agent)
 left_under w p h key keeps p_in among judged = by (hss_judged key h) refl judged
   where
     so : IsKeptSo SignsOnce p
     so = each (IsKeptSo SignsOnce) w.0.participants p keeps.signs p_in
 
-    by : (o : Option Judged) → hss_judged key h ≡ o → is_some o ≡ true → key ≡ head_key_of (own p.agent)
+    by : (o : Option Judged) → hss_judged key h ≡ o → is_some o ≡ true → key ≡ head_key_of (own_hss_key p.agent)
     by None e some = absurd cc
     by (Some j) e some =
         let signed : IsSignedHead key h j = (signed_heads key h j).0 e in

@@ -44,7 +44,7 @@ pub mod PublishesAll
 pub mod LogHeads
 pub mod FitPosts
 pub mod NewestCover
-pub mod NewestScenes
+pub mod NewestConfigurations
 pub mod NewestLines
 pub mod NewestPut
 pub mod CalmLines
@@ -56,7 +56,7 @@ pub mod Holding
 pub mod Stretches
 pub mod States
 pub mod Steps
-pub mod Scenes
+pub mod Configurations
 pub mod Lines
 pub mod Commands
 mod Repairs

@@ -35,7 +35,7 @@ use Rattle.round_laws.proofs.Standing.{lives_are, peer_or_not}
 use Rattle.round_laws.proofs.Rounding.{at_own, base_of, in_order, leaves_who_lives, order_in, rounded_from, shapes_of, within_of}
 use Rattle.round_laws.proofs.Settling.{length_made, round_moves_blocks, settled_by}
 use Rattle.round_laws.proofs.Untouched.{parts_untouched}
-use Rattle.calm_laws.specs.Calm.{rank_in}
+use Rattle.calm_laws.specs.Calm.{held_rank}
 use Rattle.world_laws.proofs.StoredBlocks.{from_sorted}
 use Rattle.calm_laws.proofs.BlockKinds.{AreApart, IsOf, one_kind}
 use Rattle.calm_laws.specs.Laws.{IsWithinLimit}
@@ -123,7 +123,7 @@ are_stores r end w nodes apart h = record {
 
 pub record AfterRound (r : ℕ) (end w next : World) : Type 0 where
   pub orderly : AreOrderly end next
-  pub moved : (key : Key) (owns : Peer → Bool) → Tells owns (owners place r (live_in_order w) (number key)) → AreMoved owns (live_in_order w) (rank_in w key) (rank_in next key)
+  pub moved : (key : Key) (owns : Peer → Bool) → Tells owns (owners place r (live_in_order w) (number key)) → AreMoved owns (live_in_order w) (held_rank w key) (held_rank next key)
 
 pub after_round : (r : ℕ) (end w next : World) → AreNodes r w → length w.nodes ≤ 512 → IsSettledIn next r → AreApart end → IsWithinLimit end → AreOrderly end w → LosesNone w next → IsRoundOf hss_judged r w next → AfterRound r end w next
 after_round r end w next h few settled apart room orderly quiet x =
@@ -151,21 +151,21 @@ least_some (Some u) v h = refl
 none_not : (o : Option ℕ) → o ≡ None → HasSome o → ⊥
 none_not o e h = let no : false ≡ true = sym (ap is_some e) ∙ h in cc
 
-pub round_moves : (r : ℕ) (w next : World) → AreNodes r w → ((key : Key) (owns : Peer → Bool) → Tells owns (owners place r (live_in_order w) (number key)) → AreMoved owns (live_in_order w) (rank_in w key) (rank_in next key)) → lives_in next ≡ lives_in w
+pub round_moves : (r : ℕ) (w next : World) → AreNodes r w → ((key : Key) (owns : Peer → Bool) → Tells owns (owners place r (live_in_order w) (number key)) → AreMoved owns (live_in_order w) (held_rank w key) (held_rank next key)) → lives_in next ≡ lives_in w
     → (m : Peer) (key : Key) → lives_in next m ≡ true
-    → (is_some (rank_in next key m) ≡ true) ↔ (IsAmong m (owners place r (live_in_order w) (number key)) × (p : Peer) × (lives_in w p ≡ true) × (is_some (rank_in w key p) ≡ true))
+    → (is_some (held_rank next key m) ≡ true) ↔ (IsAmong m (owners place r (live_in_order w) (number key)) × (p : Peer) × (lives_in w p ≡ true) × (is_some (held_rank w key p) ≡ true))
 round_moves r w next h moved same m key live = (into, from)
   where
     own : List Peer
     own = owners place r (live_in_order w) (number key)
 
-    are : AreMoved (is_in own) (live_in_order w) (rank_in w key) (rank_in next key)
+    are : AreMoved (is_in own) (live_in_order w) (held_rank w key) (held_rank next key)
     are = moved key (is_in own) (is_in_tells own)
 
     lived : lives_in w m ≡ true
     lived = subst (λ (l : Peer → Bool). l m ≡ true) same live
 
-    into : is_some (rank_in next key m) ≡ true → IsAmong m own × (p : Peer) × (lives_in w p ≡ true) × (is_some (rank_in w key p) ≡ true)
+    into : is_some (held_rank next key m) ≡ true → IsAmong m own × (p : Peer) × (lives_in w p ≡ true) × (is_some (held_rank w key p) ≡ true)
     into h_some =
         let old = all_from_old (is_in own) are m h_some in (
           owned (is_in own m) refl h_some,
@@ -174,11 +174,11 @@ round_moves r w next h moved same m key live = (into, from)
           old.2,
         )
       where
-        owned : (b : Bool) → is_in own m ≡ b → is_some (rank_in next key m) ≡ true → IsAmong m own
+        owned : (b : Bool) → is_in own m ≡ b → is_some (held_rank next key m) ≡ true → IsAmong m own
         owned true e s = (is_in_tells own m).0 e
-        owned false e s = absurd (none_not (rank_in next key m) (others_drop (is_in own) peer_or_not are m e (inr (order_in r w m h lived))) s)
+        owned false e s = absurd (none_not (held_rank next key m) (others_drop (is_in own) peer_or_not are m e (inr (order_in r w m h lived))) s)
 
-    from : IsAmong m own × (p : Peer) × (lives_in w p ≡ true) × (is_some (rank_in w key p) ≡ true) → is_some (rank_in next key m) ≡ true
+    from : IsAmong m own × (p : Peer) × (lives_in w p ≡ true) × (is_some (held_rank w key p) ≡ true) → is_some (held_rank next key m) ≡ true
     from given =
-        least_some (rank_in next key m) 0
-        (owners_hold (is_in own) peer_or_not 0 are (inr (given.1, order_in r w given.1 h given.2, some_least (rank_in w key given.1) given.3)) m ((is_in_tells own m).1 given.0))
+        least_some (held_rank next key m) 0
+        (owners_hold (is_in own) peer_or_not 0 are (inr (given.1, order_in r w given.1 h given.2, some_least (held_rank w key given.1) given.3)) m ((is_in_tells own m).1 given.0))

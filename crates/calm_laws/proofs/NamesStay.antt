@@ -10,12 +10,12 @@ use Rattle.session_model.specs.Sessions.{Said}
 use Rattle.script_driver.specs.Run.{Goes}
 use Rattle.script_model.specs.declared.command.Command.{Command}
 use Rattle.script_model.specs.declared.command.Command.TheVariants as command
-use Rattle.world_model.specs.Agents.{Agent}
+use Rattle.world_model.specs.Agents.{HssAgent}
 use Rattle.world_model.specs.Calls.{replied}
 use Rattle.world_model.specs.Logs.{Played, Publishes, acked_view}
-use Rattle.world_model.specs.Steps.{Scene, acked_by, after_turn}
+use Rattle.world_model.specs.Steps.{Configuration, acked_by, after_turn}
 use Rattle.world_model.specs.Step.{Does}
-use Rattle.world_model.specs.Story.{Began, Story}
+use Rattle.world_model.specs.GhostState.{Began, GhostState}
 use Rattle.world_model.specs.World.{Participant, World, with_participant}
 use Rattle.world_laws.specs.Effects.{Effect, LaterEffect, Plays}
 use Rattle.world_laws.specs.Effects.Effect.{comes, loses, makes_view, of_nodes, opens, plays, renews, shows, times, touches}
@@ -48,32 +48,32 @@ same_then w = record { names = refl; acked = λ p c. c }
 
 module _ (u : Played) where
   -- one in its own place
-  with_one : (w : World) (st : Story) (q : Participant) → NobodyComes u (w, st) → NobodyComes u (with_participant w q, st)
+  with_one : (w : World) (st : GhostState) (q : Participant) → NobodyComes u (w, st) → NobodyComes u (with_participant w q, st)
   with_one w st q h = record { names = names_placed by_name q w.participants ∙ h.names; acked = h.acked }
 
   asked_names : (w next : World) → next ≡ record w { nodes = next.nodes; asked = next.asked } → names_of next ≡ names_of w
   asked_names w next is = ap names_of is
 
-  told_names : {c : Scene} {p : Participant} {view : View} {after : Agent} {end : TurnEnd} {work : ℕ} {story : Story} {began : Began} → Tells c p view after end work story began → (o : Post) → Contains c.story.acked o → Contains story.acked o
+  told_names : {c : Configuration} {p : Participant} {view : View} {after : HssAgent} {end : TurnEnd} {work : ℕ} {ghost_state : GhostState} {began : Began} → Tells c p view after end work ghost_state began → (o : Post) → Contains c.ghost_state.acked o → Contains ghost_state.acked o
   told_names (tells reply applied turned same is_turn) o h = h
   told_names (refuses end refusal) o h = h
 
-  move_names : {r : ℕ} {name : List ℕ} (c next : Scene) → Move hss_judged r name c next → NobodyComes u (c.world, c.story) → NobodyComes u (next.world, next.story)
-  move_names c _ (takes p taken cache is taking) h = with_one c.world c.story (record p { cache = cache }) h
+  move_names : {r : ℕ} {name : List ℕ} (c next : Configuration) → Move hss_judged r name c next → NobodyComes u (c.world, c.ghost_state) → NobodyComes u (next.world, next.ghost_state)
+  move_names c _ (takes p taken cache is taking) h = with_one c.world c.ghost_state (record p { cache = cache }) h
   move_names c _ (asks node question answer next fate) h = record { names = asked_names c.world next (fate_rest fate) ∙ h.names; acked = h.acked }
   move_names c _ (hears p node question answer next heard t cache is fate hearing goes) h = record {
     names = names_placed by_name (record p { cache = cache }) next.participants ∙ asked_names c.world next (fate_rest fate) ∙ h.names;
-    acked = λ q m. Contains-append_left c.story.acked (acked_by c.session.stage t.stage) q (h.acked q m);
+    acked = λ q m. Contains-append_left c.ghost_state.acked (acked_by c.session.stage t.stage) q (h.acked q m);
   }
   move_names c _ (lacks t lacking) h = h
-  move_names c _ (turns p view end after saving t work story began is in_view taking told) h = record {
+  move_names c _ (turns p view end after saving t work ghost_state began is in_view taking told) h = record {
     names = names_placed by_name (record (after_turn p after saving) { work = work }) c.world.participants ∙ h.names;
     acked = λ q m. told_names told q (h.acked q m);
   }
-  move_names c _ (settles p after t is settling) h = with_one c.world c.story (record p { agent = after }) h
+  move_names c _ (settles p after t is settling) h = with_one c.world c.ghost_state (record p { agent = after }) h
 
-  moves_names : {r : ℕ} {name : List ℕ} {c end : Scene} → Moves hss_judged r name c end → NobodyComes u (c.world, c.story) → NobodyComes u (end.world, end.story)
-  moves_names on h = all_moves (λ (x : Scene). NobodyComes u (x.world, x.story)) move_names on h
+  moves_names : {r : ℕ} {name : List ℕ} {c end : Configuration} → Moves hss_judged r name c end → NobodyComes u (c.world, c.ghost_state) → NobodyComes u (end.world, end.ghost_state)
+  moves_names on h = all_moves (λ (x : Configuration). NobodyComes u (x.world, x.ghost_state)) move_names on h
 
   replied_names : (w : World) (said : Said) → names_of (replied w said) ≡ names_of w
   replied_names w said = by (is_some said.message)
@@ -97,7 +97,7 @@ BeginsNone (command.Log log id seed sets) = ⊥
 BeginsNone _ = Unit {0}
 
 module _ (w : Played) where
-  played_names : {k : Command} {r : ℕ} {name : List ℕ} {c end : Scene} {next : Played} → Plays hss_judged w r k name c end next → (NobodyComes w (c.world, c.story) → NobodyComes w (end.world, end.story)) → NobodyComes w next
+  played_names : {k : Command} {r : ℕ} {name : List ℕ} {c end : Configuration} {next : Played} → Plays hss_judged w r k name c end next → (NobodyComes w (c.world, c.ghost_state) → NobodyComes w (end.world, end.ghost_state)) → NobodyComes w next
   played_names (calls log pieces s t end sends begins runs over) on = on (record { names = refl; acked = λ o h. h })
   played_names (steps name count s end is going) on = let one = on (same_then w) in record { names = one.names; acked = one.acked }
   played_names (ends name s end is runs over) on = let one = on (same_then w) in record { names = one.names; acked = one.acked }

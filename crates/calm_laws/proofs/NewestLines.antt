@@ -27,29 +27,29 @@ use Rattle.agent_model.specs.Views.{Entered, KeeperFailed, NotMember, entering_w
 use Rattle.script_driver.specs.Run.{Ends, Goes, Outcome}
 use Rattle.script_model.specs.declared.command.Command.{Command}
 use Rattle.script_model.specs.declared.command.Command.TheVariants as command
-use Rattle.session_model.specs.Courses.Begins.{alone as begins_alone, refreshes as begins_refreshing}
+use Rattle.session_model.specs.Executions.Begins.{alone as begins_alone, refreshes as begins_refreshing}
 use Rattle.session_model.specs.Sessions.{Over, Said, Session, in_publishing_order}
 use Rattle.round_laws.proofs.Nodes.{ties}
-use Rattle.world_model.specs.Agents.{Agent, Entering, IsKept, Kept, entering, hss, opened, own, own_reach}
-use Rattle.world_model.specs.Calls.{AsLine, BeginsWith, FinishLine, OpenLine, Sending, StepLine, replied, scene_of, sending_of}
+use Rattle.world_model.specs.Agents.{HssAgent, HssEntering, IsHssKept, HssKept, hss_entering, hss_signing, hss_opened, own_hss_key as own, own_reach}
+use Rattle.world_model.specs.Calls.{AsLine, BeginsWith, FinishLine, OpenLine, Sending, StepLine, replied, configuration_of, sending_of}
 use Rattle.world_model.specs.Calls.AsLine.{calls}
 use Rattle.world_model.specs.Calls.OpenLine.{opens}
 use Rattle.world_model.specs.Calls.StepLine.{steps}
 use Rattle.world_model.specs.Calls.FinishLine.{ends}
 use Rattle.world_model.specs.Keepers.{asked_to_save, fails_next, fresh_keeper}
-use Rattle.world_model.specs.Logs.{LogLine, Played, Publishes, RestartLine, SnapLine, ViewLine, acked_view, after_entering, afresh, afresh_told, fresh_signer, keys_of, newcomer, of_members, snapping_in, to_publish, use_by, use_line, with_newcomer}
+use Rattle.world_model.specs.Logs.{LogLine, Played, Publishes, RestartLine, SnapLine, ViewLine, acked_view, after_entering, afresh, afresh_told, fresh_signer, keys_of, new_participant, of_members, snapping_in, to_publish, use_by, use_line, with_new_participant}
 use Rattle.world_model.specs.Logs.LogLine.{begins}
 use Rattle.world_model.specs.Logs.RestartLine.{starts}
 use Rattle.world_model.specs.Logs.SnapLine.{cannot as snap_cannot, fails as snap_fails, makes as snap_makes}
 use Rattle.world_model.specs.Logs.ViewLine.{makes}
 use Rattle.world_model.specs.Step.{Does, most_bytes}
-use Rattle.world_model.specs.Steps.{RunsOut, Scene, Steps, StepsOn, having_made, met_by}
+use Rattle.world_model.specs.Steps.{RunsOut, Configuration, Steps, StepsOn, having_made, met_by}
 use Rattle.world_model.specs.Steps.RunsOut.{is_over as runs_over, more as runs_more}
 use Rattle.world_model.specs.Steps.StepsOn.{is_over as steps_over, more as steps_more, none as steps_none}
-use Rattle.world_model.specs.Story.{Story, began_nothing, began_of, beginning, having_begun, known_of, without_began}
+use Rattle.world_model.specs.GhostState.{GhostState, began_nothing, began_of, beginning, having_begun, known_of, without_began}
 use Rattle.world_model.specs.World.{NamedSession, Participant, World, participant, session_named, view_named, with_participant, without_session, without_sessions_of}
 use Rattle.calm_laws.specs.Calm.{IsQuiet}
-use Rattle.world_laws.specs.Keeps.{AreApart as NoneTwice, IsKeptSo, IsSavedWell, Keeps, SignsOnce}
+use Rattle.world_laws.specs.Invariant.{AreApart as NoneTwice, IsKeptSo, IsSavedWell, Invariant, SignsOnce}
 use Rattle.world_laws.specs.Laws.{IsStill}
 use Rattle.world_laws.proofs.Bringing.{found_named}
 use Rattle.calm_laws.proofs.Finding.{each_filtered, session_in}
@@ -66,9 +66,9 @@ use Rattle.world_laws.proofs.SignedHeads.{from_map, so_of}
 use Rattle.world_laws.proofs.Still.{still_lines}
 use Rattle.world_laws.proofs.WholePublishing.{each_published}
 use Rattle.world_laws.proofs.RingLines.{fates_rest}
-use Rattle.calm_laws.proofs.Lines.{entries_are, newcomer_found, newcomer_goes, publishes_go, sent_step}
+use Rattle.calm_laws.proofs.Lines.{entries_are, new_participant_found, new_participant_goes, publishes_go, sent_step}
 use Rattle.calm_laws.proofs.Rooms.{total}
-use Rattle.calm_laws.proofs.Scenes.{runs_go, steps_go}
+use Rattle.calm_laws.proofs.Configurations.{runs_go, steps_go}
 use Rattle.calm_laws.proofs.States.{InStep, IsGood, WorldGoes, kept_ring}
 use Rattle.calm_laws.proofs.Steps.{placed_good, placed_ring}
 use Rattle.calm_laws.proofs.Stretches.{IsRingOf, Stretch}
@@ -78,7 +78,7 @@ use Rattle.calm_laws.proofs.CallLines.{begun_well, open_well}
 use Rattle.calm_laws.proofs.CallSteps.{IsPast, step_past}
 use Rattle.calm_laws.proofs.FitPosts.{AllFit, HasFit, opened_fit, opening_key, restarted_fit, saved_now, seal_judged, snapped_fit}
 use Rattle.calm_laws.proofs.NewestCover.{HasNewest, IsCovered, head_published, newest_weaker}
-use Rattle.calm_laws.proofs.NewestScenes.{AllSound, FitSession, Flows, FlowsOn, IsGoodIn, flows_weaker, good_then, placed_all, step_flow}
+use Rattle.calm_laws.proofs.NewestConfigurations.{AllSound, FitSession, Flows, FlowsOn, IsGoodIn, flows_weaker, good_then, placed_all, step_flow}
 use Rattle.calm_laws.proofs.PutsAcked.{AreFine}
 use Rattle.calm_laws.proofs.BackedSteps.{its_backed}
 use Rattle.calm_laws.proofs.UseLines.{by_saves}
@@ -141,40 +141,40 @@ module _ (ring : Stretch) (met : List (List ℕ)) (fits_it : total met ≤ most_
   abbrev Fit : Session → Type 0
   Fit s = FitSession ring met fits_it s
 
-  abbrev FlowsIn : List NamedSession → List NamedSession → Scene → Type 0
+  abbrev FlowsIn : List NamedSession → List NamedSession → Configuration → Type 0
   FlowsIn ss others c = Flows ring met fits_it ss others c
 
-  abbrev GoodIn : List NamedSession → List NamedSession → Scene → Type 0
+  abbrev GoodIn : List NamedSession → List NamedSession → Configuration → Type 0
   GoodIn ss others c = IsGoodIn ring met fits_it ss others all_met c
 
-  saved_at : (v : World) (st : Story) → Keeps (v, st) → (name : List ℕ) (p : Participant) → participant v name ≡ Some p → IsKept (kept_of p.agent)
+  saved_at : (v : World) (st : GhostState) → Invariant (v, st) → (name : List ℕ) (p : Participant) → participant v name ≡ Some p → IsHssKept (kept_of p.agent)
   saved_at v st keeps name p is_p = (each (IsKeptSo IsSavedWell) v.participants p keeps.saved (found_named v.participants name p is_p).0).3.agent
 
   -- ---- runs
 
   module _ (ss others : List NamedSession) (name : List ℕ) where
-    hand_step : {c next : Scene} → Steps hss_judged ring.r name c next → c.session.by ≡ name → GoesWell ring.r c → GoesWell ring.r next × (next.session.by ≡ name)
+    hand_step : {c next : Configuration} → Steps hss_judged ring.r name c next → c.session.by ≡ name → GoesWell ring.r c → GoesWell ring.r next × (next.session.by ≡ name)
     hand_step {c} {next} step named well =
         let led = step_leads ring.r name c next named well.keeps well.hand well.ringed step in
         (record { keeps = led.leaves.0; hand = led.leaves.1; ringed = led.same.replicas ∙ well.ringed }, led.same.call.0 ∙ named)
 
-    one_step : {c next : Scene} → Steps hss_judged ring.r name c next → c.session.by ≡ name → GoesWell ring.r c → Up next.world → GoodIn ss others c → FlowsIn ss others c → GoodIn ss others next × FlowsIn ss others next
+    one_step : {c next : Configuration} → Steps hss_judged ring.r name c next → c.session.by ≡ name → GoesWell ring.r c → Up next.world → GoodIn ss others c → FlowsIn ss others c → GoodIn ss others next × FlowsIn ss others next
     one_step {c} {next} step named well up good h =
         let then_well = (hand_step step named well).0 in
         let then_good = good_then ring met fits_it ss others all_met name step up good in (
           then_good,
           step_flow ring met fits_it ss others all_met name up good then_good
-              (λ at. ((λ p is_p. saved_at c.world c.story well.keeps name p is_p), (λ p is_p. saved_at next.world next.story then_well.keeps name p is_p))) step h,
+              (λ at. ((λ p is_p. saved_at c.world c.ghost_state well.keeps name p is_p), (λ p is_p. saved_at next.world next.ghost_state then_well.keeps name p is_p))) step h,
         )
 
-    runs_flow : {c end : Scene} → RunsOut hss_judged ring.r name c end → c.session.by ≡ name → GoesWell ring.r c → Up end.world → GoodIn ss others c → FlowsIn ss others c → FlowsIn ss others end
+    runs_flow : {c end : Configuration} → RunsOut hss_judged ring.r name c end → c.session.by ≡ name → GoesWell ring.r c → Up end.world → GoodIn ss others c → FlowsIn ss others c → FlowsIn ss others end
     runs_flow (runs_over said over) named well up good h = h
     runs_flow (runs_more {between = between} {next = end} step rest) named well up good h =
         let goes = hand_step step named well in
         let one = one_step step named well (less_up between.world end.world (runs_go ring name rest).grows up) good h in
         runs_flow rest goes.1 goes.0 up one.0 one.1
 
-    steps_flow : {count : ℕ} {c end : Scene} → StepsOn hss_judged ring.r name count c end → c.session.by ≡ name → GoesWell ring.r c → Up end.world → GoodIn ss others c → FlowsIn ss others c → FlowsIn ss others end
+    steps_flow : {count : ℕ} {c end : Configuration} → StepsOn hss_judged ring.r name count c end → c.session.by ≡ name → GoesWell ring.r c → Up end.world → GoodIn ss others c → FlowsIn ss others c → FlowsIn ss others end
     steps_flow steps_none named well up good h = h
     steps_flow (steps_over said over) named well up good h = h
     steps_flow (steps_more {between = between} {next = end} step rest) named well up good h =
@@ -183,7 +183,7 @@ module _ (ring : Stretch) (met : List (List ℕ)) (fits_it : total met ≤ most_
         steps_flow rest goes.1 goes.0 up one.0 one.1
 
     -- of a session that only publishes
-    past_flow : {c end : Scene} → RunsOut hss_judged ring.r name c end → IsPast c.session → Up end.world → GoodIn ss others c → FlowsIn ss others c → FlowsIn ss others end
+    past_flow : {c end : Configuration} → RunsOut hss_judged ring.r name c end → IsPast c.session → Up end.world → GoodIn ss others c → FlowsIn ss others c → FlowsIn ss others end
     past_flow (runs_over said over) past up good h = h
     past_flow (runs_more {between = between} {next = end} step rest) past up good h =
         let up_b = less_up between.world end.world (runs_go ring name rest).grows up in
@@ -197,13 +197,13 @@ module _ (ring : Stretch) (met : List (List ℕ)) (fits_it : total met ≤ most_
     pub sessions : AllByRecursion (λ s. FitSession ring met fits_it s.session) w.0.sessions
 
   -- where a session of a line is over
-  over_flow : (ss : List NamedSession) (end : Scene) (said : Option Said) → end.session.stage ≡ Over said → AllByRecursion (λ s. Fit s.session) ss → FlowsIn ss ss end → IsFlowing (end.world, end.story)
+  over_flow : (ss : List NamedSession) (end : Configuration) (said : Option Said) → end.session.stage ≡ Over said → AllByRecursion (λ s. Fit s.session) ss → FlowsIn ss ss end → IsFlowing (end.world, end.ghost_state)
   over_flow ss end said over fit h = record {
-    agents = subst (λ l. AllByRecursion (FlowsOn end.story.acked l []) end.world.participants) (sym h.sessions) (subst (λ st. AllByRecursion (FlowsOn end.story.acked ss (posts_at st)) end.world.participants) over h.agents);
+    agents = subst (λ l. AllByRecursion (FlowsOn end.ghost_state.acked l []) end.world.participants) (sym h.sessions) (subst (λ st. AllByRecursion (FlowsOn end.ghost_state.acked ss (posts_at st)) end.world.participants) over h.agents);
     sessions = subst (AllByRecursion (λ (s : NamedSession). Fit s.session)) (sym h.sessions) fit;
   }
 
-  replied_flow : (w : World) (st : Story) (said : Said) → IsFlowing (w, st) → IsFlowing (replied w said, st)
+  replied_flow : (w : World) (st : GhostState) (said : Said) → IsFlowing (w, st) → IsFlowing (replied w said, st)
   replied_flow w st said h = by (is_some said.message)
     where
       by : (t : Bool) → IsFlowing (cond t (record w { replies = w.replies ++ record { handle = said.handle; verifier = said.verifier } ∷ [] }) w, st)
@@ -230,8 +230,8 @@ module _ (ring : Stretch) (met : List (List ℕ)) (fits_it : total met ≤ most_
   publishes_flow k same v p next is_p still fine good fit sessions agents up_v up published =
       subst IsFlowing (sym published.2) (by_end published.0 published.1 (subst (λ (x : Played). Up x.0) published.2 up))
     where
-      start_at : Scene
-      start_at = record { world = v.0; story = v.1; session = to_publish v.0 p; began = began_nothing }
+      start_at : Configuration
+      start_at = record { world = v.0; ghost_state = v.1; session = to_publish v.0 p; began = began_nothing }
 
       in_step : InStep ring v.0 (to_publish v.0 p)
       in_step = record { entries = entries_are ring v.0 still; posts = each_published (IsOwnPost v.0) p.agent.pending (good.pending p.name p is_p); heard = tt }
@@ -246,13 +246,13 @@ module _ (ring : Stretch) (met : List (List ℕ)) (fits_it : total met ≤ most_
         agents = agents;
       }
 
-      by_end : (end : Scene) → RunsOut hss_judged k p.name start_at end → Up end.world → IsFlowing (end.world, end.story)
+      by_end : (end : Configuration) → RunsOut hss_judged k p.name start_at end → Up end.world → IsFlowing (end.world, end.ghost_state)
       by_end end runs up_end =
           let mine : RunsOut hss_judged ring.r p.name start_at end = subst (λ x. RunsOut hss_judged x p.name start_at end) same runs in
           let over = ends_over mine in
           over_flow v.0.sessions end over.0 over.1 sessions (past_flow v.0.sessions v.0.sessions p.name mine ((λ at. cc at), refl) up_end (record { still = still; good = good; step = in_step }) flow)
         where
-          ends_over : {c last : Scene} → RunsOut hss_judged ring.r p.name c last → (said : Option Said) × (last.session.stage ≡ Over said)
+          ends_over : {c last : Configuration} → RunsOut hss_judged ring.r p.name c last → (said : Option Said) × (last.session.stage ≡ Over said)
           ends_over (runs_over said over) = (said, over)
           ends_over (runs_more step rest) = ends_over rest
 
@@ -294,13 +294,13 @@ module _ (ring : Stretch) (met : List (List ℕ)) (fits_it : total met ≤ most_
   more_posts_cover acked ss posts x (inr (inl c)) = absurd (in_nothing x c)
   more_posts_cover acked ss posts x (inr (inr c)) = inr (inr c)
 
-  module _ (w : Played) (keeps : Keeps w) (ringed : w.0.replicas ≡ Some ring.r) (still : IsRingOf ring w.0) (fine : AreFine met w.0) (good : IsGood ring w.0 w.1) (backed : IsBackedWorld w.0 w.1) (up_w : Up w.0) (h : IsFlowing w) where
+  module _ (w : Played) (keeps : Invariant w) (ringed : w.0.replicas ≡ Some ring.r) (still : IsRingOf ring w.0) (fine : AreFine met w.0) (good : IsGood ring w.0 w.1) (backed : IsBackedWorld w.0 w.1) (up_w : Up w.0) (h : IsFlowing w) where
     good_begun : IsGood ring w.0 (having_begun w.1)
     good_begun = record { orderly = good.orderly; acked = good.acked; pending = good.pending; sessions = good.sessions }
 
     as_flow : (log : List ℕ) (pieces : _) (o : Option Sending) → sending_of w.0 log pieces ≡ o → (next : Played) (output : List ℕ) → Up next.0 → AsLine hss_judged w o (Goes next output) → IsFlowing next
     as_flow log pieces _ sends _ _ up (calls s k t end said also begins_it runs over) =
-        let c : Scene = record { world = w.0; story = having_begun w.1; session = t; began = beginning w.1 s.by.name } in
+        let c : Configuration = record { world = w.0; ghost_state = having_begun w.1; session = t; began = beginning w.1 s.by.name } in
         let mine : RunsOut hss_judged ring.r s.by.name c end = subst (λ x. RunsOut hss_judged x s.by.name c end) (one_r k ring.r (sym also ∙ ringed)) runs in
         let bare = bare_begins w.0 s t begins_it in
         let step = sent_step ring w.0 s t still begins_it in
@@ -313,7 +313,7 @@ module _ (ring : Stretch) (met : List (List ℕ)) (fits_it : total met ≤ most_
           sessions = refl;
           agents = subst (λ ps. AllByRecursion (FlowsOn w.1.acked w.0.sessions ps) w.0.participants) (sym bare.1) h.agents;
         } in
-        replied_flow end.world end.story said (over_flow w.0.sessions end (Some said) over h.sessions
+        replied_flow end.world end.ghost_state said (over_flow w.0.sessions end (Some said) over h.sessions
         (runs_flow w.0.sessions w.0.sessions s.by.name mine bare.0 (begun_well w keeps backed ring.r ringed log pieces s sends t begins_it) (replied_up end.world said up) (record { still = still; good = good_begun; step = step }) flow))
 
     open_flow : (name : List ℕ) (o : Option Sending) (next : Played) (output : List ℕ) → OpenLine hss_judged w name o (Goes next output) → IsFlowing next
@@ -327,8 +327,8 @@ module _ (ring : Stretch) (met : List (List ℕ)) (fits_it : total met ≤ most_
 
     -- a session that is open goes on
     module _ (name : List ℕ) (s : Session) (is_s : session_named w.0 name ≡ Some s) where
-      abbrev at : Scene
-      at = scene_of w s (began_of w.1 name)
+      abbrev at : Configuration
+      at = configuration_of w s (began_of w.1 name)
 
       its_step : InStep ring w.0 s
       its_step = session_in (InStep ring w.0) w.0.sessions name s is_s good.sessions
@@ -354,9 +354,9 @@ module _ (ring : Stretch) (met : List (List ℕ)) (fits_it : total met ≤ most_
         let mine : StepsOn hss_judged ring.r s.by count (at name s is_s) end = subst (λ x. StepsOn hss_judged x s.by count (at name s is_s) end) (one_r k ring.r (sym also ∙ ringed)) on in
         let flow = steps_flow w.0.sessions (others_of w.0.sessions name) s.by mine refl (its_well name s is_s) (record { met = up.met; left = up.left }) (its_good name s is_s) (its_flow name s is_s) in
         record {
-          agents = subst (λ l. AllByRecursion (FlowsOn end.story.acked (map (λ (t : NamedSession). cond (bytes_eq t.name name) (record { name = name; session = end.session }) t) l) []) end.world.participants) (sym flow.sessions)
-              (flows_weaker end.story.acked end.story.acked (others_of w.0.sessions name) (map (λ (t : NamedSession). cond (bytes_eq t.name name) (record { name = name; session = end.session }) t) w.0.sessions) (posts_at end.session.stage) []
-              (placed_cover end.story.acked w.0.sessions name s end.session is_s) end.world.participants flow.agents);
+          agents = subst (λ l. AllByRecursion (FlowsOn end.ghost_state.acked (map (λ (t : NamedSession). cond (bytes_eq t.name name) (record { name = name; session = end.session }) t) l) []) end.world.participants) (sym flow.sessions)
+              (flows_weaker end.ghost_state.acked end.ghost_state.acked (others_of w.0.sessions name) (map (λ (t : NamedSession). cond (bytes_eq t.name name) (record { name = name; session = end.session }) t) w.0.sessions) (posts_at end.session.stage) []
+              (placed_cover end.ghost_state.acked w.0.sessions name s end.session is_s) end.world.participants flow.agents);
           sessions = subst (λ l. AllByRecursion (λ (x : NamedSession). Fit x.session) (map (λ (t : NamedSession). cond (bytes_eq t.name name) (record { name = name; session = end.session }) t) l)) (sym flow.sessions) (placed_fit Fit name end.session w.0.sessions flow.fit h.sessions);
         }
 
@@ -365,8 +365,8 @@ module _ (ring : Stretch) (met : List (List ℕ)) (fits_it : total met ≤ most_
         let mine : RunsOut hss_judged ring.r s.by (at name s is_s) end = subst (λ x. RunsOut hss_judged x s.by (at name s is_s) end) (one_r k ring.r (sym also ∙ ringed)) runs in
         let upto = replied_up (without_session end.world name) said up in
         let flow = runs_flow w.0.sessions (others_of w.0.sessions name) s.by mine refl (its_well name s is_s) (record { met = upto.met; left = upto.left }) (its_good name s is_s) (its_flow name s is_s) in
-        replied_flow (without_session end.world name) (without_began end.story name) said (record {
-          agents = subst (λ l. AllByRecursion (FlowsOn end.story.acked (others_of l name) []) end.world.participants) (sym flow.sessions) (subst (λ st. AllByRecursion (FlowsOn end.story.acked (others_of w.0.sessions name) (posts_at st)) end.world.participants) over flow.agents);
+        replied_flow (without_session end.world name) (without_began end.ghost_state name) said (record {
+          agents = subst (λ l. AllByRecursion (FlowsOn end.ghost_state.acked (others_of l name) []) end.world.participants) (sym flow.sessions) (subst (λ st. AllByRecursion (FlowsOn end.ghost_state.acked (others_of w.0.sessions name) (posts_at st)) end.world.participants) over flow.agents);
           sessions = subst (λ l. AllByRecursion (λ (x : NamedSession). Fit x.session) (others_of l name)) (sym flow.sessions) (each_filtered (λ (x : NamedSession). Fit x.session) (λ (t : NamedSession). not (bytes_eq t.name name)) w.0.sessions h.sessions);
         })
 
@@ -377,25 +377,25 @@ module _ (ring : Stretch) (met : List (List ℕ)) (fits_it : total met ≤ most_
 
     log_flow : (name id seed : List ℕ) (sets : List Set) → IsSigner (fresh_signer id seed sets) → (next : Played) (output : List ℕ) → Up next.0 → LogLine hss_judged w name id seed sets (Goes next output) → IsFlowing next
     log_flow name id seed sets whole next _ up (begins k p _ also new is published) =
-        publishes_flow k (one_r k ring.r (sym also ∙ ringed)) (with_newcomer w comer) comer next found still_v fine (goes.good up_v still good) fit h.sessions agents up_v up mine
+        publishes_flow k (one_r k ring.r (sym also ∙ ringed)) (with_new_participant w comer) comer next found still_v fine (goes.good up_v still good) fit h.sessions agents up_v up mine
       where
         comer : Participant
-        comer = newcomer name (opened (fresh_signer id seed sets) w.0.now)
+        comer = new_participant name (hss_opened (fresh_signer id seed sets) w.0.now)
 
-        mine : Publishes hss_judged k (with_newcomer w (newcomer name (opened (fresh_signer id seed sets) w.0.now))) (newcomer name (opened (fresh_signer id seed sets) w.0.now)) next
-        mine = subst (λ x. Publishes hss_judged k (with_newcomer w x) x next) is published
+        mine : Publishes hss_judged k (with_new_participant w (new_participant name (hss_opened (fresh_signer id seed sets) w.0.now))) (new_participant name (hss_opened (fresh_signer id seed sets) w.0.now)) next
+        mine = subst (λ x. Publishes hss_judged k (with_new_participant w x) x next) is published
 
-        at_r : Publishes hss_judged ring.r (with_newcomer w (newcomer name (opened (fresh_signer id seed sets) w.0.now))) (newcomer name (opened (fresh_signer id seed sets) w.0.now)) next
-        at_r = subst (λ n. Publishes hss_judged n (with_newcomer w (newcomer name (opened (fresh_signer id seed sets) w.0.now))) (newcomer name (opened (fresh_signer id seed sets) w.0.now)) next) (one_r k ring.r (sym also ∙ ringed)) mine
+        at_r : Publishes hss_judged ring.r (with_new_participant w (new_participant name (hss_opened (fresh_signer id seed sets) w.0.now))) (new_participant name (hss_opened (fresh_signer id seed sets) w.0.now)) next
+        at_r = subst (λ n. Publishes hss_judged n (with_new_participant w (new_participant name (hss_opened (fresh_signer id seed sets) w.0.now))) (new_participant name (hss_opened (fresh_signer id seed sets) w.0.now)) next) (one_r k ring.r (sym also ∙ ringed)) mine
 
-        found : participant (with_newcomer w (newcomer name (opened (fresh_signer id seed sets) w.0.now))).0 name ≡ Some (newcomer name (opened (fresh_signer id seed sets) w.0.now))
-        found = newcomer_found ring w (newcomer name (opened (fresh_signer id seed sets) w.0.now)) new
+        found : participant (with_new_participant w (new_participant name (hss_opened (fresh_signer id seed sets) w.0.now))).0 name ≡ Some (new_participant name (hss_opened (fresh_signer id seed sets) w.0.now))
+        found = new_participant_found ring w (new_participant name (hss_opened (fresh_signer id seed sets) w.0.now)) new
 
         before : Participant
         before = record {
           name = name;
-          agent = opened (fresh_signer id seed sets) w.0.now;
-          keeper = asked_to_save fresh_keeper (Some (kept_of (opened (fresh_signer id seed sets) w.0.now)));
+          agent = hss_opened (fresh_signer id seed sets) w.0.now;
+          keeper = asked_to_save fresh_keeper (Some (kept_of (hss_opened (fresh_signer id seed sets) w.0.now)));
           cache = [];
           made = [];
           printed = None;
@@ -403,39 +403,39 @@ module _ (ring : Stretch) (met : List (List ℕ)) (fits_it : total met ≤ most_
           left = [];
         }
 
-        goes : WorldGoes ring w.0 w.1 (with_newcomer w (newcomer name (opened (fresh_signer id seed sets) w.0.now))).0 (with_newcomer w (newcomer name (opened (fresh_signer id seed sets) w.0.now))).1
-        goes = newcomer_goes ring w (newcomer name (opened (fresh_signer id seed sets) w.0.now)) before refl new
+        goes : WorldGoes ring w.0 w.1 (with_new_participant w (new_participant name (hss_opened (fresh_signer id seed sets) w.0.now))).0 (with_new_participant w (new_participant name (hss_opened (fresh_signer id seed sets) w.0.now))).1
+        goes = new_participant_goes ring w (new_participant name (hss_opened (fresh_signer id seed sets) w.0.now)) before refl new
 
-        up_v : Up (with_newcomer w (newcomer name (opened (fresh_signer id seed sets) w.0.now))).0
-        up_v = less_up (with_newcomer w (newcomer name (opened (fresh_signer id seed sets) w.0.now))).0 next.0
-            (publishes_go ring (with_newcomer w (newcomer name (opened (fresh_signer id seed sets) w.0.now))) (newcomer name (opened (fresh_signer id seed sets) w.0.now)) next found at_r).grows up
+        up_v : Up (with_new_participant w (new_participant name (hss_opened (fresh_signer id seed sets) w.0.now))).0
+        up_v = less_up (with_new_participant w (new_participant name (hss_opened (fresh_signer id seed sets) w.0.now))).0 next.0
+            (publishes_go ring (with_new_participant w (new_participant name (hss_opened (fresh_signer id seed sets) w.0.now))) (new_participant name (hss_opened (fresh_signer id seed sets) w.0.now)) next found at_r).grows up
 
-        still_v : IsRingOf ring (with_newcomer w (newcomer name (opened (fresh_signer id seed sets) w.0.now))).0
-        still_v = kept_ring ring w.0 (with_newcomer w (newcomer name (opened (fresh_signer id seed sets) w.0.now))).0 goes.still still
+        still_v : IsRingOf ring (with_new_participant w (new_participant name (hss_opened (fresh_signer id seed sets) w.0.now))).0
+        still_v = kept_ring ring w.0 (with_new_participant w (new_participant name (hss_opened (fresh_signer id seed sets) w.0.now))).0 goes.still still
 
-        fit : AllFit (opened (fresh_signer id seed sets) w.0.now).pending
+        fit : AllFit (hss_opened (fresh_signer id seed sets) w.0.now).pending
         fit = opened_fit (fresh_signer id seed sets) w.0.now whole
 
-        reaches : own_reach (opened (fresh_signer id seed sets) w.0.now) ≡ 1
+        reaches : own_reach (hss_opened (fresh_signer id seed sets) w.0.now) ≡ 1
         reaches =
-            (let key : Key = head_key_of (own (opened (fresh_signer id seed sets) w.0.now)) in
-            ap (λ (b : Bool). reach (cond b (Some (own_entry (opening (own_key hss (fresh_signer id seed sets)) w.0.now)).1) None)) (ties key key refl))
+            (let key : Key = head_key_of (own (hss_opened (fresh_signer id seed sets) w.0.now)) in
+            ap (λ (b : Bool). reach (cond b (Some (own_entry (opening (own_key hss_signing (fresh_signer id seed sets)) w.0.now)).1) None)) (ties key key refl))
 
-        newest : HasNewest w.1.acked w.0.sessions (in_publishing_order (opened (fresh_signer id seed sets) w.0.now).pending) (opened (fresh_signer id seed sets) w.0.now)
+        newest : HasNewest w.1.acked w.0.sessions (in_publishing_order (hss_opened (fresh_signer id seed sets) w.0.now).pending) (hss_opened (fresh_signer id seed sets) w.0.now)
         newest = (
-          head_post hss (fresh_signer id seed sets) (own_entry (opening (own_key hss (fresh_signer id seed sets)) w.0.now)).1,
-          record { seq = 1; name = (opening (own_key hss (fresh_signer id seed sets)) w.0.now).name },
-          inr (inl (head_published (opened (fresh_signer id seed sets) w.0.now).pending (head_post hss (fresh_signer id seed sets) (own_entry (opening (own_key hss (fresh_signer id seed sets)) w.0.now)).1) (there (record_post (opening (own_key hss (fresh_signer id seed sets)) w.0.now)) (head_post hss (fresh_signer id seed sets) (own_entry (opening (own_key hss (fresh_signer id seed sets)) w.0.now)).1 ∷ []) (head_post hss (fresh_signer id seed sets) (own_entry (opening (own_key hss (fresh_signer id seed sets)) w.0.now)).1) (here (head_post hss (fresh_signer id seed sets) (own_entry (opening (own_key hss (fresh_signer id seed sets)) w.0.now)).1) [])) refl)),
+          head_post hss_signing (fresh_signer id seed sets) (own_entry (opening (own_key hss_signing (fresh_signer id seed sets)) w.0.now)).1,
+          record { seq = 1; name = (opening (own_key hss_signing (fresh_signer id seed sets)) w.0.now).name },
+          inr (inl (head_published (hss_opened (fresh_signer id seed sets) w.0.now).pending (head_post hss_signing (fresh_signer id seed sets) (own_entry (opening (own_key hss_signing (fresh_signer id seed sets)) w.0.now)).1) (there (record_post (opening (own_key hss_signing (fresh_signer id seed sets)) w.0.now)) (head_post hss_signing (fresh_signer id seed sets) (own_entry (opening (own_key hss_signing (fresh_signer id seed sets)) w.0.now)).1 ∷ []) (head_post hss_signing (fresh_signer id seed sets) (own_entry (opening (own_key hss_signing (fresh_signer id seed sets)) w.0.now)).1) (here (head_post hss_signing (fresh_signer id seed sets) (own_entry (opening (own_key hss_signing (fresh_signer id seed sets)) w.0.now)).1) [])) refl)),
           refl,
           refl,
-          seal_judged (fresh_signer id seed sets) whole (opening (own_key hss (fresh_signer id seed sets)) w.0.now) (omega arith) (omega arith) (opening_key (fresh_signer id seed sets) w.0.now),
+          seal_judged (fresh_signer id seed sets) whole (opening (own_key hss_signing (fresh_signer id seed sets)) w.0.now) (omega arith) (omega arith) (opening_key (fresh_signer id seed sets) w.0.now),
           (let one_long = reaches in omega (arith, one_long)),
         )
 
-        agents : AllByRecursion (FlowsOn w.1.acked w.0.sessions (in_publishing_order (opened (fresh_signer id seed sets) w.0.now).pending)) (w.0.participants ++ newcomer name (opened (fresh_signer id seed sets) w.0.now) ∷ [])
-        agents = each_append (FlowsOn w.1.acked w.0.sessions (in_publishing_order (opened (fresh_signer id seed sets) w.0.now).pending)) w.0.participants (newcomer name (opened (fresh_signer id seed sets) w.0.now) ∷ [])
-            (flows_weaker w.1.acked w.1.acked w.0.sessions w.0.sessions [] (in_publishing_order (opened (fresh_signer id seed sets) w.0.now).pending) (more_posts_cover w.1.acked w.0.sessions (in_publishing_order (opened (fresh_signer id seed sets) w.0.now).pending)) w.0.participants h.agents)
-            ((saved_now (opened (fresh_signer id seed sets) w.0.now) fresh_keeper (kept_of (opened (fresh_signer id seed sets) w.0.now)) refl (kept_whole (fresh_signer id seed sets) whole refl w.0.now keeps.moment) fit fit, newest), tt)
+        agents : AllByRecursion (FlowsOn w.1.acked w.0.sessions (in_publishing_order (hss_opened (fresh_signer id seed sets) w.0.now).pending)) (w.0.participants ++ new_participant name (hss_opened (fresh_signer id seed sets) w.0.now) ∷ [])
+        agents = each_append (FlowsOn w.1.acked w.0.sessions (in_publishing_order (hss_opened (fresh_signer id seed sets) w.0.now).pending)) w.0.participants (new_participant name (hss_opened (fresh_signer id seed sets) w.0.now) ∷ [])
+            (flows_weaker w.1.acked w.1.acked w.0.sessions w.0.sessions [] (in_publishing_order (hss_opened (fresh_signer id seed sets) w.0.now).pending) (more_posts_cover w.1.acked w.0.sessions (in_publishing_order (hss_opened (fresh_signer id seed sets) w.0.now).pending)) w.0.participants h.agents)
+            ((saved_now (hss_opened (fresh_signer id seed sets) w.0.now) fresh_keeper (kept_of (hss_opened (fresh_signer id seed sets) w.0.now)) refl (kept_whole (fresh_signer id seed sets) whole refl w.0.now keeps.moment) fit fit, newest), tt)
 
     view_flow : (name : List ℕ) (members former : Option (List PubKey)) (next : Played) (output : List ℕ) → ViewLine hss_judged w name members former (Goes next output) → IsFlowing next
     view_flow name _ _ _ _ (makes members former k view next new own_keys small also is put) =
@@ -476,7 +476,7 @@ module _ (ring : Stretch) (met : List (List ℕ)) (fits_it : total met ≤ most_
           (flows_weaker w.1.acked w.1.acked w.0.sessions (without_sessions_of w.0 p.name).sessions [] [] afresh_cover w.0.participants h.agents)
 
       abbrev ToFlow : Played → Type 0
-      ToFlow next = Keeps next → IsFlowing next
+      ToFlow next = Invariant next → IsFlowing next
 
       enters_flow : (view : View)
           → ToFlow (afresh w.0 (record p { agent = entered p.agent view; keeper = asked_to_save p.keeper (Some (kept_of (entered p.agent view))) }), afresh_told w p.name (of_members view (known_of w.1 p.name)))
@@ -489,7 +489,7 @@ module _ (ring : Stretch) (met : List (List ℕ)) (fits_it : total met ≤ most_
       same_flow : ToFlow (with_participant w.0 (record p { agent = p.agent; keeper = p.keeper }), w.1)
       same_flow kept = record { agents = placed_all (FlowsOn w.1.acked w.0.sessions []) p w.0.participants its_own h.agents; sessions = h.sessions }
 
-      abbrev After : View → Entering × Option Kept → Type 0
+      abbrev After : View → HssEntering × Option HssKept → Type 0
       After view came = ToSuch ToFlow (after_entering w p view came.0 came.1)
 
       with_flow : (view : View) (o : Option Key) → After view (entering_with p.agent view (fails_next p.keeper) o)
@@ -500,13 +500,13 @@ module _ (ring : Stretch) (met : List (List ℕ)) (fits_it : total met ≤ most_
       member_flow view true = with_flow view (not_named p.agent view)
       member_flow view false = tt
 
-      entering_flow : (view : View) → After view (entering p.agent view (fails_next p.keeper))
-      entering_flow view = member_flow view (is_own_member hss p.agent view)
+      entering_flow : (view : View) → After view (hss_entering p.agent view (fails_next p.keeper))
+      entering_flow view = member_flow view (is_own_member hss_signing p.agent view)
 
     its_name : (name : List ℕ) (p : Participant) → participant w.0 name ≡ Some p → (p.name ≡ name) × (participant w.0 p.name ≡ Some p)
     its_name name p is_p = let named = (found_named w.0.participants name p is_p).1 in (named, ap (participant w.0) named ∙ is_p)
 
-    use_flow : (log : List ℕ) (o : Option Participant) (view : Option View) → participant w.0 log ≡ o → HasNoneOpen w.0 log → ToSuch (λ next. Keeps next → IsFlowing next) (use_by w o view)
+    use_flow : (log : List ℕ) (o : Option Participant) (view : Option View) → participant w.0 log ≡ o → HasNoneOpen w.0 log → ToSuch (λ next. Invariant next → IsFlowing next) (use_by w o view)
     use_flow log None view is none = tt
     use_flow log (Some p) None is none = tt
     use_flow log (Some p) (Some view) is none = let at = its_name log p is in entering_flow p at.1 (subst (HasNoneOpen w.0) (sym at.0) none) view
@@ -547,7 +547,7 @@ module _ (ring : Stretch) (met : List (List ℕ)) (fits_it : total met ≤ most_
     -- ---- a snapshot
 
     module _ (p : Participant) (is_p : participant w.0 p.name ≡ Some p) (view : View) where
-      abbrev snapshot_of : Agent
+      abbrev snapshot_of : HssAgent
       snapshot_of = snapped p.agent (root_name view (basis_of p.agent.holding)) (snapshot_blocks view (basis_of p.agent.holding))
 
       abbrev snapping_one : Participant
@@ -606,10 +606,10 @@ module _ (ring : Stretch) (met : List (List ℕ)) (fits_it : total met ≤ most_
           up_mid : Up mid
           up_mid = less_up mid next.0 (publishes_go ring (mid, w.1) snapping_one next found_mid at_r).grows up
 
-          before : IsKept (kept_of p.agent)
+          before : IsHssKept (kept_of p.agent)
           before = saved_at w.0 w.1 keeps p.name p is_p
 
-          whole : IsKept (kept_of snapshot_of)
+          whole : IsHssKept (kept_of snapshot_of)
           whole = record { signer = before.signer; some = before.some; few = before.few; floor = before.floor; view = before.view; posts = spelled; snapshot = record { size = length-name _; each = bytes-name _ } }
 
           fit : AllFit snapshot_of.pending
@@ -622,13 +622,13 @@ module _ (ring : Stretch) (met : List (List ℕ)) (fits_it : total met ≤ most_
           )
               (flows_weaker w.1.acked w.1.acked w.0.sessions w.0.sessions [] (in_publishing_order snapshot_of.pending) (more_posts_cover w.1.acked w.0.sessions (in_publishing_order snapshot_of.pending)) w.0.participants h.agents)
 
-      abbrev trying : (Agent × Bool) × Option Kept → Participant
+      abbrev trying : (HssAgent × Bool) × Option HssKept → Participant
       trying t = record p { agent = t.0.0; keeper = asked_to_save p.keeper t.1 }
 
-      abbrev Fails : (Agent × Bool) × Option Kept → Type 0
+      abbrev Fails : (HssAgent × Bool) × Option HssKept → Type 0
       Fails t = t.0.1 ≡ false → IsFlowing (with_participant w.0 (trying t), w.1)
 
-      abbrev Makes : (Agent × Bool) × Option Kept → Type 0
+      abbrev Makes : (HssAgent × Bool) × Option HssKept → Type 0
       Makes t = t.0.1 ≡ true → (k : ℕ) (next : Played) (q : Participant) → k ≡ ring.r → q ≡ record (trying t) { printed = Some (root_name view (basis_of p.agent.holding)) } → ArePostsSpelled q.agent.pending → Up next.0
           → Publishes hss_judged k (record (with_participant w.0 q) { met = met_by w.0.met q.agent.pending }, w.1) q next → IsFlowing next
 
@@ -656,16 +656,16 @@ module _ (ring : Stretch) (met : List (List ℕ)) (fits_it : total met ≤ most_
     still_flow next c output quiet does =
         let goes = still_lines w next c output quiet does in
         record {
-          agents = subst (λ (x : Story × World). AllByRecursion (FlowsOn x.0.acked x.1.sessions []) x.1.participants) (λ i. (sym goes.0 i, sym goes.1 i)) h.agents;
+          agents = subst (λ (x : GhostState × World). AllByRecursion (FlowsOn x.0.acked x.1.sessions []) x.1.participants) (λ i. (sym goes.0 i, sym goes.1 i)) h.agents;
           sessions = subst (λ (x : World). AllByRecursion (λ (s : NamedSession). Fit s.session) x.sessions) (sym goes.1) h.sessions;
         }
 
     -- ---- each line
 
-    such : (next : Played) (output : List ℕ) → Keeps next → (o : Outcome Played) → ToSuch (λ x. Keeps x → IsFlowing x) o → o ≡ Goes next output → IsFlowing next
-    such next output kept o s same = (subst (ToSuch (λ x. Keeps x → IsFlowing x)) same s) kept
+    such : (next : Played) (output : List ℕ) → Invariant next → (o : Outcome Played) → ToSuch (λ x. Invariant x → IsFlowing x) o → o ≡ Goes next output → IsFlowing next
+    such next output kept o s same = (subst (ToSuch (λ x. Invariant x → IsFlowing x)) same s) kept
 
-    pub command_flow : (c : Command) (next : Played) (output : List ℕ) → Keeps next → Up next.0 → IsQuiet c → Fits c → IsTidyAt w.0 c → Does hss_judged w c (Goes next output) → IsFlowing next
+    pub command_flow : (c : Command) (next : Played) (output : List ℕ) → Invariant next → Up next.0 → IsQuiet c → Fits c → IsTidyAt w.0 c → Does hss_judged w c (Goes next output) → IsFlowing next
     command_flow (command.Log log id seed sets) next output kept up quiet fits tidy does = log_flow log id seed sets fits next output up does
     command_flow (command.View view members former) next output kept up quiet fits tidy does = view_flow view (keys_of w.0 members) (keys_of w.0 former) next output does
     command_flow (command.Use log view) next output kept up quiet fits tidy does = such next output kept (use_line w log view) (use_flow log (participant w.0 log) (view_named w.0 view) refl tidy.0) (sym does)

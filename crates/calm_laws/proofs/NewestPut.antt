@@ -1,7 +1,7 @@
 -- In calm and tidy scripts a put of each log's newest head was acknowledged, while no session is open.
 use Rattle.std.proofs.Common.{◌≡◌, inl, inr, ℕ, ◌+◌, ◌≤◌, List, [], refl, sym, ap, ◌∙◌, subst, Contains}
 use Rattle.std.specs.List.{AllByRecursion}
-use Rattle.ivy_base.specs.Naming.{NamesTellApart}
+use Rattle.ivy_base.specs.Naming.{IsCollisionFree}
 use Rattle.log_model.proofs.Lists.{each, in_nothing}
 use Rattle.dht_ids.specs.declared.post.Post.{Post}
 use Rattle.dhash_model.specs.Signed.{hss_judged}
@@ -11,12 +11,12 @@ use Rattle.script_model.specs.declared.command.Command.{Command}
 use Rattle.script_model.specs.declared.command.Command.TheVariants as command
 use Rattle.world_model.specs.Logs.{Played}
 use Rattle.world_model.specs.Step.{Does, most_bytes}
-use Rattle.world_model.specs.Story.{Story, empty_story}
+use Rattle.world_model.specs.GhostState.{GhostState, empty_ghost_state}
 use Rattle.world_model.specs.World.{NamedSession, World, named_bytes}
 use Rattle.calm_laws.specs.Calm.{Calmly, IsCalm, Joined, Since, Stopped}
 use Rattle.calm_laws.specs.Calm.IsCalm.{joins, other, rounds, stops}
 use Rattle.calm_laws.specs.Calm.Calmly.{more as calmly_more, none as calmly_none}
-use Rattle.world_laws.specs.Keeps.{Keeps}
+use Rattle.world_laws.specs.Invariant.{Invariant}
 use Rattle.world_laws.specs.Laws.{LinesKeep}
 use Rattle.calm_laws.proofs.CalmRuns.{first_of}
 use Rattle.calm_laws.proofs.CalmStates.{IsMore, same_more}
@@ -36,7 +36,7 @@ use Rattle.calm_laws.specs.Takes.CalmTidily.{more as calm_tidily_more, none as c
 use Rattle.calm_laws.proofs.BackedLines.{apart_first, calm_does, calm_line}
 use Rattle.calm_laws.proofs.NewestCover.{IsCovered}
 use Rattle.calm_laws.proofs.NewestLines.{command_flow}
-use Rattle.calm_laws.proofs.NewestScenes.{FitSession, FlowsOn}
+use Rattle.calm_laws.proofs.NewestConfigurations.{FitSession, FlowsOn}
 use Rattle.calm_laws.proofs.PutsAcked.{all_fine}
 use Rattle.calm_laws.proofs.RingLines.{ChangesRing, ring_changes}
 use Rattle.calm_laws.proofs.Whole.{first_backed}
@@ -63,12 +63,12 @@ agents_at : (r : ℕ) (met : List (List ℕ)) (fits : total met ≤ most_bytes) 
 agents_at r met fits v (Stopped k) s h = h.0
 agents_at r met fits v Joined s h = h.0
 
-module _ (r : ℕ) (w : Played) (fits : total w.0.met ≤ most_bytes) (v mid : Played) (output : List ℕ) (keeps : Keeps v) (kept : Keeps mid) (room : IsWithinLimit v.0) (apart : AreApart mid.0) (grows : IsMore v.0 mid.0) (more : IsMore mid.0 w.0) (backed : IsBackedWorld v.0 v.1) where
+module _ (r : ℕ) (w : Played) (fits : total w.0.met ≤ most_bytes) (v mid : Played) (output : List ℕ) (keeps : Invariant v) (kept : Invariant mid) (room : IsWithinLimit v.0) (apart : AreApart mid.0) (grows : IsMore v.0 mid.0) (more : IsMore mid.0 w.0) (backed : IsBackedWorld v.0 v.1) where
   -- a line that changes the ring moves no posts
   moved : (c : Command) → ChangesRing c → Does hss_judged v c (Goes mid output) → Agents v → v.0.sessions ≡ [] → Agents mid × (mid.0.sessions ≡ [])
   moved c ring does h none =
       let change = ring_changes (λ kind key bytes. Unit {0}) v mid output c ring does in (
-        subst (λ (st : Story). AllByRecursion (FlowsOn st.acked mid.0.sessions []) mid.0.participants) (sym change.1)
+        subst (λ (st : GhostState). AllByRecursion (FlowsOn st.acked mid.0.sessions []) mid.0.participants) (sym change.1)
             (subst (λ ss. AllByRecursion (FlowsOn v.1.acked ss []) mid.0.participants) (sym change.0.sessions) (subst (AllByRecursion (FlowsOn v.1.acked v.0.sessions [])) (sym change.0.participants) h)),
         change.0.sessions ∙ none,
       )
@@ -99,8 +99,8 @@ module _ (r : ℕ) (w : Played) (fits : total w.0.met ≤ most_bytes) (v mid : P
       (t, (flows.agents, flows.sessions))
 
 module _ (lines_keep : LinesKeep) (r : ℕ) where
-  runs_newest : {v w : Played} {since after : Since} {lines : List (List ℕ)} → CalmTidily r v since lines w after → (fits : total w.0.met ≤ most_bytes) → AreApart w.0 → NamesTellApart (named_bytes w.0)
-      → Keeps v → HasFacts r v.0 since → (s : IsState r v.0 v.1 since) → IsBackedWorld v.0 v.1 → FlowAt r w.0.met fits v since s → Agents w
+  runs_newest : {v w : Played} {since after : Since} {lines : List (List ℕ)} → CalmTidily r v since lines w after → (fits : total w.0.met ≤ most_bytes) → AreApart w.0 → IsCollisionFree (named_bytes w.0)
+      → Invariant v → HasFacts r v.0 since → (s : IsState r v.0 v.1 since) → IsBackedWorld v.0 v.1 → FlowAt r w.0.met fits v since s → Agents w
   runs_newest {v = v} {since = since} calm_tidily_none fits apart names keeps f s backed h = agents_at r v.0.met fits v since s h
   runs_newest (calm_tidily_more {w = v} {mid = mid} {next = w} {line = line} c output is calm tidy step rest) fits apart names keeps f s backed h =
       let done = calm_does v mid line output c is step in
@@ -123,14 +123,14 @@ closed_put acked ss x none (inr (inr (s, c, among))) = absurd (in_nothing s (sub
 
 pub newest_are_put : LinesKeep → NewestArePut
 newest_are_put lines_keep r w count lines calm tidy closed fits q among =
-    let run : CalmTidily r (calm.made, empty_story) (Stopped 0) lines w (Stopped count) = subst (λ (v : Played). CalmTidily r (calm.made, v.1) (Stopped 0) lines w (Stopped count)) calm.fresh.2 tidy in
+    let run : CalmTidily r (calm.made, empty_ghost_state) (Stopped 0) lines w (Stopped count) = subst (λ (v : Played). CalmTidily r (calm.made, v.1) (Stopped 0) lines w (Stopped count)) calm.fresh.2 tidy in
     let apart = apart_at r w (Stopped count) lines calm in
     let facts = first_facts r w (Stopped count) lines calm in
     let first = first_of (fresh r w (Stopped count) lines calm) calm.made calm.count r (rings r w (Stopped count) lines calm) in
-    let state : IsStanding r 0 calm.made empty_story = first_state r w (Stopped count) lines calm (fewer_apart calm.made w.0 (facts_on r (calmly r w (Stopped count) lines calm) facts).1 apart) in
+    let state : IsStanding r 0 calm.made empty_ghost_state = first_state r w (Stopped count) lines calm (fewer_apart calm.made w.0 (facts_on r (calmly r w (Stopped count) lines calm) facts).1 apart) in
     let flows = runs_newest lines_keep r run fits apart calm.apart (first_keeps r w (Stopped count) lines calm) facts state (first_backed r (fresh r w (Stopped count) lines calm) calm.made refl refl first) (
       subst (AllByRecursion (FlowsOn [] calm.made.sessions [])) (sym (ap (λ (v : World). v.participants) first.rest)) tt,
-      subst (AllByRecursion (λ (s : NamedSession). FitSession (on r 0 (calm.made, empty_story) state) w.0.met fits s.session)) (sym (ap (λ (v : World). v.sessions) first.rest)) tt,
+      subst (AllByRecursion (λ (s : NamedSession). FitSession (on r 0 (calm.made, empty_ghost_state) state) w.0.met fits s.session)) (sym (ap (λ (v : World). v.sessions) first.rest)) tt,
     ) in
     let its = (each (FlowsOn w.1.acked w.0.sessions []) w.0.participants q flows among).1 in
     (its.0, its.1, closed_put w.1.acked w.0.sessions its.0 closed its.2, its.3, its.4, its.5, its.6)

@@ -13,18 +13,18 @@ use Rattle.dht_ids.specs.declared.ask.Heard.{Heard}
 use Rattle.dht_ids.specs.declared.peer.Peer.{Peer}
 use Rattle.dht_ids.specs.declared.post.Ack.{Ack}
 use Rattle.dht_ids.specs.declared.post.Post.{Post}
-use Rattle.session_model.specs.Courses.{Fails, LacksMemory, Settles}
-use Rattle.session_model.specs.Courses.Fails.{fails, goes_on}
-use Rattle.session_model.specs.Courses.LacksMemory.{lacks}
-use Rattle.session_model.specs.Courses.Settles.{settles as settles_all}
+use Rattle.session_model.specs.Executions.{Fails, LacksMemory, Settles}
+use Rattle.session_model.specs.Executions.Fails.{fails, goes_on}
+use Rattle.session_model.specs.Executions.LacksMemory.{lacks}
+use Rattle.session_model.specs.Executions.Settles.{settles as settles_all}
 use Rattle.session_model.specs.Sessions.{Cache, Hears, IsPutOfPost, Over, Publishing, Refreshing, Said, Session, Stage, Takes, TakesAll, TakesSome, ack_of, acknowledged, after_put, put_question}
 use Rattle.session_model.specs.Sessions.Hears.{gets_on, got, puts_on, puts}
 use Rattle.session_model.specs.Sessions.Takes.{posted, cached}
 use Rattle.session_model.specs.Sessions.TakesAll.{none as takes_none, more as takes_more}
 use Rattle.session_model.specs.Sessions.TakesSome.{none as some_none, more as some_more}
-use Rattle.world_model.specs.Agents.{Agent}
+use Rattle.world_model.specs.Agents.{HssAgent}
 use Rattle.world_model.specs.Fates.{FateOf}
-use Rattle.world_model.specs.Steps.{Acts, RunsOut, Scene, Steps, acked_by}
+use Rattle.world_model.specs.Steps.{Acts, RunsOut, Configuration, Steps, acked_by}
 use Rattle.world_model.specs.Steps.Acts.{asks, asks_in_vain, is_refused, settles, turns}
 use Rattle.world_model.specs.Steps.RunsOut.{is_over as runs_over, more as runs_more}
 use Rattle.world_model.specs.Steps.Steps.{acts, lacks_memory}
@@ -155,21 +155,21 @@ module _ (ring : Stretch) (met : List (List ℕ)) (fits : total met ≤ most_byt
 
   -- ---- steps
 
-  settles_so : {v : World} {acked : List Post} {a after : Agent} {s t : Session} → Settles a s after t → IsPutting v acked s → IsPutting v acked t
+  settles_so : {v : World} {acked : List Post} {a after : HssAgent} {s t : Session} → Settles a s after t → IsPutting v acked s → IsPutting v acked t
   settles_so {acked = acked} {s = s} (settles_all said acks at) h = record { entries = h.entries; well = h.well; stage = subst (IsToPut acked s.current) at h.stage }
 
-  acts_so : {p : Participant} {c next : Scene} → Acts hss_judged ring.r p c next → IsPutting c.world c.story.acked c.session → IsPutting next.world next.story.acked next.session
-  acts_so {p = p} {c = c} (asks node question answer next heard t cache fate hears goes) h = placed_putting next (record p { cache = cache }) (c.story.acked ++ acked_by c.session.stage t.stage) t (hears_so fate hears h t goes)
+  acts_so : {p : Participant} {c next : Configuration} → Acts hss_judged ring.r p c next → IsPutting c.world c.ghost_state.acked c.session → IsPutting next.world next.ghost_state.acked next.session
+  acts_so {p = p} {c = c} (asks node question answer next heard t cache fate hears goes) h = placed_putting next (record p { cache = cache }) (c.ghost_state.acked ++ acked_by c.session.stage t.stage) t (hears_so fate hears h t goes)
   acts_so (asks_in_vain node question answer next heard t cache fate hears lacking) h = absurd (is_past h (lacks_refreshing lacking))
   acts_so (turns view reply applied after saving t turned in_view takes replies is_turn) h = absurd (is_past h (turn_refreshes takes))
   acts_so (is_refused view end after saving t in_view refusal takes) h = absurd (is_past h (turn_refreshes takes))
-  acts_so {p = p} {c = c} (settles after t is) h = placed_putting c.world (record p { agent = after }) c.story.acked t (settles_so is h)
+  acts_so {p = p} {c = c} (settles after t is) h = placed_putting c.world (record p { agent = after }) c.ghost_state.acked t (settles_so is h)
 
-  step_so : {name : List ℕ} {c next : Scene} → Steps hss_judged ring.r name c next → IsPutting c.world c.story.acked c.session → IsPutting next.world next.story.acked next.session
-  step_so {c = c} (acts p taken cache next is_p takes act) h = acts_so act (placed_putting c.world (record p { cache = cache }) c.story.acked taken (all_taken (IsPutting c.world c.story.acked) takes (is_past h) h))
-  step_so {c = c} (lacks_memory p taken t cache is_p takes lacking) h = absurd (is_past (some_taken (IsPutting c.world c.story.acked) takes (is_past h) h) (lacks_refreshing lacking))
+  step_so : {name : List ℕ} {c next : Configuration} → Steps hss_judged ring.r name c next → IsPutting c.world c.ghost_state.acked c.session → IsPutting next.world next.ghost_state.acked next.session
+  step_so {c = c} (acts p taken cache next is_p takes act) h = acts_so act (placed_putting c.world (record p { cache = cache }) c.ghost_state.acked taken (all_taken (IsPutting c.world c.ghost_state.acked) takes (is_past h) h))
+  step_so {c = c} (lacks_memory p taken t cache is_p takes lacking) h = absurd (is_past (some_taken (IsPutting c.world c.ghost_state.acked) takes (is_past h) h) (lacks_refreshing lacking))
 
   -- in the end it was acknowledged
-  pub runs_acked : {name : List ℕ} {c end : Scene} → RunsOut hss_judged ring.r name c end → IsPutting c.world c.story.acked c.session → Contains end.story.acked looked_at
-  runs_acked {c = c} (runs_over said over) h = subst (IsToPut c.story.acked c.session.current) over h.stage
+  pub runs_acked : {name : List ℕ} {c end : Configuration} → RunsOut hss_judged ring.r name c end → IsPutting c.world c.ghost_state.acked c.session → Contains end.ghost_state.acked looked_at
+  runs_acked {c = c} (runs_over said over) h = subst (IsToPut c.ghost_state.acked c.session.current) over h.stage
   runs_acked (runs_more step rest) h = runs_acked rest (step_so step h)

@@ -8,7 +8,7 @@ use Rattle.std.specs.Ordering.{eq_by_cmp}
 use Rattle.std.specs.FinMap.Entries.{find as value_at, find-put, put}
 use Rattle.ivy_base.specs.declared.key.Key.{Key}
 use Rattle.ivy_base.specs.Naming.{key_cmp}
-use Rattle.ring_model.specs.Gets.{IsAcknowledged, IsPut, answered_in}
+use Rattle.ring_model.specs.Gets.{IsAcknowledged, IsPutTrail, answered_in}
 use Rattle.ring_model.specs.Circle.{number}
 use Rattle.ring_model.specs.Members.{IsAmong, from_place}
 use Rattle.ring_model.proofs.Members.{all_from_place}
@@ -30,12 +30,12 @@ use Rattle.dht_ids.specs.declared.ask.StoreFault.{StoreFault}
 use Rattle.dht_ids.specs.declared.peer.Peer.{Peer}
 use Rattle.dht_ids.specs.declared.post.Post.{Post}
 use Rattle.dhash_model.specs.declared.miss.Miss.TheVariants as miss
-use Rattle.dhash_model.specs.Course.{Told, told_all, outcome}
-use Rattle.dhash_model.specs.Course.IsCourse.{no_route, of_owners}
+use Rattle.dhash_model.specs.Execution.{Told, told_all, outcome}
+use Rattle.dhash_model.specs.Execution.IsExecution.{no_route, of_owners}
 use Rattle.dhash_model.specs.Puts.{holds, is_of_put}
 use Rattle.dhash_model.specs.declared.miss.Miss.{Miss}
-use Rattle.dhash_model.specs.Stores.{Block, bytes_held, capacity, content, content_fault, head, head_fault}
-use Rattle.dhash_model.specs.declared.kind.Kind.TheVariants.{Content, Head}
+use Rattle.dhash_model.specs.Stores.{Block, bytes_held, store_capacity, content, content_fault, head, head_fault}
+use Rattle.dhash_model.specs.declared.kind.BlockKind.TheVariants.{Content, Head}
 use Rattle.agent_model.specs.Agent.{is_head}
 use Rattle.node_store.specs.Stores.{IsStore}
 use Rattle.node_store.proofs.Maps.{keys_total}
@@ -47,7 +47,7 @@ use Rattle.world_model.specs.Nodes.{Node, answered, stored}
 use Rattle.world_model.specs.Step.{most_bytes}
 use Rattle.world_model.specs.Logs.{Played}
 use Rattle.world_model.specs.World.{World, node_at, peer_of}
-use Rattle.world_laws.specs.Keeps.{Keeps}
+use Rattle.world_laws.specs.Invariant.{Invariant}
 use Rattle.calm_laws.proofs.CalmNodes.{asked_rings}
 use Rattle.calm_laws.proofs.CalmPuts.{entries_by}
 use Rattle.world_laws.proofs.StoredBlocks.{put_each, put_store, room_for_content, room_for_head}
@@ -86,7 +86,7 @@ pub record IsFine (met : List (List ℕ)) (n : Node) : Type 0 where
   pub among : AllByRecursion (λ e. Contains met e.1.bytes) n.blocks
   pub kinds : (k : Key) (c : Block) → value_at key_cmp k n.blocks ≡ Some c → IsFit c.kind k c.bytes
 
-stored_fine : (met : List (List ℕ)) (n : Node) (key : Key) (block : Block) (fault : Option StoreFault) → (fault ≡ None → bytes_held (put key_cmp key block n.blocks) ≤ capacity) → Contains met block.bytes → IsFit block.kind key block.bytes
+stored_fine : (met : List (List ℕ)) (n : Node) (key : Key) (block : Block) (fault : Option StoreFault) → (fault ≡ None → bytes_held (put key_cmp key block n.blocks) ≤ store_capacity) → Contains met block.bytes → IsFit block.kind key block.bytes
     → IsFine met n → IsFine met (stored n key block fault).1
 stored_fine met n key block (Some f) room in_met of h = h
 stored_fine met n key block None room in_met of h = record {
@@ -256,7 +256,7 @@ module _ (ring : Stretch) (met : List (List ℕ)) (fits : total met ≤ most_byt
 
   -- of those that were found all owners that live take it, where too few have answered before
   all_taken : (found : List Peer) (asks : Told) (acked : Bool) → take ring.r (filter (λ m. lives ring m) found) ≡ own ring p.key → ((m : Peer) → IsAmong m found → IsMade ring m) → AllByRecursion (λ s. IsMade ring s.0 → IsPutTaken ring met fits p in_met good s.0 s.1) asks
-      → IsPut is_of_put holds ring.r found asks acked → acked ≡ true
+      → IsPutTrail is_of_put holds ring.r found asks acked → acked ≡ true
   all_taken found asks true is made h put = refl
   all_taken found asks false is made h put = absurd (put.ends enough)
     where
@@ -292,7 +292,7 @@ module _ (ring : Stretch) (met : List (List ℕ)) (fits : total met ≤ most_byt
       (asks_taken asks (all-right (λ (x : Heard). IsTaken ring met fits p in_met good x.kind x) (told_all (ask.Route p.key) looks) (told_all (put_question p) asks) parts)) ends.1
 
 -- what nodes hold, up to what is met later
-pub all_fine : (met : List (List ℕ)) (v : Played) → Keeps v → AreOrderly v.0 v.0 → ((b : List ℕ) → Contains v.0.met b → Contains met b) → AreFine met v.0
+pub all_fine : (met : List (List ℕ)) (v : Played) → Invariant v → AreOrderly v.0 v.0 → ((b : List ℕ) → Contains v.0.met b → Contains met b) → AreFine met v.0
 all_fine met v keeps orderly more id n at =
     let its = each _ v.0.nodes n keeps.met.held (found_in (λ (m : Node). eq_by_cmp key_cmp (peer_of m).id id) v.0.nodes n at) in
     record {

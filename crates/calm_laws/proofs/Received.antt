@@ -13,38 +13,38 @@ use Rattle.log_model.specs.Vector.{Entry}
 use Rattle.log_model.specs.View.{View}
 use Rattle.log_model.proofs.Lists.{each, each_append, in_cons, in_nothing}
 use Rattle.dht_ids.specs.declared.peer.Peer.{Peer}
-use Rattle.dhash_model.specs.declared.kind.Kind.{Kind}
-use Rattle.dhash_model.specs.declared.kind.Kind.TheVariants.{Content, Head}
+use Rattle.dhash_model.specs.declared.kind.BlockKind.{BlockKind}
+use Rattle.dhash_model.specs.declared.kind.BlockKind.TheVariants.{Content, Head}
 use Rattle.script_driver.specs.Run.{Goes}
 use Rattle.script_model.specs.Lines.{command_of}
 use Rattle.script_model.specs.declared.command.Command.{Command}
 use Rattle.script_model.specs.declared.command.Command.TheVariants as command
-use Rattle.session_model.specs.Courses.{Settles}
-use Rattle.session_model.specs.Courses.Begins.{alone as begins_alone, refreshes as begins_refreshing}
-use Rattle.session_model.specs.Courses.Settles.{settles as settles_all}
-use Rattle.session_model.specs.Courses.TakesTurn.{answers, begins_anew, gives_up}
+use Rattle.session_model.specs.Executions.{Settles}
+use Rattle.session_model.specs.Executions.Begins.{alone as begins_alone, refreshes as begins_refreshing}
+use Rattle.session_model.specs.Executions.Settles.{settles as settles_all}
+use Rattle.session_model.specs.Executions.TakesTurn.{answers, begins_again, gives_up}
 use Rattle.session_model.specs.Sessions.{Cache, Hears, Said, Session}
 use Rattle.session_model.specs.Sessions.Hears.{gets_on, got, puts, puts_on}
 use Rattle.agent_model.specs.Turning.{TurnEnd}
 use Rattle.ivy_base.specs.declared.operation.Moment.{Moment}
-use Rattle.world_model.specs.Agents.{Agent, Kept, TakesTurn, own}
-use Rattle.world_model.specs.Calls.{AsLine, BeginsWith, FinishLine, Sending, StepLine, replied, scene_of, sending_of}
+use Rattle.world_model.specs.Agents.{HssAgent, HssKept, TakesHssTurn, own_hss_key}
+use Rattle.world_model.specs.Calls.{AsLine, BeginsWith, FinishLine, Sending, StepLine, replied, configuration_of, sending_of}
 use Rattle.world_model.specs.Calls.AsLine.{calls}
 use Rattle.world_model.specs.Calls.StepLine.{steps}
 use Rattle.world_model.specs.Calls.FinishLine.{ends}
 use Rattle.world_model.specs.Logs.{Played}
-use Rattle.world_model.specs.Steps.{Acts, RunsOut, Scene, Steps, StepsOn, with_cache}
+use Rattle.world_model.specs.Steps.{Acts, RunsOut, Configuration, Steps, StepsOn, with_cache}
 use Rattle.world_model.specs.Steps.Acts.{asks, asks_in_vain, is_refused, settles, turns}
 use Rattle.world_model.specs.Steps.RunsOut.{is_over as runs_over, more as runs_more}
 use Rattle.world_model.specs.Steps.Steps.{acts, lacks_memory}
 use Rattle.world_model.specs.Steps.StepsOn.{is_over as steps_over, more as steps_more, none as steps_none}
-use Rattle.world_model.specs.Story.{Knowing, Story, began_of, beginning, having_begun, knowing_nothing, knowing_of, with_knowing}
+use Rattle.world_model.specs.GhostState.{Knowing, GhostState, began_of, beginning, having_begun, knowing_nothing, knowing_of, with_knowing}
 use Rattle.world_model.specs.Step.{Does}
 use Rattle.world_model.specs.World.{NamedSession, Participant, World, session_named, without_session}
 use Rattle.calm_laws.specs.Calm.{Calmly, IsCalm, IsCalmAt, Since, Stopped}
 use Rattle.calm_laws.specs.Calm.IsCalm.{joins, other, rounds, stops}
 use Rattle.calm_laws.specs.Calm.Calmly.{more as calmly_more, none as calmly_none}
-use Rattle.world_laws.specs.Keeps.{Keeps}
+use Rattle.world_laws.specs.Invariant.{Invariant}
 use Rattle.world_laws.specs.Effects.{Effect, LaterEffect}
 use Rattle.world_laws.specs.Effects.Effect.{comes, loses, makes_view, of_nodes, opens, plays, renews, shows, times, touches}
 use Rattle.world_laws.specs.Effects.LaterEffect.{publishes, replies as later_replies}
@@ -65,7 +65,7 @@ use Rattle.calm_laws.proofs.BlockKinds.{AreApart, IsOf, OfContent, OfHeads, fewe
 use Rattle.calm_laws.proofs.Facts.{HasFacts}
 use Rattle.calm_laws.proofs.Lines.{sent_step}
 use Rattle.calm_laws.proofs.Runs.{apart_at, calmly, facts_on, first_facts, first_state, fresh, has_room, line_facts, line_state, rings}
-use Rattle.calm_laws.proofs.Scenes.{runs_go, step_goes, steps_go}
+use Rattle.calm_laws.proofs.Configurations.{runs_go, step_goes, steps_go}
 use Rattle.calm_laws.proofs.States.{InStep, IsGood, kept_ring}
 use Rattle.calm_laws.proofs.Stretches.{IsRingOf, Stretch}
 use Rattle.calm_laws.proofs.Worlds.{IsState, good_onward, on, stretch}
@@ -93,68 +93,68 @@ module _ (Of : Key → List ℕ → Type 0) where
     pub sessions : AllByRecursion (λ s. AreHeardOf Of s.session) ss
     pub received : AllReceivedOf ks
 
-  pub received_of : (st : Story) (n : List ℕ) → AllReceivedOf st.participants → AllByRecursion (EntryOf Of) (knowing_of st n).received
+  pub received_of : (st : GhostState) (n : List ℕ) → AllReceivedOf st.participants → AllByRecursion (EntryOf Of) (knowing_of st n).received
   received_of st n h = by (find (λ k. bytes_eq k.name n) st.participants) refl
     where
       by : (o : Option Knowing) → find (λ k. bytes_eq k.name n) st.participants ≡ o → AllByRecursion (EntryOf Of) (knowing_of st n).received
       by None is = subst (λ (o : Option Knowing). AllByRecursion (EntryOf Of) (option_map_or (λ k. k) o (knowing_nothing n)).received) (sym is) tt
       by (Some k) is = subst (λ (o : Option Knowing). AllByRecursion (EntryOf Of) (option_map_or (λ k. k) o (knowing_nothing n)).received) (sym is) (h k (found_knowing st.participants n k is).0)
 
-  told_with : (st : Story) (k : Knowing) → AllReceivedOf st.participants → AllByRecursion (EntryOf Of) k.received → AllReceivedOf (with_knowing st k).participants
+  told_with : (st : GhostState) (k : Knowing) → AllReceivedOf st.participants → AllByRecursion (EntryOf Of) k.received → AllReceivedOf (with_knowing st k).participants
   told_with st k h new x c = ⊎_elim (λ e. subst (λ (y : Knowing). AllByRecursion (EntryOf Of) y.received) (sym e) new) (λ old. h x old) (new_or_old (λ (l : Knowing). bytes_eq l.name k.name) k st.participants x c)
 
-  told_now : (st : Story) (name : List ℕ) (known : _) → AllReceivedOf st.participants → AllReceivedOf (with_knowing st (record (knowing_of st name) { known = known })).participants
+  told_now : (st : GhostState) (name : List ℕ) (known : _) → AllReceivedOf st.participants → AllReceivedOf (with_knowing st (record (knowing_of st name) { known = known })).participants
   told_now st name known h = told_with st (record (knowing_of st name) { known = known }) h (received_of st name h)
 
   -- ---- steps
 
-  abbrev ToldScene : Scene → Type 0
-  ToldScene c = IsToldIn c.world.sessions c.story.participants × AreHeardOf Of c.session
+  abbrev ToldConfiguration : Configuration → Type 0
+  ToldConfiguration c = IsToldIn c.world.sessions c.ghost_state.participants × AreHeardOf Of c.session
 
-  turn_heard : {now : Moment} {a : Agent} {view : View} {failing : Bool} {s : Session} {end : TurnEnd} {after : Agent} {saving : Option Kept} {t : Session} → TakesTurn (record { agent = a; view = view; now = now; fails = failing }) s end after saving t → AreHeardOf Of s → AreHeardOf Of t
+  turn_heard : {now : Moment} {a : HssAgent} {view : View} {failing : Bool} {s : Session} {end : TurnEnd} {after : HssAgent} {saving : Option HssKept} {t : Session} → TakesHssTurn (record { agent = a; view = view; now = now; fails = failing }) s end after saving t → AreHeardOf Of s → AreHeardOf Of t
   turn_heard (answers notes given xid asked reply applied after saving done asks_it turned) h = h
-  turn_heard (begins_anew notes given xid asked end after saving done asks_it turned refused few) h = tt
+  turn_heard (begins_again notes given xid asked end after saving done asks_it turned refused few) h = tt
   turn_heard (gives_up notes given xid asked end after saving done asks_it turned refused many) h = tt
 
-  settles_heard : {a after : Agent} {s t : Session} → Settles a s after t → AreHeardOf Of s → AreHeardOf Of t
+  settles_heard : {a after : HssAgent} {s t : Session} → Settles a s after t → AreHeardOf Of s → AreHeardOf Of t
   settles_heard (settles_all said acks at) h = h
 
-  acts_told : {r : ℕ} {p : Participant} {c next : Scene} → AllHoldOf Of c.world → ToldScene c → Acts hss_judged r p c next → ToldScene next
+  acts_told : {r : ℕ} {p : Participant} {c next : Configuration} → AllHoldOf Of c.world → ToldConfiguration c → Acts hss_judged r p c next → ToldConfiguration next
   acts_told {p = p} {c = c} holds h (asks node question given next heard t cache fate hears goes) =
       let new = fate_told Of fate holds in (
         record {
           sessions = subst (AllByRecursion (λ (s : NamedSession). AreHeardOf Of s.session)) (sym (fate_same fate).2) h.0.sessions;
-          received = told_with c.story _ h.0.received (each_append (EntryOf Of) (knowing_of c.story p.name).received _ (received_of c.story p.name h.0.received) (brought_so Of hears goes h.1 new));
+          received = told_with c.ghost_state _ h.0.received (each_append (EntryOf Of) (knowing_of c.ghost_state p.name).received _ (received_of c.ghost_state p.name h.0.received) (brought_so Of hears goes h.1 new));
         },
         then_heard Of hears goes h.1 new,
       )
   acts_told holds h (asks_in_vain node question given next heard t cache fate hears lacking) =
       (record { sessions = subst (AllByRecursion (λ (s : NamedSession). AreHeardOf Of s.session)) (sym (fate_same fate).2) h.0.sessions; received = h.0.received }, lacking_heard Of lacking)
-  acts_told {p = p} {c = c} holds h (turns view reply applied after saving t turned in_view takes replies is_turn) = (record { sessions = h.0.sessions; received = told_now c.story p.name turned.set h.0.received }, turn_heard takes h.1)
+  acts_told {p = p} {c = c} holds h (turns view reply applied after saving t turned in_view takes replies is_turn) = (record { sessions = h.0.sessions; received = told_now c.ghost_state p.name turned.set h.0.received }, turn_heard takes h.1)
   acts_told holds h (is_refused view end after saving t in_view refusal takes) = (record { sessions = h.0.sessions; received = h.0.received }, turn_heard takes h.1)
   acts_told holds h (settles after t is) = (record { sessions = h.0.sessions; received = h.0.received }, settles_heard is h.1)
 
-  pub step_told : {r : ℕ} {name : List ℕ} {c next : Scene} → AllHoldOf Of c.world → ToldScene c → Steps hss_judged r name c next → ToldScene next
+  pub step_told : {r : ℕ} {name : List ℕ} {c next : Configuration} → AllHoldOf Of c.world → ToldConfiguration c → Steps hss_judged r name c next → ToldConfiguration next
   step_told {r = r} {c = c} holds h (acts p taken cache next is_p takes act) = acts_told {c = with_cache hss_judged r c p taken cache} (λ id n at. holds id n at) (record { sessions = h.0.sessions; received = h.0.received }, takes_all_heard Of takes h.1) act
   step_told holds h (lacks_memory p taken t cache is_p takes lacking) = (record { sessions = h.0.sessions; received = h.0.received }, lacking_heard Of lacking)
 
   -- what is only published brings nothing
-  past_told : {r : ℕ} {p : Participant} {c next : Scene} → IsPast c.session → IsToldIn c.world.sessions c.story.participants → Acts hss_judged r p c next → IsToldIn next.world.sessions next.story.participants
+  past_told : {r : ℕ} {p : Participant} {c next : Configuration} → IsPast c.session → IsToldIn c.world.sessions c.ghost_state.participants → Acts hss_judged r p c next → IsToldIn next.world.sessions next.ghost_state.participants
   past_told {p = p} {c = c} past told (asks node question given next heard t cache fate hears goes) = record {
     sessions = subst (AllByRecursion (λ (s : NamedSession). AreHeardOf Of s.session)) (sym (fate_same fate).2) told.sessions;
-    received = told_with c.story _ told.received (each_append (EntryOf Of) (knowing_of c.story p.name).received _ (received_of c.story p.name told.received) (none_new Of c.session t (parts_fail Of goes ∙ past_parts past hears)));
+    received = told_with c.ghost_state _ told.received (each_append (EntryOf Of) (knowing_of c.ghost_state p.name).received _ (received_of c.ghost_state p.name told.received) (none_new Of c.session t (parts_fail Of goes ∙ past_parts past hears)));
   }
   past_told past told (asks_in_vain node question given next heard t cache fate hears lacking) = record { sessions = subst (AllByRecursion (λ (s : NamedSession). AreHeardOf Of s.session)) (sym (fate_same fate).2) told.sessions; received = told.received }
   past_told past told (turns view reply applied after saving t turned in_view takes replies is_turn) = absurd (past.0 (turn_refreshes takes))
   past_told past told (is_refused view end after saving t in_view refusal takes) = absurd (past.0 (turn_refreshes takes))
   past_told past told (settles after t is) = record { sessions = told.sessions; received = told.received }
 
-  past_step : {r : ℕ} {name : List ℕ} {c next : Scene} → IsPast c.session → IsToldIn c.world.sessions c.story.participants → Steps hss_judged r name c next → IsToldIn next.world.sessions next.story.participants
+  past_step : {r : ℕ} {name : List ℕ} {c next : Configuration} → IsPast c.session → IsToldIn c.world.sessions c.ghost_state.participants → Steps hss_judged r name c next → IsToldIn next.world.sessions next.ghost_state.participants
   past_step {r = r} {c = c} past told (acts p taken cache next is_p takes act) =
       past_told {c = with_cache hss_judged r c p taken cache} ((λ e. past.0 (sym (takes_all_same takes).0 ∙ e)), takes_all_missed r takes ∙ past.1) (record { sessions = told.sessions; received = told.received }) act
   past_step past told (lacks_memory p taken t cache is_p takes lacking) = record { sessions = told.sessions; received = told.received }
 
-  past_runs : {r : ℕ} {name : List ℕ} {c next : Scene} → RunsOut hss_judged r name c next → IsPast c.session → IsToldIn c.world.sessions c.story.participants → IsToldIn next.world.sessions next.story.participants
+  past_runs : {r : ℕ} {name : List ℕ} {c next : Configuration} → RunsOut hss_judged r name c next → IsPast c.session → IsToldIn c.world.sessions c.ghost_state.participants → IsToldIn next.world.sessions next.ghost_state.participants
   past_runs (runs_over said over) past told = told
   past_runs {r = r} (runs_more step rest) past told = past_runs rest (step_past r past step) (past_step past told step)
 
@@ -199,7 +199,7 @@ module _ (Of : Key → List ℕ → Type 0) where
 abbrev pub HeldIn : World → Key → List ℕ → Type 0
 HeldIn last key b = OfContent last key b ⊎ OfHeads last key b
 
-held_as : (last : World) (kind : Kind) (key : Key) (b : List ℕ) → IsOf last key kind b → HeldIn last key b
+held_as : (last : World) (kind : BlockKind) (key : Key) (b : List ℕ) → IsOf last key kind b → HeldIn last key b
 held_as last Content key b h = inl h
 held_as last Head key b h = inr h
 
@@ -213,34 +213,34 @@ module _ (ring : Stretch) (last : World) (then_more : IsMore ring.end last) wher
   less_up : (v next : World) → IsMore v next → IsMore next ring.end → IsMore v ring.end
   less_up v next more up = more_then v next ring.end more up
 
-  all_held : (v : World) (st : Story) → IsGood ring v st → AllHoldOf Held v
+  all_held : (v : World) (st : GhostState) → IsGood ring v st → AllHoldOf Held v
   all_held v st g id n at key block found = held_as last block.kind key block.bytes (of_more ring.end last then_more key block.kind block.bytes ((g.orderly id n at).kinds key block found))
 
-  -- a scene in such a ring
-  record IsWell (c : Scene) : Type 0 where
+  -- a configuration in such a ring
+  record IsWell (c : Configuration) : Type 0 where
     still : IsRingOf ring c.world
-    good : IsGood ring c.world c.story
+    good : IsGood ring c.world c.ghost_state
     step : InStep ring c.world c.session
 
-  abbrev Told : Scene → Type 0
-  Told c = IsToldIn Held c.world.sessions c.story.participants × AreHeardOf Held c.session
+  abbrev Told : Configuration → Type 0
+  Told c = IsToldIn Held c.world.sessions c.ghost_state.participants × AreHeardOf Held c.session
 
-  well_then : (name : List ℕ) {c next : Scene} → Steps hss_judged ring.r name c next → Up next.world → IsWell c → IsWell next
+  well_then : (name : List ℕ) {c next : Configuration} → Steps hss_judged ring.r name c next → Up next.world → IsWell c → IsWell next
   well_then name {c} {next} step up h =
       let g = step_goes ring name step in
       let both = g.good up h.still h.good h.step in
       record { still = kept_ring ring c.world next.world g.still h.still; good = both.0; step = both.1 }
 
-  runs_told : (name : List ℕ) {c end : Scene} → RunsOut hss_judged ring.r name c end → Up end.world → IsWell c → Told c → Told end
+  runs_told : (name : List ℕ) {c end : Configuration} → RunsOut hss_judged ring.r name c end → Up end.world → IsWell c → Told c → Told end
   runs_told name (runs_over said over) up well h = h
   runs_told name {c} (runs_more {between = between} {next = end} step rest) up well h =
-      runs_told name rest up (well_then name step (less_up between.world end.world (runs_go ring name rest).grows up) well) (step_told Held (all_held c.world c.story well.good) h step)
+      runs_told name rest up (well_then name step (less_up between.world end.world (runs_go ring name rest).grows up) well) (step_told Held (all_held c.world c.ghost_state well.good) h step)
 
-  steps_told : (name : List ℕ) {count : ℕ} {c end : Scene} → StepsOn hss_judged ring.r name count c end → Up end.world → IsWell c → Told c → Told end
+  steps_told : (name : List ℕ) {count : ℕ} {c end : Configuration} → StepsOn hss_judged ring.r name count c end → Up end.world → IsWell c → Told c → Told end
   steps_told name steps_none up well h = h
   steps_told name (steps_over said over) up well h = h
   steps_told name (steps_more {c = c} {between = between} {next = end} step rest) up well h =
-      steps_told name rest up (well_then name step (less_up between.world end.world (steps_go ring name rest).grows up) well) (step_told Held (all_held c.world c.story well.good) h step)
+      steps_told name rest up (well_then name step (less_up between.world end.world (steps_go ring name rest).grows up) well) (step_told Held (all_held c.world c.ghost_state well.good) h step)
 
   -- ---- lines
 
@@ -278,14 +278,14 @@ module _ (ring : Stretch) (last : World) (then_more : IsMore ring.end last) wher
   module _ (w : Played) (ringed : w.0.replicas ≡ Some ring.r) (still : IsRingOf ring w.0) (good : IsGood ring w.0 w.1) (h : ToldIn w) where
     as_told : (log : List ℕ) (o : Option Sending) (next : Played) (output : List ℕ) → Up next.0 → AsLine hss_judged w o (Goes next output) → ToldIn next
     as_told log _ _ _ up (calls s k t end said also begins_it runs over) =
-        let c : Scene = record { world = w.0; story = having_begun w.1; session = t; began = beginning w.1 s.by.name } in
+        let c : Configuration = record { world = w.0; ghost_state = having_begun w.1; session = t; began = beginning w.1 s.by.name } in
         let mine : RunsOut hss_judged ring.r s.by.name c end = subst (λ x. RunsOut hss_judged x s.by.name c end) (one_r k ring.r (sym also ∙ ringed)) runs in
-        replied_told end.world end.story.participants said
+        replied_told end.world end.ghost_state.participants said
         (runs_told s.by.name mine (replied_up end.world said up) (record { still = still; good = good_begun w good; step = sent_step ring w.0 s t still begins_it }) (record { sessions = h.sessions; received = h.received }, begun_heard Held w.0 s t begins_it)).0
 
     step_line_told : (name : List ℕ) (count : ℕ) (o : Option Session) → session_named w.0 name ≡ o → (next : Played) (output : List ℕ) → Up next.0 → StepLine hss_judged w name count o (Goes next output) → ToldIn next
     step_line_told name count _ is _ _ up (steps s k end counts also on) =
-        let c : Scene = scene_of w s (began_of w.1 name) in
+        let c : Configuration = configuration_of w s (began_of w.1 name) in
         let mine : StepsOn hss_judged ring.r s.by count c end = subst (λ x. StepsOn hss_judged x s.by count c end) (one_r k ring.r (sym also ∙ ringed)) on in
         let told = steps_told s.by mine (record { met = up.met; left = up.left }) (record { still = still; good = good; step = session_in (InStep ring w.0) w.0.sessions name s is good.sessions })
         (record { sessions = h.sessions; received = h.received }, session_in (AreHeardOf Held) w.0.sessions name s is h.sessions) in
@@ -293,12 +293,12 @@ module _ (ring : Stretch) (last : World) (then_more : IsMore ring.end last) wher
 
     finish_told : (name : List ℕ) (o : Option Session) → session_named w.0 name ≡ o → (next : Played) (output : List ℕ) → Up next.0 → FinishLine hss_judged w name o (Goes next output) → ToldIn next
     finish_told name _ is _ _ up (ends s k end said also runs over) =
-        let c : Scene = scene_of w s (began_of w.1 name) in
+        let c : Configuration = configuration_of w s (began_of w.1 name) in
         let mine : RunsOut hss_judged ring.r s.by c end = subst (λ x. RunsOut hss_judged x s.by c end) (one_r k ring.r (sym also ∙ ringed)) runs in
         let upto = replied_up (without_session end.world name) said up in
         let told = runs_told s.by mine (record { met = upto.met; left = upto.left }) (record { still = still; good = good; step = session_in (InStep ring w.0) w.0.sessions name s is good.sessions })
         (record { sessions = h.sessions; received = h.received }, session_in (AreHeardOf Held) w.0.sessions name s is h.sessions) in
-        replied_told (without_session end.world name) end.story.participants said (record { sessions = each_filtered (λ (x : NamedSession). AreHeardOf Held x.session) _ end.world.sessions told.0.sessions; received = told.0.received })
+        replied_told (without_session end.world name) end.ghost_state.participants said (record { sessions = each_filtered (λ (x : NamedSession). AreHeardOf Held x.session) _ end.world.sessions told.0.sessions; received = told.0.received })
 
     pub command_told : (c : Command) (next : Played) (output : List ℕ) → Up next.0 → Does hss_judged w c (Goes next output) → ToldIn next
     command_told (command.As log pieces) next output up does = as_told log (sending_of w.0 log pieces) next output up does
@@ -329,7 +329,7 @@ calmly_told r (calmly_more {w = v} {mid = mid} {next = w} {line = line} c output
 -- ---- the whole
 
 module _ (lines_keep : LinesKeep) (r : ℕ) (w : Played) (count : ℕ) (lines : List (List ℕ)) (calm : IsCalmAt r w (Stopped count) lines) where
-  keeps : Keeps w
+  keeps : Invariant w
   keeps = calmly_keeps lines_keep r w (Stopped count) lines calm
 
   first : IsFirst r (fresh r w (Stopped count) lines calm) calm.made
@@ -343,20 +343,20 @@ module _ (lines_keep : LinesKeep) (r : ℕ) (w : Played) (count : ℕ) (lines : 
       calmly_told r run apart facts (first_state r w (Stopped count) lines calm (fewer_apart calm.made w.0 (facts_on r run facts).1 apart))
       (record { sessions = subst (AllByRecursion (λ (s : NamedSession). AreHeardOf (HeldIn w.0) s.session)) (sym (ap (λ (v : World). v.sessions) first.rest)) tt; received = λ k m. absurd (in_nothing k m) })
 
-  left_its_agent : (e : Entry) (q : Participant) → Contains w.0.participants q → e.0 ≡ head_key_of (own q.agent) → EntryOf (HeldIn w.0) e → (p : Participant) × Contains w.0.participants p × (own p.agent ≡ own q.agent) × IsLeftBy p e
+  left_its_agent : (e : Entry) (q : Participant) → Contains w.0.participants q → e.0 ≡ head_key_of (own_hss_key q.agent) → EntryOf (HeldIn w.0) e → (p : Participant) × Contains w.0.participants p × (own_hss_key p.agent ≡ own_hss_key q.agent) × IsLeftBy p e
   left_its_agent e q q_in of_log (b, j, inl content, judged, is) = absurd (calm.no_key q q_in (subst (Contains w.0.met) clash content.0))
     where
-      clash : b ≡ (own q.agent).0
+      clash : b ≡ (own_hss_key q.agent).0
       clash = block_is_key w keeps calm.apart b q content.0 q_in (content.1 ∙ of_log)
   left_its_agent e q q_in of_log (b, j, inr (in_met, left, some), judged, is) = (left.1, p_in, owner, (b, j, left.3, judged, is))
     where
       p_in : Contains w.0.participants left.1
       p_in = (found_named w.0.participants left.0 left.1 left.2).0
 
-      owner : own left.1.agent ≡ own q.agent
+      owner : own_hss_key left.1.agent ≡ own_hss_key q.agent
       owner = one_own_key w keeps calm.apart left.1 q p_in q_in (sym (left_under w left.1 b e.0 keeps p_in left.3 some) ∙ of_log)
 
-  pub received_left : (name : List ℕ) (e : Entry) (q : Participant) → Contains (knowing_of w.1 name).received e → Contains w.0.participants q → e.0 ≡ head_key_of (own q.agent) → (p : Participant) × Contains w.0.participants p × (own p.agent ≡ own q.agent) × IsLeftBy p e
+  pub received_left : (name : List ℕ) (e : Entry) (q : Participant) → Contains (knowing_of w.1 name).received e → Contains w.0.participants q → e.0 ≡ head_key_of (own_hss_key q.agent) → (p : Participant) × Contains w.0.participants p × (own_hss_key p.agent ≡ own_hss_key q.agent) × IsLeftBy p e
   received_left name e q c q_in of_log = left_its_agent e q q_in of_log (each (EntryOf (HeldIn w.0)) (knowing_of w.1 name).received e (received_of (HeldIn w.0) w.1 name told.received) c)
 
 pub received_heads_left : LinesKeep → ReceivedHeadsLeft

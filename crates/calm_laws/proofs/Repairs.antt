@@ -18,12 +18,12 @@ use Rattle.dht_ids.specs.declared.ask.Answer.{Answer}
 use Rattle.dht_ids.specs.declared.ask.Ask.{Ask}
 use Rattle.dht_ids.specs.declared.ask.Ask.TheVariants as ask
 use Rattle.dht_ids.specs.declared.peer.Peer.{Peer}
-use Rattle.dhash_model.specs.Course.{Told}
+use Rattle.dhash_model.specs.Execution.{Told}
 use Rattle.dhash_model.specs.Puts.{holds}
 use Rattle.dhash_model.specs.Signed.{hss_judged}
 use Rattle.dhash_model.specs.Stores.{Block, Blocks}
-use Rattle.dhash_model.specs.declared.kind.Kind.{Kind}
-use Rattle.dhash_model.specs.declared.kind.Kind.TheVariants.{Content, Head}
+use Rattle.dhash_model.specs.declared.kind.BlockKind.{BlockKind}
+use Rattle.dhash_model.specs.declared.kind.BlockKind.TheVariants.{Content, Head}
 use Rattle.world_model.specs.Nodes.{Node}
 use Rattle.world_model.specs.World.{World, node_at, peer_of}
 use Rattle.world_model.specs.Fates.{Fates, asking}
@@ -60,11 +60,11 @@ finds_some zero z l pos i f = absurd (omega (arith, pos))
 finds_some (suc k) z [] pos i f = i
 finds_some (suc k) z (x ∷ l) pos i f = f
 
-fits_so : (end : World) (kind : Kind) (key : Key) (bytes : List ℕ) → IsOf end key kind bytes → FitsIn end (question_as kind key bytes)
+fits_so : (end : World) (kind : BlockKind) (key : Key) (bytes : List ℕ) → IsOf end key kind bytes → FitsIn end (question_as kind key bytes)
 fits_so end Content key bytes of = λ is. of
 fits_so end Head key bytes of = λ is. of
 
-for_data : (kind : Kind) (key : Key) (bytes : List ℕ) → IsForData (question_as kind key bytes)
+for_data : (kind : BlockKind) (key : Key) (bytes : List ℕ) → IsForData (question_as kind key bytes)
 for_data Content key bytes = tt
 for_data Head key bytes = tt
 
@@ -101,7 +101,7 @@ module _ (r : ℕ) (base : List Shape) (planned : List ℕ) (start last : ℕ) (
 
   -- ---- the same put at several that live
 
-  each_taken : (kind : Kind) (key : Key) (bytes : List ℕ) → IsOf end key kind bytes → (told : Told) (asks : List (Peer × (Ask × Answer))) (w next : World) → IsRepairing w → AllByRecursion (λ s. lives_by base s.0 ≡ true) told
+  each_taken : (kind : BlockKind) (key : Key) (bytes : List ℕ) → IsOf end key kind bytes → (told : Told) (asks : List (Peer × (Ask × Answer))) (w next : World) → IsRepairing w → AllByRecursion (λ s. lives_by base s.0 ≡ true) told
       → asks ≡ asking (question_as kind key bytes) told → Fates hss_judged w asks next → next.asked ≤ last → AllByRecursion (λ s. holds s.1 ≡ true) told × IsRepairing next
   each_taken kind key bytes of [] asks w next h live e fates quiet = (tt, subst IsRepairing (fates_none hss_judged w next asks e fates) h)
   each_taken kind key bytes of (s ∷ told) asks w next h live e fates quiet =

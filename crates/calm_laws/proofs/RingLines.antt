@@ -1,4 +1,4 @@
--- Lines by which a node joins or stops, or a round is made: participants and what was told stay, and what nodes hold was held before.
+-- Lines by which a node joins or stops, or a round is made: participants and what was reported stay, and what nodes hold was held before.
 use Rattle.std.proofs.Common.{◌≡◌, ◌⊎◌, inl, inr, ℕ, false, List, [], Option, Some, refl, sym, ap, subst, Contains}
 use Rattle.std.specs.List.{AllByRecursion}
 use Rattle.ivy_base.specs.declared.key.Key.{Key}
@@ -7,7 +7,7 @@ use Rattle.ring_model.proofs.Lists.{all-among, all_from}
 use Rattle.dhash_model.specs.Signed.{hss_judged}
 use Rattle.log_model.proofs.Lists.{each, each_append, each_from}
 use Rattle.dhash_model.specs.Stores.{Block}
-use Rattle.dhash_model.specs.declared.kind.Kind.{Kind}
+use Rattle.dhash_model.specs.declared.kind.BlockKind.{BlockKind}
 use Rattle.script_driver.specs.Run.{Outcome, Goes}
 use Rattle.script_model.specs.declared.command.Command.{Command}
 use Rattle.script_model.specs.declared.command.Command.TheVariants as command
@@ -19,12 +19,12 @@ use Rattle.world_model.specs.Ring.JoinLine.{before_ring as join_before_ring, kno
 use Rattle.world_model.specs.Rounds.{RoundLine}
 use Rattle.world_model.specs.Rounds.RoundLine.{before_ring as round_before_ring, goes as round_goes}
 use Rattle.world_model.specs.Step.{Does}
-use Rattle.world_model.specs.Story.{knowing_of}
+use Rattle.world_model.specs.GhostState.{knowing_of}
 use Rattle.world_model.specs.World.{World}
 use Rattle.round_laws.proofs.Rounding.{leaves_the_rest}
 use Rattle.calm_laws.specs.Calm.{IsCalm, IsQuiet, Since}
 use Rattle.calm_laws.specs.Calm.IsCalm.{rounds, joins, stops, other}
-use Rattle.world_laws.specs.Keeps.{Keeps}
+use Rattle.world_laws.specs.Invariant.{Invariant}
 use Rattle.world_laws.proofs.Lines.{named_among}
 use Rattle.world_laws.proofs.NodeFates.{each_replaced}
 use Rattle.world_laws.proofs.StoredBlocks.{to_sorted}
@@ -32,7 +32,7 @@ use Rattle.calm_laws.proofs.CalmRounds.{beside_goes}
 use Rattle.world_laws.proofs.RingLines.{fates_rest}
 use Rattle.calm_laws.proofs.Changes.{stop_is}
 use Rattle.calm_laws.proofs.Rooms.{each_found}
-use Rattle.calm_laws.proofs.Runs.{beside_story, stopped_node}
+use Rattle.calm_laws.proofs.Runs.{beside_ghost_state, stopped_node}
 use Rattle.calm_laws.proofs.HeldHeads.{IsPutAs}
 use Rattle.calm_laws.proofs.RoundPuts.{AllAreSo, AreSo, found_so, round_so, routes_so}
 use Rattle.calm_laws.proofs.Stages.{IsEntryPut}
@@ -54,7 +54,7 @@ calm_kind (other count c quiet) = inl quiet
 one_world : (a b : World) (x y : List ℕ) → Goes a x ≡ Goes b y → a ≡ b
 one_world a b x y e = cc e
 
-module _ (P : Kind → Key → List ℕ → Type 0) where
+module _ (P : BlockKind → Key → List ℕ → Type 0) where
   -- nodes alone change, and what they hold stays so
   pub record ChangesNodes (w next : World) : Type 0 where
     pub participants : next.participants ≡ w.participants
@@ -104,19 +104,19 @@ module _ (P : Kind → Key → List ℕ → Type 0) where
 
   pub ring_changes : (w next : Played) (output : List ℕ) (c : Command) → ChangesRing c → Does hss_judged w c (Goes next output) → ChangesNodes w.0 next.0 × (next.1 ≡ w.1)
   ring_changes w next output (command.Join number) is does =
-      (join_changes w.0 next.0 number w.0.replicas does.0 output does.1 (beside_goes w.1 does.0 next output does.2), beside_story w.1 does.0 next output does.2)
+      (join_changes w.0 next.0 number w.0.replicas does.0 output does.1 (beside_goes w.1 does.0 next output does.2), beside_ghost_state w.1 does.0 next output does.2)
   ring_changes w next output (command.Stop node) is does =
       let stop = beside_goes w.1 (stop_line w.0 (node_named w.0 node)) next output does in
       let n = stopped_node w.0 next.0 (node_named w.0 node) output stop in (
         stop_changes w.0 next.0 n.0 output (named_among w.0 node n.0 n.1) (subst (λ o. stop_line w.0 o ≡ Goes next.0 output) n.1 stop),
-        beside_story w.1 (stop_line w.0 (node_named w.0 node)) next output does,
+        beside_ghost_state w.1 (stop_line w.0 (node_named w.0 node)) next output does,
       )
   ring_changes w next output command.Round is does =
-      (round_changes w.0 next.0 w.0.replicas does.0 output does.1 (beside_goes w.1 does.0 next output does.2), beside_story w.1 does.0 next output does.2)
+      (round_changes w.0 next.0 w.0.replicas does.0 output does.1 (beside_goes w.1 does.0 next output does.2), beside_ghost_state w.1 does.0 next output does.2)
   ring_changes w next output _ is does = absurd is
 
 -- all is so then
-pub ring_so : (w next : Played) (output : List ℕ) (c : Command) → Keeps w → ChangesRing c → Does hss_judged w c (Goes next output) → IsBackedWorld w.0 w.1 → IsBackedWorld next.0 next.1
+pub ring_so : (w next : Played) (output : List ℕ) (c : Command) → Invariant w → ChangesRing c → Does hss_judged w c (Goes next output) → IsBackedWorld w.0 w.1 → IsBackedWorld next.0 next.1
 ring_so w next output c keeps is does h = subst (IsBackedWorld next.0) (sym change.1)
     (later_backed w.0 next.0 w.1 w.1 (record { participants = change.0.participants; known = λ n. refl; met = λ b m. subst (λ l. Contains l b) (sym change.0.met) m; acked = λ p m. m })
     (λ n among key block found. subst (λ l. IsPutAs l w.1.acked block.kind key block.bytes) (sym change.0.met)

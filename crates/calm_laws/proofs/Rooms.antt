@@ -13,9 +13,9 @@ use Rattle.ring_model.specs.Members.{IsAmong}
 use Rattle.ring_model.proofs.Lists.{among-cases, among-left, among-right}
 use Rattle.ring_model.proofs.Lookups.{IsApart}
 use Rattle.log_model.proofs.Lists.{in_cons, in_nothing}
-use Rattle.dhash_model.specs.Stores.{Block, Blocks, bytes_held, capacity}
-use Rattle.dhash_model.specs.declared.kind.Kind.{Kind}
-use Rattle.dhash_model.specs.declared.kind.Kind.TheVariants.{Content, Head}
+use Rattle.dhash_model.specs.Stores.{Block, Blocks, bytes_held, store_capacity}
+use Rattle.dhash_model.specs.declared.kind.BlockKind.{BlockKind}
+use Rattle.dhash_model.specs.declared.kind.BlockKind.TheVariants.{Content, Head}
 use Rattle.world_model.specs.World.{World}
 use Rattle.round_laws.proofs.Nodes.{id_itself, not_tied}
 use Rattle.calm_laws.specs.Laws.{IsWithinLimit}
@@ -91,13 +91,13 @@ each_found (e ∷ es) h f (inr i) =
 
 -- ---- the blocks of one kind
 
-abbrev with_kind : Kind → Kind → List ℕ → List (List ℕ) → List (List ℕ)
+abbrev with_kind : BlockKind → BlockKind → List ℕ → List (List ℕ) → List (List ℕ)
 with_kind Content Content b bs = b ∷ bs
 with_kind Head Head b bs = b ∷ bs
 with_kind Content Head b bs = bs
 with_kind Head Content b bs = bs
 
-of_kind : Kind → Blocks → List (List ℕ)
+of_kind : BlockKind → Blocks → List (List ℕ)
 of_kind kind [] = []
 of_kind kind (e ∷ es) = with_kind kind e.1.kind e.1.bytes (of_kind kind es)
 
@@ -106,15 +106,15 @@ unfolding of_kind
 held_is [] = refl
 held_is (e ∷ es) = sum_by-cons (λ (b : Block). length b.bytes) e.1 (values_of es) ∙ by e.1.kind (held_is es)
   where
-    by : (kind : Kind) → bytes_held es ≡ total (of_kind Content es) + total (of_kind Head es)
+    by : (kind : BlockKind) → bytes_held es ≡ total (of_kind Content es) + total (of_kind Head es)
         → length e.1.bytes + bytes_held es ≡ total (with_kind Content kind e.1.bytes (of_kind Content es)) + total (with_kind Head kind e.1.bytes (of_kind Head es))
     by Content rest = let one = total_cons e.1.bytes (of_kind Content es) in omega (arith, rest, one)
     by Head rest = let one = total_cons e.1.bytes (of_kind Head es) in omega (arith, rest, one)
 
-abbrev Found : Kind → Key × Block → Blocks → List ℕ → Type 0
+abbrev Found : BlockKind → Key × Block → Blocks → List ℕ → Type 0
 Found kind e es b = (key : Key) × IsAmong (key, record { kind = kind; bytes = b }) (e ∷ es)
 
-from_kind : (kind : Kind) (es : Blocks) (b : List ℕ) → IsAmong b (of_kind kind es) → (key : Key) × IsAmong (key, record { kind = kind; bytes = b }) es
+from_kind : (kind : BlockKind) (es : Blocks) (b : List ℕ) → IsAmong b (of_kind kind es) → (key : Key) × IsAmong (key, record { kind = kind; bytes = b }) es
 unfolding of_kind
 from_kind kind [] b i = absurd i
 from_kind kind (e ∷ es) b i = by kind e.1.kind refl refl (from_kind kind es b) i
@@ -125,7 +125,7 @@ from_kind kind (e ∷ es) b i = by kind e.1.kind refl refl (from_kind kind es b)
     later : (IsAmong b (of_kind kind es) → (key : Key) × IsAmong (key, record { kind = kind; bytes = b }) es) → IsAmong b (of_kind kind es) → Found kind e es b
     later rest j = let r = rest j in (r.0, inr r.1)
 
-    by : (k l : Kind) → kind ≡ k → e.1.kind ≡ l → (IsAmong b (of_kind kind es) → (key : Key) × IsAmong (key, record { kind = kind; bytes = b }) es) → IsAmong b (with_kind k l e.1.bytes (of_kind kind es)) → Found kind e es b
+    by : (k l : BlockKind) → kind ≡ k → e.1.kind ≡ l → (IsAmong b (of_kind kind es) → (key : Key) × IsAmong (key, record { kind = kind; bytes = b }) es) → IsAmong b (with_kind k l e.1.bytes (of_kind kind es)) → Found kind e es b
     by Content Content s t rest (inl q) = here (t ∙ sym s) q
     by Content Content s t rest (inr j) = later rest j
     by Head Head s t rest (inl q) = here (t ∙ sym s) q
@@ -138,7 +138,7 @@ module _ (met : List (List ℕ)) where
   abbrev AreMet : Blocks → Type 0
   AreMet es = (f : Key × Block) → IsAmong f es → IsFit f.1.kind f.0 f.1.bytes × Contains met f.1.bytes
 
-  apart_of_kind : (kind : Kind) (es : Blocks) → T (is_sorted key_cmp es) → AreMet es → IsApart (of_kind kind es)
+  apart_of_kind : (kind : BlockKind) (es : Blocks) → T (is_sorted key_cmp es) → AreMet es → IsApart (of_kind kind es)
   unfolding of_kind
   apart_of_kind kind [] sorted are = tt
   apart_of_kind kind (e ∷ es) sorted are = by kind e.1.kind refl refl (apart_of_kind kind es (and_second (below_all key_cmp e.0 es) (is_sorted key_cmp es) sorted) (λ f i. are f (inr i)))
@@ -150,13 +150,13 @@ module _ (met : List (List ℕ)) where
           let there : IsFit kind other.0 e.1.bytes = (are (other.0, record { kind = kind; bytes = e.1.bytes }) (inr other.1)).0 in
           below_other e.0 es (and_first (below_all key_cmp e.0 es) (is_sorted key_cmp es) sorted) (other.0, record { kind = kind; bytes = e.1.bytes }) other.1 (one_key kind e.0 other.0 e.1.bytes here there)
 
-      by : (k l : Kind) → kind ≡ k → e.1.kind ≡ l → IsApart (of_kind kind es) → IsApart (with_kind k l e.1.bytes (of_kind kind es))
+      by : (k l : BlockKind) → kind ≡ k → e.1.kind ≡ l → IsApart (of_kind kind es) → IsApart (with_kind k l e.1.bytes (of_kind kind es))
       by Content Content s t rest = (new (t ∙ sym s), rest)
       by Head Head s t rest = (new (t ∙ sym s), rest)
       by Content Head s t rest = rest
       by Head Content s t rest = rest
 
-  within_met : (kind : Kind) (es : Blocks) → AreMet es → (b : List ℕ) → IsAmong b (of_kind kind es) → IsAmong b met
+  within_met : (kind : BlockKind) (es : Blocks) → AreMet es → (b : List ℕ) → IsAmong b (of_kind kind es) → IsAmong b met
   within_met kind es are b i = let found = from_kind kind es b i in in_among b met (are (found.0, record { kind = kind; bytes = b }) found.1).1
 
   -- so it has no more bytes than what was met has, as content and as heads
@@ -176,5 +176,5 @@ module _ (met : List (List ℕ)) where
       omega (arith, one, all)
 
 -- while what was met is within a script's limit
-pub fits : (end : World) → IsWithinLimit end → (es : Blocks) → T (is_sorted key_cmp es) → ((key : Key) (c : Block) → value_at key_cmp key es ≡ Some c → IsOf end key c.kind c.bytes) → bytes_held es ≤ capacity
+pub fits : (end : World) → IsWithinLimit end → (es : Blocks) → T (is_sorted key_cmp es) → ((key : Key) (c : Block) → value_at key_cmp key es ≡ Some c → IsOf end key c.kind c.bytes) → bytes_held es ≤ store_capacity
 fits end room es sorted kinds = let held = held_within end.met es sorted (λ key c f. let of = kinds key c f in (of_fit end key c.kind c.bytes of, is_met end key c.kind c.bytes of)) in omega (arith, room, held)

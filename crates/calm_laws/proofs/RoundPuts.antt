@@ -9,10 +9,10 @@ use Rattle.ivy_base.specs.declared.key.Key.{Key}
 use Rattle.ivy_base.specs.Naming.{key_cmp}
 use Rattle.ring_model.proofs.Lists.{all-among, all_weaker, filter_gives, some_same}
 use Rattle.dhash_model.specs.Signed.{hss_judged}
-use Rattle.dhash_model.specs.Course.{Told}
+use Rattle.dhash_model.specs.Execution.{Told}
 use Rattle.dhash_model.specs.Stores.{Block, Blocks, content, content_fault, head, head_fault, without}
-use Rattle.dhash_model.specs.declared.kind.Kind.{Kind}
-use Rattle.dhash_model.specs.declared.kind.Kind.TheVariants.{Content, Head}
+use Rattle.dhash_model.specs.declared.kind.BlockKind.{BlockKind}
+use Rattle.dhash_model.specs.declared.kind.BlockKind.TheVariants.{Content, Head}
 use Rattle.dht_ids.specs.declared.ask.Answer.{Answer}
 use Rattle.dht_ids.specs.declared.ask.Ask.{Ask}
 use Rattle.dht_ids.specs.declared.ask.Ask.TheVariants as ask
@@ -35,7 +35,7 @@ use Rattle.world_model.specs.Rounds.PutsAll.{done as all_done, keeps as all_keep
 use Rattle.round_laws.proofs.Nodes.{at_among, same_id}
 use Rattle.world_laws.proofs.NodeFates.{each_replaced}
 
-module _ (P : Kind → Key → List ℕ → Type 0) where
+module _ (P : BlockKind → Key → List ℕ → Type 0) where
   -- so is each block of a store, and of each node
   abbrev pub AreSo : Blocks → Type 0
   AreSo blocks = AllByRecursion (λ e. P e.1.kind e.0 e.1.bytes) blocks
@@ -99,7 +99,7 @@ module _ (P : Kind → Key → List ℕ → Type 0) where
   pub routes_so : {w next : World} (key : Key) (told : Told) → Fates hss_judged w (asking (ask.Route key) told) next → AllAreSo w → AllAreSo next
   routes_so key told fates h = fates_so fates (asked_each (ask.Route key) tt told) h
 
-  of_kind : (kind : Kind) (key : Key) (bytes : List ℕ) → P kind key bytes → IsPutSo (question_as kind key bytes)
+  of_kind : (kind : BlockKind) (key : Key) (bytes : List ℕ) → P kind key bytes → IsPutSo (question_as kind key bytes)
   of_kind Content key bytes h = h
   of_kind Head key bytes h = h
 

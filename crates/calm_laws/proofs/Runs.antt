@@ -17,7 +17,7 @@ use Rattle.script_model.specs.declared.command.Command.TheVariants as command
 use Rattle.script_model.specs.Lines.{command_of}
 use Rattle.world_model.specs.Nodes.{Node}
 use Rattle.world_model.specs.World.{Participant, World, empty_world, node_at, participant, peer_of}
-use Rattle.world_model.specs.Story.{Story, empty_story}
+use Rattle.world_model.specs.GhostState.{GhostState, empty_ghost_state}
 use Rattle.world_model.specs.Faults.{node_named}
 use Rattle.world_model.specs.Logs.{Played, beside}
 use Rattle.world_model.specs.Ring.{JoinLine, RingLine, stop_line}
@@ -31,7 +31,7 @@ use Rattle.round_laws.proofs.Rounding.{shapes_of}
 use Rattle.calm_laws.specs.Calm.{Calmly, IsCalm, IsCalmAt, Since, Stopped}
 use Rattle.calm_laws.specs.Calm.Calmly.{none as calmly_none, more as calmly_more}
 use Rattle.calm_laws.specs.Calm.IsCalm.{rounds, joins, stops, other}
-use Rattle.world_laws.specs.Keeps.{HasRing, Keeps}
+use Rattle.world_laws.specs.Invariant.{HasRing, Invariant}
 use Rattle.world_laws.proofs.AllLines.{does_line, goes_within}
 use Rattle.calm_laws.proofs.CalmHeld.{apart_of, calmly_keeps, moment_keeps}
 use Rattle.calm_laws.proofs.CalmRounds.{beside_goes, HasNodes, just_settled, round_line}
@@ -65,17 +65,17 @@ has_room w next output o h = within_limit w next output o (goes_within w next ou
 
 -- ---- a line
 
-pub beside_story : (st : Story) (o : Outcome World) (mid : Played) (output : List ℕ) → Goes mid output ≡ beside st o → mid.1 ≡ st
-beside_story st (Goes next words) mid output e = by e
+pub beside_ghost_state : (st : GhostState) (o : Outcome World) (mid : Played) (output : List ℕ) → Goes mid output ≡ beside st o → mid.1 ≡ st
+beside_ghost_state st (Goes next words) mid output e = by e
   where
     worlds : Goes mid output ≡ Goes (next, st) words → mid ≡ (next, st)
     worlds e = cc e
 
     by : Goes mid output ≡ Goes (next, st) words → mid.1 ≡ st
     by e = ap (λ (v : Played). v.1) (worlds e)
-beside_story st Ends mid output e = absurd cc
-beside_story st Refuses mid output e = absurd cc
-beside_story st Exceeds mid output e = absurd cc
+beside_ghost_state st Ends mid output e = absurd cc
+beside_ghost_state st Refuses mid output e = absurd cc
+beside_ghost_state st Exceeds mid output e = absurd cc
 
 nothing_apart : AreApart empty_world
 nothing_apart key b c content heads = in_nothing b content.0
@@ -111,14 +111,14 @@ module _ (r : ℕ) (v mid : Played) (output : List ℕ) where
   pub line_state : {since between : Since} {c : Command} → IsCalm v.0 r since c between → Does hss_judged v c (Goes mid output) → IsWithinLimit v.0 → AreApart mid.0 → HasFacts r v.0 since → IsState r v.0 v.1 since → IsState r mid.0 mid.1 between
   line_state (rounds since none) does room apart f s =
       let x = the_round does f in
-      subst (λ st. IsStanding r 0 mid.0 st) (sym (beside_story v.1 does.0 mid output does.2)) (round_state r v.0 mid.0 v.1 since f x none room apart (state_holds r v.0 v.1 since s))
+      subst (λ st. IsStanding r 0 mid.0 st) (sym (beside_ghost_state v.1 does.0 mid output does.2)) (round_state r v.0 mid.0 v.1 since f x none room apart (state_holds r v.0 v.1 since s))
   line_state (joins number none) does room apart f s =
-      subst (λ st. HoldsAll mid.0 st) (sym (beside_story v.1 does.0 mid output does.2)) (join_state r v.0 mid.0 v.1 (Stopped 0) number output f (the_join number does f) (state_holds r v.0 v.1 (Stopped 0) s))
+      subst (λ st. HoldsAll mid.0 st) (sym (beside_ghost_state v.1 does.0 mid output does.2)) (join_state r v.0 mid.0 v.1 (Stopped 0) number output f (the_join number does f) (state_holds r v.0 v.1 (Stopped 0) s))
   line_state (stops count node none short two) does room apart f s =
       let stop = beside_goes v.1 (stop_line v.0 (node_named v.0 node)) mid output does in
       let n = stopped_node v.0 mid.0 (node_named v.0 node) output stop in
       let line : stop_line v.0 (Some n.0) ≡ Goes mid.0 output = subst (λ o. stop_line v.0 o ≡ Goes mid.0 output) n.1 stop in
-      subst (λ st. IsStanding r (count + 1) mid.0 st) (sym (beside_story v.1 (stop_line v.0 (node_named v.0 node)) mid output does))
+      subst (λ st. IsStanding r (count + 1) mid.0 st) (sym (beside_ghost_state v.1 (stop_line v.0 (node_named v.0 node)) mid output does))
       (stop_state r count v.0 mid.0 v.1 n.0 output f short two (named_among v.0 node n.0 n.1) line none room apart s)
   line_state (other count c quiet) does room apart f s = quiet_state r count v mid c output f.has.replicas quiet does room apart s
 
@@ -156,14 +156,14 @@ module _ (r : ℕ) (w : Played) (since : Since) (lines : List (List ℕ)) (calm 
   pub rings : RingLine fresh calm.count r (Goes calm.made [])
   rings = subst (λ (v : Played). RingLine v.0 calm.count r (Goes calm.made [])) calm.fresh.2 calm.rings
 
-  pub calmly : Calmly r (calm.made, empty_story) (Stopped 0) lines w since
+  pub calmly : Calmly r (calm.made, empty_ghost_state) (Stopped 0) lines w since
   calmly = subst (λ (v : Played). Calmly r (calm.made, v.1) (Stopped 0) lines w since) calm.fresh.2 calm.calmly
 
   start : IsFirst r fresh calm.made
   start = first_of fresh calm.made calm.count r rings
 
-  pub first_keeps : Keeps (calm.made, empty_story)
-  first_keeps = ring_lines_keep calm.count r (fresh, empty_story) (calm.made, empty_story) [] (moment_keeps calm.fresh.0 calm.fresh.1) (Goes calm.made [], rings, refl)
+  pub first_keeps : Invariant (calm.made, empty_ghost_state)
+  first_keeps = ring_lines_keep calm.count r (fresh, empty_ghost_state) (calm.made, empty_ghost_state) [] (moment_keeps calm.fresh.0 calm.fresh.1) (Goes calm.made [], rings, refl)
 
   first_lives : (z : Peer) × (lives_in calm.made z ≡ true)
   first_lives = by calm.made.nodes refl
@@ -184,7 +184,7 @@ module _ (r : ℕ) (w : Played) (since : Since) (lines : List (List ℕ)) (calm 
       let has : HasNodes r calm.made = record { nodes = settles.0; named = settles.4; few = settles.2; none_lost = ap (λ (v : World). v.lost) start.rest; replicas = ap (λ (v : World). v.replicas) start.rest } in
       record { has = has; is_since = just_settled r calm.made has settles.1; someone = first_lives.0; lives = first_lives.1 }
 
-  pub first_state : AreApart calm.made → IsStanding r 0 calm.made empty_story
+  pub first_state : AreApart calm.made → IsStanding r 0 calm.made empty_ghost_state
   first_state apart = record {
     base = shapes_of calm.made;
     links = _;

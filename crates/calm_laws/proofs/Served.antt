@@ -9,25 +9,25 @@ use Rattle.script_model.specs.Words.{◌>>=◌}
 use Rattle.script_model.specs.declared.command.Command.{Command}
 use Rattle.script_model.specs.declared.command.Command.TheVariants as command
 use Rattle.script_model.specs.declared.command.Piece.{Piece}
-use Rattle.session_model.specs.Courses.Begins.{alone as begins_alone, refreshes as begins_refreshing}
+use Rattle.session_model.specs.Executions.Begins.{alone as begins_alone, refreshes as begins_refreshing}
 use Rattle.session_model.specs.Sessions.{Over, Said, Session, Stage}
 use Rattle.world_model.specs.Calls.{AsLine, BeginsWith, Sending, replied, sending_of, shown_end}
 use Rattle.world_model.specs.Calls.AsLine.{calls}
 use Rattle.world_model.specs.Logs.{Played}
 use Rattle.world_model.specs.Step.{Does}
-use Rattle.world_model.specs.Steps.{RunsOut, Scene}
-use Rattle.world_model.specs.Story.{HadTurn, beginning, having_begun}
+use Rattle.world_model.specs.Steps.{RunsOut, Configuration}
+use Rattle.world_model.specs.GhostState.{HadTurn, beginning, having_begun}
 use Rattle.world_model.specs.World.{Participant, World, participant}
 use Rattle.calm_laws.specs.Calm.{IsCalmAt, Stopped}
 use Rattle.world_laws.specs.Causes.{HasCause, said_at}
-use Rattle.world_laws.specs.Keeps.{HasSaid, IsInHand, Keeps}
+use Rattle.world_laws.specs.Invariant.{HasSaid, IsInHand, Invariant}
 use Rattle.world_laws.proofs.AllLines.{does_line}
 use Rattle.world_laws.proofs.Bringing.{found_named}
 use Rattle.world_laws.proofs.EachLine.{each_line_keeps}
 use Rattle.world_laws.proofs.HeadlineOfTrails.{trails_are_heard}
 use Rattle.world_laws.proofs.OneSteps.{GoesWell}
 use Rattle.world_laws.proofs.SessionLinesSteps.{Leads, runs_lead}
-use Rattle.calm_laws.specs.Completeness.{CallsMissNothingBehindHeads, HaveHeads, IsServed}
+use Rattle.calm_laws.specs.Completeness.{CallsMissNothingBehindHeads, HaveHeads, IsLineServed}
 use Rattle.calm_laws.proofs.CallLines.{IsSentBy, begun_well, sent_by}
 use Rattle.calm_laws.proofs.CallSteps.{AreApart, IsInCall, IsPast, begins_on, past_told, runs_apart, runs_on, runs_past}
 use Rattle.calm_laws.proofs.Standing.{IsCalmWorld, calm_world}
@@ -57,8 +57,8 @@ begins_same : (w : World) (s : Sending) (t : Session) → BeginsWith w s t → (
 begins_same w s _ (begins_alone given by) = (refl, refl, refl)
 begins_same w s _ (begins_refreshing xid asked asks) = (refl, refl, refl)
 
-said_at_end : (c : Scene) (r : ℕ) (said : Said) → IsInHand c r → c.session.stage ≡ Over (Some said) → HasCause c.story c.began.number c.session said
-said_at_end c r said hand over = subst (λ (x : Stage). HasSaid c.story c.began.number c.session (said_at x)) over hand.said
+said_at_end : (c : Configuration) (r : ℕ) (said : Said) → IsInHand c r → c.session.stage ≡ Over (Some said) → HasCause c.ghost_state c.began.number c.session said
+said_at_end c r said hand over = subst (λ (x : Stage). HasSaid c.ghost_state c.began.number c.session (said_at x)) over hand.said
 
 one_number : (a b : ℕ) → Some a ≡ Some b → a ≡ b
 one_number a b e = cc e
@@ -66,10 +66,10 @@ one_number a b e = cc e
 one_command : (c d : Command) → Some c ≡ Some d → c ≡ d
 one_command c d e = cc e
 
-module _ (r : ℕ) (w : Played) (keeps : Keeps w) (world : IsCalmWorld r w) (backed : IsBackedWorld w.0 w.1) (count : ℕ) (lines : List (List ℕ)) (calm : IsCalmAt r w (Stopped count) lines) (have : HaveHeads w) (log : List ℕ) (pieces : List Piece) where
-  served : (k : ℕ) → w.0.replicas ≡ Some k → k ≡ r → (s : Sending) → sending_of w.0 log pieces ≡ Some s → (t : Session) (end : Scene) (said : Said) → BeginsWith w.0 s t
-      → RunsOut hss_judged k s.by.name (record { world = w.0; story = having_begun w.1; session = t; began = beginning w.1 s.by.name }) end → end.session.stage ≡ Over (Some said)
-      → (next : Played) → next ≡ (replied end.world said, end.story) → IsServed w (command.As log pieces) next (shown_end end.session said)
+module _ (r : ℕ) (w : Played) (keeps : Invariant w) (world : IsCalmWorld r w) (backed : IsBackedWorld w.0 w.1) (count : ℕ) (lines : List (List ℕ)) (calm : IsCalmAt r w (Stopped count) lines) (have : HaveHeads w) (log : List ℕ) (pieces : List Piece) where
+  served : (k : ℕ) → w.0.replicas ≡ Some k → k ≡ r → (s : Sending) → sending_of w.0 log pieces ≡ Some s → (t : Session) (end : Configuration) (said : Said) → BeginsWith w.0 s t
+      → RunsOut hss_judged k s.by.name (record { world = w.0; ghost_state = having_begun w.1; session = t; began = beginning w.1 s.by.name }) end → end.session.stage ≡ Over (Some said)
+      → (next : Played) → next ≡ (replied end.world said, end.ghost_state) → IsLineServed w (command.As log pieces) next (shown_end end.session said)
   served k also same s sends t end said begins runs over next next_is = record {
     caused = record {
       end = end;
@@ -84,8 +84,8 @@ module _ (r : ℕ) (w : Played) (keeps : Keeps w) (world : IsCalmWorld r w) (bac
         (⊎_elim (λ on. runs_apart r w world backed calm.apart calm.no_key have mine first.0 on) (λ past h c. inl (subst (λ (l : List HadTurn). Contains l h) (past_told r mine past) c)) begun);
   }
     where
-      start : Scene
-      start = record { world = w.0; story = having_begun w.1; session = t; began = beginning w.1 s.by.name }
+      start : Configuration
+      start = record { world = w.0; ghost_state = having_begun w.1; session = t; began = beginning w.1 s.by.name }
 
       sent : IsSentBy w.0 log s
       sent = sent_by w.0 log pieces s sends
@@ -120,7 +120,7 @@ module _ (r : ℕ) (w : Played) (keeps : Keeps w) (world : IsCalmWorld r w) (bac
       asked : message_of w.0.replies end.session.standing.view pieces ≡ Some end.session.message
       asked = ap (λ (v : View). message_of w.0.replies v pieces) (led.same.call.2 ∙ first.2) ∙ sent_message w.0 log pieces s sends ∙ ap (λ (m : List ℕ). Some m) (sym (led.same.call.1 ∙ first.1))
 
-  pub as_served : (o : Option Sending) → sending_of w.0 log pieces ≡ o → (next : Played) (output : List ℕ) → AsLine hss_judged w o (Goes next output) → IsServed w (command.As log pieces) next output
+  pub as_served : (o : Option Sending) → sending_of w.0 log pieces ≡ o → (next : Played) (output : List ℕ) → AsLine hss_judged w o (Goes next output) → IsLineServed w (command.As log pieces) next output
   as_served _ sends _ _ (calls s k t end said also begins runs over) = served k also (one_number k r (sym also ∙ world.state.still.replicas)) s sends t end said begins runs over _ refl
 
 pub calls_miss_nothing_behind_heads : CallsMissNothingBehindHeads

@@ -1,7 +1,7 @@
 -- The line by which a participant makes a snapshot leaves it so.
 use Rattle.std.proofs.Common.{◌≡◌, inl, inr, ⊎_elim, ℕ, Bool, true, false, not, List, ◌++◌, map, filter, Option, Some, None, refl, sym, ap, ◌∙◌, subst}
 use Rattle.std.proofs.lemmas.List.Elements.{Contains-append_left, Contains-append_cases}
-use Rattle.ivy_base.specs.Naming.{NamesTellApart}
+use Rattle.ivy_base.specs.Naming.{IsCollisionFree}
 use Rattle.ivy_base.specs.declared.key.Key.{Key}
 use Rattle.ivy_base.specs.declared.key.PubKey.{PubKey}
 use Rattle.ivy_base.proofs.NameLemmas.{bytes-name, length-name}
@@ -15,14 +15,14 @@ use Rattle.agent_model.specs.Agent.{failed, is_head, kept_of}
 use Rattle.agent_model.specs.Others.{basis_of, block_post, is_pending_block, snapped}
 use Rattle.agent_model.specs.SavedBytes.{ArePostsSpelled}
 use Rattle.script_driver.specs.Run.{Outcome}
-use Rattle.world_model.specs.Agents.{Agent, IsKept, Kept, own}
+use Rattle.world_model.specs.Agents.{HssAgent, IsHssKept, HssKept, own_hss_key}
 use Rattle.world_model.specs.Keepers.{asked_to_save, fails_next}
 use Rattle.world_model.specs.Logs.{Played, Publishes, SnapLine, snapping_in}
 use Rattle.world_model.specs.Logs.SnapLine.{cannot, fails, makes, nobody, outside}
 use Rattle.world_model.specs.Steps.{met_by}
-use Rattle.world_model.specs.Story.{known_of}
+use Rattle.world_model.specs.GhostState.{known_of}
 use Rattle.world_model.specs.World.{Participant, participant, with_participant}
-use Rattle.world_laws.specs.Keeps.{IsKeptSo, IsSavedWell, Keeps}
+use Rattle.world_laws.specs.Invariant.{IsKeptSo, IsSavedWell, Invariant}
 use Rattle.world_laws.proofs.Bringing.{found_named}
 use Rattle.world_laws.proofs.Frames.{found_placed}
 use Rattle.world_laws.proofs.Lines.{ToSuch}
@@ -50,7 +50,7 @@ more_blocks acked owner known posts blocks h = record {
     still one (inl put) = inl put
     still one (inr c) = inr (Contains-append_left posts (map block_post blocks) _ c)
 
-module _ (w : Played) (keeps : Keeps w) (p : Participant) (is_p : participant w.0 p.name ≡ Some p) (view : View) (h : IsBackedWorld w.0 w.1) where
+module _ (w : Played) (keeps : Invariant w) (p : Participant) (is_p : participant w.0 p.name ≡ Some p) (view : View) (h : IsBackedWorld w.0 w.1) where
   its : IsBackedIn w.0.met w.1.acked p (known_of w.1 p.name)
   its = its_backed w.0 w.1 p.name p is_p h
 
@@ -63,10 +63,10 @@ module _ (w : Played) (keeps : Keeps w) (p : Participant) (is_p : participant w.
   abbrev new : List (List ℕ)
   new = filter (λ b. not (is_pending_block p.agent.pending b)) (snapshot_blocks view (basis_of p.agent.holding))
 
-  abbrev after : Agent
+  abbrev after : HssAgent
   after = snapped p.agent (root_name view (basis_of p.agent.holding)) (snapshot_blocks view (basis_of p.agent.holding))
 
-  saved : IsKept (kept_of p.agent)
+  saved : IsHssKept (kept_of p.agent)
   saved = (each (IsKeptSo IsSavedWell) w.0.participants p keeps.saved (found_named w.0.participants p.name p is_p).0).3.agent
 
   abbrev made : Participant
@@ -77,11 +77,11 @@ module _ (w : Played) (keeps : Keeps w) (p : Participant) (is_p : participant w.
   }
 
   module _ (spelled : ArePostsSpelled after.pending) where
-    whole : IsKept (kept_of after)
+    whole : IsHssKept (kept_of after)
     whole = record { signer = saved.signer; some = saved.some; few = saved.few; floor = saved.floor; view = saved.view; posts = spelled; snapshot = record { size = length-name _; each = bytes-name _ } }
 
-    backed : IsBackedBy w.1.acked (own p.agent) (known_of w.1 p.name) after.pending
-    backed = more_blocks w.1.acked (own p.agent) (known_of w.1 p.name) p.agent.pending new its.agent
+    backed : IsBackedBy w.1.acked (own_hss_key p.agent) (known_of w.1 p.name) after.pending
+    backed = more_blocks w.1.acked (own_hss_key p.agent) (known_of w.1 p.name) p.agent.pending new its.agent
 
     made_in : IsBackedIn (met_by w.0.met after.pending) w.1.acked made (known_of w.1 p.name)
     made_in = record {
@@ -91,22 +91,22 @@ module _ (w : Played) (keeps : Keeps w) (p : Participant) (is_p : participant w.
       keeper = (kept_of after, whole, kept_now p.keeper (kept_of after) its.fine, record { same_reach = refl; backed = backed });
     }
 
-    makes_so : (r : ℕ) (next : Played) → Publishes hss_judged r (record (with_participant w.0 made) { met = met_by w.0.met made.agent.pending }, w.1) made next → NamesTellApart next.0.met → IsBackedWorld next.0 next.1
+    makes_so : (r : ℕ) (next : Played) → Publishes hss_judged r (record (with_participant w.0 made) { met = met_by w.0.met made.agent.pending }, w.1) made next → IsCollisionFree next.0.met → IsBackedWorld next.0 next.1
     makes_so r next published apart =
         publishes_so r (record (with_participant w.0 made) { met = met_by w.0.met made.agent.pending }, w.1) made next (found_placed w.0 keeps.apart p.name p is_p made refl) published apart
         (placed_backed w.0 w.1 w.1 p made (met_by w.0.met made.agent.pending) refl (λ b c. met_stays w.0.met (map (λ (o : Post). o.bytes) made.agent.pending) b c) (known_of w.1 p.name) refl (λ n other. refl) refl (λ n. refl) _ refl refl refl h.sessions made_in h)
 
   -- ---- by whether it was made
 
-  abbrev having : (Agent × Bool) × Option Kept → Participant
+  abbrev having : (HssAgent × Bool) × Option HssKept → Participant
   having t = record p { agent = t.0.0; keeper = asked_to_save p.keeper t.1 }
 
-  abbrev Fails : (Agent × Bool) × Option Kept → Type 0
+  abbrev Fails : (HssAgent × Bool) × Option HssKept → Type 0
   Fails t = t.0.1 ≡ false → IsBackedWorld (with_participant w.0 (having t)) w.1
 
-  abbrev Makes : (Agent × Bool) × Option Kept → Type 0
+  abbrev Makes : (HssAgent × Bool) × Option HssKept → Type 0
   Makes t = t.0.1 ≡ true → (r : ℕ) (next : Played) (q : Participant) → q ≡ record (having t) { printed = Some (root_name view (basis_of p.agent.holding)) } → ArePostsSpelled q.agent.pending
-      → Publishes hss_judged r (record (with_participant w.0 q) { met = met_by w.0.met q.agent.pending }, w.1) q next → NamesTellApart next.0.met → IsBackedWorld next.0 next.1
+      → Publishes hss_judged r (record (with_participant w.0 q) { met = met_by w.0.met q.agent.pending }, w.1) q next → IsCollisionFree next.0.met → IsBackedWorld next.0 next.1
 
   never : true ≡ false → ⊥
   never e = cc e
@@ -121,7 +121,7 @@ module _ (w : Played) (keeps : Keeps w) (p : Participant) (is_p : participant w.
       makes_so (subst (λ (x : Participant). ArePostsSpelled x.agent.pending) is spelled) r next (subst (λ (x : Participant). Publishes hss_judged r (record (with_participant w.0 x) { met = met_by w.0.met x.agent.pending }, w.1) x next) is published) apart)
       p.agent.has_failed (fails_next p.keeper) (never_fails p.keeper its.fine)
 
-pub snap_so : (w : Played) → Keeps w → (log : List ℕ) (o : Option Participant) → participant w.0 log ≡ o → (out : Outcome Played) → SnapLine hss_judged w o out → IsBackedWorld w.0 w.1 → ToSuch IsThenBacked out
+pub snap_so : (w : Played) → Invariant w → (log : List ℕ) (o : Option Participant) → participant w.0 log ≡ o → (out : Outcome Played) → SnapLine hss_judged w o out → IsBackedWorld w.0 w.1 → ToSuch IsThenBacked out
 snap_so w keeps log _ is _ nobody h = tt
 snap_so w keeps log _ is _ (outside p out) h = tt
 snap_so w keeps log _ is _ (cannot p view in_view unspelled) h = λ kept apart. h

@@ -1,4 +1,4 @@
--- Sessions that publish: the records behind each head among the posts were put, or stand before it among them.
+-- Sessions that publish: the records after each head among the posts were put, or stand before it among them.
 use Rattle.std.proofs.Common.{◌≡◌, ◌⊎◌, inl, inr, ⊎_elim, Bool, true, false, cond, not, List, [], ◌∷◌, ◌++◌, length, filter, Option, Some, None, refl, sym, ap, ◌∙◌, subst, arith, nat_lt, le_refl, Contains, length-append}
 use Rattle.std.specs.Prelude.{ℕ, Err, Ok, Result, drop, filter_map, map, option_map}
 use Rattle.std.specs.List.{AllByRecursion, cons_option}
@@ -9,8 +9,8 @@ use Rattle.std.proofs.lemmas.Bool.{le-ltb, lt-ltb}
 use Rattle.std.proofs.lemmas.List.{append-nil}
 use Rattle.std.proofs.lemmas.List.Elements.{Contains-append_left, Contains-append_right}
 use Rattle.dhash_model.specs.Signed.{hss_judged}
-use Rattle.dhash_model.specs.Course.{Told, result_of, told_all}
-use Rattle.dhash_model.specs.Course.IsCourse.{no_route, of_owners}
+use Rattle.dhash_model.specs.Execution.{Told, result_of, told_all}
+use Rattle.dhash_model.specs.Execution.IsExecution.{no_route, of_owners}
 use Rattle.dhash_model.specs.GetBlock.{block_in, is_of_get}
 use Rattle.dhash_model.specs.GetHead.{IsGetOfHead}
 use Rattle.dhash_model.specs.declared.miss.Miss.{Miss}
@@ -19,7 +19,7 @@ use Rattle.log_model.specs.Vector.{Entry}
 use Rattle.ring_model.specs.Gets.{Damaged, Got, IsHeadGet, Missing, Right, given}
 use Rattle.dht_ids.specs.Asked.{told}
 use Rattle.dht_ids.specs.declared.ask.Heard.{Heard}
-use Rattle.session_model.specs.Brought.{Brought, HeadsOf, Part, Want, all_heads, brought_in, heads_of, stamp_of}
+use Rattle.session_model.specs.Brought.{Brought, HeadsOf, Part, WantedOfRing, all_heads, brought_in, heads_of, stamp_of}
 use Rattle.session_model.specs.Sessions.{Gets}
 use Rattle.session_model.specs.Sessions.Gets.{content as got_content, heads as got_heads}
 use Rattle.log_model.proofs.Lists.{each, each_append, each_from, each_right, from_filter, here, in_cons, in_filter, in_nothing}
@@ -35,9 +35,9 @@ use Rattle.dht_ids.specs.declared.post.PostKind.{PostKind}
 use Rattle.dht_ids.specs.declared.post.PostKind.TheVariants as kind
 use Rattle.agent_model.specs.Agent.{is_head, record_post}
 use Rattle.agent_model.specs.Others.{is_block}
-use Rattle.session_model.specs.Courses.{Fails, LacksMemory}
-use Rattle.session_model.specs.Courses.Fails.{fails, goes_on}
-use Rattle.session_model.specs.Courses.LacksMemory.{lacks}
+use Rattle.session_model.specs.Executions.{Fails, LacksMemory}
+use Rattle.session_model.specs.Executions.Fails.{fails, goes_on}
+use Rattle.session_model.specs.Executions.LacksMemory.{lacks}
 use Rattle.session_model.specs.Sessions.{Cache, Hears, Over, Publishing, Refreshing, Said, Session, Stage, ack_of, acknowledged, after_put, held_back, in_publishing_order, is_log, put_question, wanted_key}
 use Rattle.session_model.specs.Sessions.Hears.{gets_on, got, puts_on, puts}
 use Rattle.world_model.specs.Steps.{acked_by}
@@ -51,7 +51,7 @@ use Rattle.calm_laws.proofs.HeldHeads.{IsHeadPut, IsHeardPut, IsNamed, IsPutUnde
 abbrev pub WasAcked : List Post → Ack → Type 0
 WasAcked acked ack = (p : Post) × Contains acked p × (ack ≡ ack_of p)
 
--- the records behind the head were put, or are among those posts
+-- the records after the head were put, or are among those posts
 abbrev pub IsHeadPutOr : List Post → List Post → Post → Type 0
 IsHeadPutOr acked posts h = (j : Judged) → hss_judged h.key h.bytes ≡ Some j → IsHeadOver (IsPutOr acked posts) h.key j
 
@@ -439,7 +439,7 @@ module _ (met : List (List ℕ)) (acked : List Post) where
   of_heads key [] h = tt
   of_heads key (j ∷ heads) h = (h.0, of_heads key heads h.1)
 
-  pub brings_put : {r : ℕ} {entries : List Peer} {want : Want} {asks : List Heard} {b : Brought} → Gets hss_judged r entries want asks b → AllByRecursion (IsHeardPut met acked) asks → AllByRecursion (IsEntryPut met acked) (heads_of b)
+  pub brings_put : {r : ℕ} {entries : List Peer} {want : WantedOfRing} {asks : List Heard} {b : Brought} → Gets hss_judged r entries want asks b → AllByRecursion (IsHeardPut met acked) asks → AllByRecursion (IsEntryPut met acked) (heads_of b)
   brings_put {r} {entries} (got_heads {owner = owner} {asks = asks} came gets) h = by came gets
     where
       by : (came : Result (List Judged) Miss) → IsGetOfHead (hss_judged (head_key_of owner)) (head_key_of owner) r entries asks came → AllByRecursion (IsEntryPut met acked) (heads_of (HeadsOf owner came))

@@ -2,7 +2,7 @@
 use Rattle.std.proofs.Common.{ℕ, List}
 use Rattle.world_model.specs.Logs.{Played}
 use Rattle.calm_laws.specs.Calm.{IsCalmAt, Stopped}
-use Rattle.world_laws.specs.Keeps.{Keeps}
+use Rattle.world_laws.specs.Invariant.{Invariant}
 use Rattle.calm_laws.proofs.CalmHeld.{calmly_keeps}
 use Rattle.world_laws.proofs.EachLine.{each_line_keeps}
 use Rattle.calm_laws.proofs.Runs.{state_at}
@@ -11,7 +11,7 @@ use Rattle.calm_laws.proofs.Worlds.{IsStanding, on}
 
 pub record IsCalmWorld (r : ℕ) (w : Played) : Type 0 where
   pub stopped : ℕ
-  pub keeps : Keeps w
+  pub keeps : Invariant w
   pub state : IsStanding r stopped w.0 w.1
 
 -- its ring, up to that world

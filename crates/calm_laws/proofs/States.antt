@@ -14,9 +14,9 @@ use Rattle.dht_ids.specs.declared.peer.Peer.{Peer}
 use Rattle.dht_ids.specs.declared.post.Post.{Post}
 use Rattle.session_model.specs.Sessions.{Session}
 use Rattle.world_model.specs.World.{NamedSession, World}
-use Rattle.world_model.specs.Story.{Story}
+use Rattle.world_model.specs.GhostState.{GhostState}
 use Rattle.world_model.specs.Fates.{FateOf}
-use Rattle.world_model.specs.Steps.{Scene}
+use Rattle.world_model.specs.Steps.{Configuration}
 use Rattle.calm_laws.proofs.CalmNodes.{HeldStays, KeepsRings, asked_rings}
 use Rattle.calm_laws.proofs.CalmPuts.{entries_by, held_for}
 use Rattle.calm_laws.proofs.CalmStates.{ArePending, IsMore, IsOwnPost, more_posts, more_then, posts_at, same_more}
@@ -68,14 +68,14 @@ module _ (ring : Stretch) where
   pub still_acked : (w v : World) (ps : List Post) → IsMore w v → HeldStays w v → AllByRecursion (IsAckHeld ring w) ps → AllByRecursion (IsAckHeld ring v) ps
   still_acked w v ps more held h = all_weaker (IsAckHeld ring w) (IsAckHeld ring v) ps (λ p a. ack_later ring w v p more.met held a) h
 
-  pub record IsGood (w : World) (st : Story) : Type 0 where
+  pub record IsGood (w : World) (st : GhostState) : Type 0 where
     pub orderly : AreOrderly ring.end w
     pub acked : AllByRecursion (IsAckHeld ring w) st.acked
     pub pending : ArePending w
     pub sessions : AllByRecursion (λ s. InStep w s.session) w.sessions
 
   -- a later world, in which nodes hold what they held
-  pub good_later : (w v : World) (st su : Story) → IsGood w st → IsMore w v → HeldStays w v → AreOrderly ring.end v → ArePending v → v.sessions ≡ w.sessions → AllByRecursion (IsAckHeld ring v) su.acked → IsGood v su
+  pub good_later : (w v : World) (st su : GhostState) → IsGood w st → IsMore w v → HeldStays w v → AreOrderly ring.end v → ArePending v → v.sessions ≡ w.sessions → AllByRecursion (IsAckHeld ring v) su.acked → IsGood v su
   good_later w v st su h more held orderly pending same acked = record {
     orderly = orderly;
     acked = acked;
@@ -85,24 +85,24 @@ module _ (ring : Stretch) where
 
   -- ---- what goes on, up to the stretch's end
 
-  pub record WorldGoes (w : World) (st : Story) (v : World) (su : Story) : Type 0 where
+  pub record WorldGoes (w : World) (st : GhostState) (v : World) (su : GhostState) : Type 0 where
     pub grows : IsMore w v
     pub still : KeepsRings w v
     pub good : IsMore v ring.end → IsRingOf ring w → IsGood w st → IsGood v su
 
-  pub record SceneGoes (c next : Scene) : Type 0 where
+  pub record ConfigurationGoes (c next : Configuration) : Type 0 where
     pub grows : IsMore c.world next.world
     pub still : KeepsRings c.world next.world
-    pub good : IsMore next.world ring.end → IsRingOf ring c.world → IsGood c.world c.story → InStep c.world c.session → IsGood next.world next.story × InStep next.world next.session
+    pub good : IsMore next.world ring.end → IsRingOf ring c.world → IsGood c.world c.ghost_state → InStep c.world c.session → IsGood next.world next.ghost_state × InStep next.world next.session
 
   pub kept_ring : (w v : World) → KeepsRings w v → IsRingOf ring w → IsRingOf ring v
   kept_ring w v keeps h = keeps ring.r ring.base ring.links ring.start (known ring) h
 
-  pub scene_stays : (c : Scene) → SceneGoes c c
-  scene_stays c = record { grows = same_more c.world; still = λ s b l t k h. h; good = λ up h i s. (i, s) }
+  pub configuration_stays : (c : Configuration) → ConfigurationGoes c c
+  configuration_stays c = record { grows = same_more c.world; still = λ s b l t k h. h; good = λ up h i s. (i, s) }
 
-  pub scene_then : (c mid next : Scene) → SceneGoes c mid → SceneGoes mid next → SceneGoes c next
-  scene_then c mid next f k = record {
+  pub configuration_then : (c mid next : Configuration) → ConfigurationGoes c mid → ConfigurationGoes mid next → ConfigurationGoes c next
+  configuration_then c mid next f k = record {
     grows = more_then c.world mid.world next.world f.grows k.grows;
     still = λ n b l t o h. k.still n b l t o (f.still n b l t o h);
     good = λ up h i s.

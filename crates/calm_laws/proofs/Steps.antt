@@ -15,11 +15,11 @@ use Rattle.dht_ids.specs.declared.peer.Peer.{Peer}
 use Rattle.dht_ids.specs.declared.post.Ack.{Ack}
 use Rattle.dht_ids.specs.declared.post.Post.{Post}
 use Rattle.dhash_model.specs.Puts.{holds, is_of_put}
-use Rattle.dhash_model.specs.declared.kind.Kind.TheVariants.{Content, Head}
+use Rattle.dhash_model.specs.declared.kind.BlockKind.TheVariants.{Content, Head}
 use Rattle.agent_model.specs.Agent.{is_head}
-use Rattle.session_model.specs.Courses.{Fails, LacksMemory}
-use Rattle.session_model.specs.Courses.Fails.{fails, goes_on}
-use Rattle.session_model.specs.Courses.LacksMemory.{lacks}
+use Rattle.session_model.specs.Executions.{Fails, LacksMemory}
+use Rattle.session_model.specs.Executions.Fails.{fails, goes_on}
+use Rattle.session_model.specs.Executions.LacksMemory.{lacks}
 use Rattle.session_model.specs.Sessions.{Cache, Hears, IsPutOfPost, Over, Publishing, Refreshing, Said, Session, Stage, Takes, TakesAll, TakesSome, acknowledged, after_put, held_back, is_log, put_question, wanted_key}
 use Rattle.session_model.specs.Sessions.Hears.{gets_on, got, puts_on, puts}
 use Rattle.session_model.specs.Sessions.Takes.{posted, cached}
@@ -28,10 +28,10 @@ use Rattle.session_model.specs.Sessions.TakesSome.{none as some_none, more as so
 use Rattle.world_model.specs.Nodes.{Node, answered}
 use Rattle.world_model.specs.World.{World, Participant, node_at, participant, peer_of, with_node, with_participant}
 use Rattle.world_model.specs.Rounds.{question_as}
-use Rattle.world_model.specs.Story.{Began, Story}
-use Rattle.world_model.specs.Fates.{FateOf, counted}
-use Rattle.world_model.specs.Steps.{Scene, acked_by}
-use Rattle.world_model.specs.Holding.{rank}
+use Rattle.world_model.specs.GhostState.{Began, GhostState}
+use Rattle.world_model.specs.Fates.{FateOf, ask_counted}
+use Rattle.world_model.specs.Steps.{Configuration, acked_by}
+use Rattle.world_model.specs.Holding.{block_rank}
 use Rattle.calm_laws.proofs.CalmNodes.{HeldStays, IsHeld, KeepsRings, put_answers, same_rings}
 use Rattle.calm_laws.proofs.CalmPuts.{IsHeldFor, block_of, kind_of, question_is}
 use Rattle.calm_laws.proofs.CalmStates.{ArePending, IsMore, IsOwnPost, asked_more, found_placed, more_posts, placed, placed_more, placed_pending, posts_at}
@@ -39,7 +39,7 @@ use Rattle.calm_laws.proofs.BlockKinds.{FitsIn, IsFit, fit_of, of_fit, post_fits
 use Rattle.calm_laws.proofs.Holding.{AreOrderly, put_held, put_is_held, taken_of}
 use Rattle.calm_laws.proofs.Stretches.{Answers, AreTrue, IsAckHeld, IsMade, IsPutTrue, IsRingOf, IsTrueAt, Stretch, is_routed, put_ends, who_answers}
 use Rattle.calm_laws.proofs.Stretches.Answers.{gives as has_answered, is_silent}
-use Rattle.calm_laws.proofs.States.{AskGoes, InStep, IsGood, SceneGoes, ask_goes, good_later, more_heard, still_acked, still_in_step}
+use Rattle.calm_laws.proofs.States.{AskGoes, InStep, IsGood, ConfigurationGoes, ask_goes, good_later, more_heard, still_acked, still_in_step}
 
 -- ---- what sessions ask
 
@@ -97,12 +97,12 @@ module _ (ring : Stretch) where
         fit : FitsIn ring.end (question_as (kind_of p) p.key p.bytes)
         fit = subst (FitsIn ring.end) (question_is p) (post_fits w ring.end p up own)
 
-        taken_so : (n : Node) → node_at w node.id ≡ Some n → peer_of n ≡ node → next ≡ with_node (counted w) (answered hss_judged n (question_as (kind_of p) p.key p.bytes)).1 → holds (answered hss_judged n (question_as (kind_of p) p.key p.bytes)).0 ≡ true
+        taken_so : (n : Node) → node_at w node.id ≡ Some n → peer_of n ≡ node → next ≡ with_node (ask_counted w) (answered hss_judged n (question_as (kind_of p) p.key p.bytes)).1 → holds (answered hss_judged n (question_as (kind_of p) p.key p.bytes)).0 ≡ true
             → IsHeldFor next p node × IsFit (kind_of p) p.key p.bytes
         taken_so n is me next_is taken =
             let fits : IsFit (kind_of p) p.key p.bytes = of_fit ring.end p.key (kind_of p) p.bytes (taken_of ring.end (kind_of p) p.key p.bytes n fit taken) in (
               record {
-                held = subst (λ v. IsHeld v p.key (kind_of p) (rank hss_judged p.key (block_of p)) node) (sym next_is) (put_is_held ring.end ring.apart w node (kind_of p) p.key p.bytes n fit orderly is me taken);
+                held = subst (λ v. IsHeld v p.key (kind_of p) (block_rank hss_judged p.key (block_of p)) node) (sym next_is) (put_is_held ring.end ring.apart w node (kind_of p) p.key p.bytes n fit orderly is me taken);
                 met = (asked_more fate).met p.bytes own.0;
                 named = λ e. subst (λ b. IsFit (cond b Head Content) p.key p.bytes) e fits;
               },
@@ -137,7 +137,7 @@ module _ (ring : Stretch) where
 
   -- one of a session
   module _ (w next : World) (node : Peer) (question : Ask) (given : Answer) (up : IsMore w ring.end) (h : IsRingOf ring w)
-      (fate : FateOf hss_judged w node question given next) (s : Session) (step : InStep ring w s) (st : Story) (good : IsGood ring w st) where
+      (fate : FateOf hss_judged w node question given next) (s : Session) (step : InStep ring w s) (st : GhostState) (good : IsGood ring w st) where
     abbrev Answered : Session → Type 0
     Answered heard = AskGoes ring w next × InStep ring next heard × ((t : Session) → Fails heard t → AllByRecursion (IsAckHeld ring next) (acked_by s.stage t.stage))
 
@@ -244,25 +244,25 @@ module _ (ring : Stretch) where
     pub placed_ring : KeepsRings w v
     placed_ring = same_rings w v refl refl refl refl
 
-    pub placed_good : (st su : Story) → su.acked ≡ st.acked → AllByRecursion (IsOwnPost v) q.agent.pending → IsGood ring w st → IsGood ring v su
+    pub placed_good : (st su : GhostState) → su.acked ≡ st.acked → AllByRecursion (IsOwnPost v) q.agent.pending → IsGood ring w st → IsGood ring v su
     placed_good st su e own g = good_later ring w v st su g more (λ key kind least m i. i) g.orderly (placed_pending w n p q met is_p named grows left g.pending own) refl
         (subst (AllByRecursion (IsAckHeld ring v)) (sym e) (still_acked ring w v st.acked more (λ key kind least m i. i) g.acked))
 
     pub placed_step : (s : Session) → InStep ring w s → InStep ring v s
     placed_step s h = still_in_step ring w v s more (λ key kind least m i. i) h
 
-  -- what becomes of a scene where a participant's agent and cache change, and what has left it only grows
-  pub place_goes : (c : Scene) (n : List ℕ) (p q : Participant) (met : List (List ℕ)) (su : Story) (t : Session) (b : Began) → participant c.world n ≡ Some p → q.name ≡ p.name → ((x : List ℕ) → Contains c.world.met x → Contains met x)
-      → ((x : List ℕ) → Contains p.left x → Contains q.left x) → su.acked ≡ c.story.acked
+  -- what becomes of a configuration where a participant's agent and cache change, and what has left it only grows
+  pub place_goes : (c : Configuration) (n : List ℕ) (p q : Participant) (met : List (List ℕ)) (su : GhostState) (t : Session) (b : Began) → participant c.world n ≡ Some p → q.name ≡ p.name → ((x : List ℕ) → Contains c.world.met x → Contains met x)
+      → ((x : List ℕ) → Contains p.left x → Contains q.left x) → su.acked ≡ c.ghost_state.acked
       → ((v : World) → participant v n ≡ Some q → v.met ≡ met → IsMore c.world v → ArePending c.world → AllByRecursion (IsOwnPost v) q.agent.pending)
       → ((v : World) → IsMore c.world v → AllByRecursion (IsOwnPost v) q.agent.pending → InStep ring v c.session → InStep ring v t)
-      → SceneGoes ring c (record { world = record (with_participant c.world q) { met = met }; story = su; session = t; began = b })
+      → ConfigurationGoes ring c (record { world = record (with_participant c.world q) { met = met }; ghost_state = su; session = t; began = b })
   place_goes c n p q met su t b is_p named grows left e own step = record {
     grows = placed_more c.world n p q met is_p named grows left;
     still = placed_ring c.world n p q met is_p named grows left;
     good = λ up h g s.
         let all = own (placed c.world n p q met is_p named grows left) (found_placed c.world n p q met is_p named grows left) refl (placed_more c.world n p q met is_p named grows left) g.pending in (
-          placed_good c.world n p q met is_p named grows left c.story su e all g,
+          placed_good c.world n p q met is_p named grows left c.ghost_state su e all g,
           step (placed c.world n p q met is_p named grows left) (placed_more c.world n p q met is_p named grows left) all (placed_step c.world n p q met is_p named grows left c.session s),
         );
   }

@@ -9,14 +9,14 @@ use Rattle.ivy_base.specs.declared.key.Key.{Key}
 use Rattle.ivy_base.specs.Naming.{key_cmp}
 use Rattle.dht_ids.specs.declared.ask.StoreFault.TheVariants.{Full}
 use Rattle.log_model.proofs.Lists.{each}
-use Rattle.dhash_model.specs.Stores.{Block, Blocks, bytes_held, capacity, full}
+use Rattle.dhash_model.specs.Stores.{Block, Blocks, bytes_held, store_capacity, full}
 use Rattle.node_store.specs.Stores.{IsStore}
 use Rattle.node_store.proofs.Sums.{held_after_put}
 use Rattle.world_model.specs.Nodes.{Node}
 use Rattle.world_model.specs.World.{World, node_at, peer_of}
 use Rattle.world_model.specs.Logs.{Played}
 use Rattle.world_model.specs.Step.{most_bytes}
-use Rattle.world_laws.specs.Keeps.{Keeps}
+use Rattle.world_laws.specs.Invariant.{Invariant}
 use Rattle.world_laws.proofs.StoredBlocks.{to_sorted}
 use Rattle.calm_laws.proofs.BlockKinds.{IsFit, of_fit}
 use Rattle.calm_laws.proofs.Holding.{AreOrderly}
@@ -28,11 +28,11 @@ use Rattle.calm_laws.proofs.Standing.{calm_world}
 
 pub has_room : (met : List (List ℕ)) (es : Blocks) → IsStore es → AllByRecursion (λ e. Contains met e.1.bytes) es → ((k : Key) (c : Block) → value_at key_cmp k es ≡ Some c → IsFit c.kind k c.bytes)
     → (key : Key) (block : Block) → Contains met block.bytes → total met ≤ most_bytes → full key block es ≡ None
-has_room met es store held kinds key block c fits = by (nat_lt capacity (bytes_held (put key_cmp key block es))) refl
+has_room met es store held kinds key block c fits = by (nat_lt store_capacity (bytes_held (put key_cmp key block es))) refl
   where
-    by : (b : Bool) → nat_lt capacity (bytes_held (put key_cmp key block es)) ≡ b → full key block es ≡ None
+    by : (b : Bool) → nat_lt store_capacity (bytes_held (put key_cmp key block es)) ≡ b → full key block es ≡ None
     by true e =
-        let over = ltb-true capacity (bytes_held (put key_cmp key block es)) e in
+        let over = ltb-true store_capacity (bytes_held (put key_cmp key block es)) e in
         let now = held_after_put key es block store.ascending in
         let before = held_within met es (to_sorted es store.ascending) (λ k d f. (kinds k d f, found_so (λ kind key bytes. Contains met bytes) k es d held f)) in
         let its_size = one_within met block.bytes c in
@@ -43,7 +43,7 @@ has_room met es store held kinds key block c fits = by (nat_lt capacity (bytes_h
 pub kinds_of : (w : World) → AreOrderly w w → (id : Key) (n : Node) → node_at w id ≡ Some n → (k : Key) (c : Block) → value_at key_cmp k n.blocks ≡ Some c → IsFit c.kind k c.bytes
 kinds_of w orderly id n at k c f = of_fit w k c.kind c.bytes ((orderly id n at).kinds k c f)
 
-pub room_at : (w : Played) → Keeps w → AreOrderly w.0 w.0 → (id : Key) (n : Node) (key : Key) (block : Block) → sum_by (λ b. length b) w.0.met ≤ most_bytes → node_at w.0 id ≡ Some n → Contains w.0.met block.bytes → full key block n.blocks ≡ None
+pub room_at : (w : Played) → Invariant w → AreOrderly w.0 w.0 → (id : Key) (n : Node) (key : Key) (block : Block) → sum_by (λ b. length b) w.0.met ≤ most_bytes → node_at w.0 id ≡ Some n → Contains w.0.met block.bytes → full key block n.blocks ≡ None
 room_at w keeps orderly id n key block fits at met =
     let its = each _ w.0.nodes n keeps.met.held (found_in (λ (m : Node). eq_by_cmp key_cmp (peer_of m).id id) w.0.nodes n at) in
     has_room w.0.met n.blocks its.0 its.1 (kinds_of w.0 orderly id n at) key block met fits

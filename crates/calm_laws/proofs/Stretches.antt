@@ -4,12 +4,12 @@ use Rattle.std.specs.Prelude.{IfSome, ◌*◌}
 use Rattle.std.specs.List.{AllByRecursion}
 use Rattle.std.proofs.lemmas.List.Sums.{length-filter}
 use Rattle.ivy_base.specs.declared.key.Key.{Key}
-use Rattle.ring_model.specs.Arc.{is_inside}
+use Rattle.ring_model.specs.Arc.{is_strictly_between}
 use Rattle.ring_model.specs.Circle.{number}
-use Rattle.ring_model.specs.Gets.{IsPut, answered_in}
+use Rattle.ring_model.specs.Gets.{IsPutTrail, answered_in}
 use Rattle.ring_model.specs.Lookup.{AreNames, IsFate, IsLookup}
 use Rattle.ring_model.specs.Lookup.IsLookup.{over, spent, known as asked_before, silent as was_silent, answered as has_answered}
-use Rattle.ring_model.specs.Members.{IsAmong, IsAscending, from_place, owners}
+use Rattle.ring_model.specs.Members.{IsAmong, HasAscendingPlaces, from_place, owners}
 use Rattle.ring_model.specs.Ring.{IsCoveredRing, Links}
 use Rattle.ring_model.specs.Route.{Route, owners_part}
 use Rattle.ring_model.proofs.Lists.{all-among, all-both, all-left, all-right, all_from, among-cases, among-left, among_filtered, among_take, cons_head, cons_tail, filter_none, nil_cons, some_same}
@@ -17,8 +17,8 @@ use Rattle.ring_model.proofs.Lookups.{HasFound, lookup_ends}
 use Rattle.ring_model.proofs.Members.{from_place_live}
 use Rattle.ring_model.proofs.Owners.{owners_are}
 use Rattle.dhash_model.specs.Signed.{hss_judged}
-use Rattle.dhash_model.specs.Course.{Told, told_all, outcome}
-use Rattle.dhash_model.specs.Course.IsCourse.{no_route, of_owners}
+use Rattle.dhash_model.specs.Execution.{Told, told_all, outcome}
+use Rattle.dhash_model.specs.Execution.IsExecution.{no_route, of_owners}
 use Rattle.dhash_model.specs.Puts.{holds, is_of_put}
 use Rattle.dhash_model.specs.declared.miss.Miss.{Miss}
 use Rattle.dht_ids.specs.Asked.{route_in, routes}
@@ -36,7 +36,7 @@ use Rattle.agent_model.specs.Agent.{is_head}
 use Rattle.session_model.specs.Sessions.{IsPutOfPost, acknowledged, put_question}
 use Rattle.world_model.specs.Nodes.{Node, answered}
 use Rattle.world_model.specs.World.{World, node_at, peer_of, with_node}
-use Rattle.world_model.specs.Fates.{FateOf, counted}
+use Rattle.world_model.specs.Fates.{FateOf, ask_counted}
 use Rattle.round_laws.specs.RingOf.{AreApart as StandApart}
 use Rattle.round_laws.proofs.Nodes.{Shape, lives_by, made_by, order_by}
 use Rattle.round_laws.proofs.Order.{lives_made}
@@ -129,7 +129,7 @@ module _ (ring : Stretch) where
   -- a node that was made is silent where it has stopped, and else answers
   pub data Answers (w : World) (to : Peer) (question : Ask) (given : Answer) (next : World) : Type 0 where
     is_silent : given ≡ answer.Silent → lives to ≡ false → Answers w to question given next
-    gives : (n : Node) → node_at w to.id ≡ Some n → peer_of n ≡ to → lives to ≡ true → given ≡ (answered hss_judged n question).0 → next ≡ with_node (counted w) (answered hss_judged n question).1 → Answers w to question given next
+    gives : (n : Node) → node_at w to.id ≡ Some n → peer_of n ≡ to → lives to ≡ true → given ≡ (answered hss_judged n question).0 → next ≡ with_node (ask_counted w) (answered hss_judged n question).1 → Answers w to question given next
 
   pub who_answers : (w next : World) (to : Peer) (question : Ask) (given : Answer) → IsRingOf w → IsMade to → FateOf hss_judged w to question given next → Answers w to question given next
   who_answers w next to question given h made fate = by (fated hss_judged ring.r ring.base [] ring.start next.asked (base_from ring.r ring.base ring.start next.asked known) w next to question given h.within fate)
@@ -231,9 +231,9 @@ module _ (ring : Stretch) where
         owners_are = owners_are place ring.r (order_by ring.base) (λ m. lives m) ends.node (ring.links ends.node).list (number key) ring.stands.covered.positive ring.stands.covered.ascending ends.here (ring.stands.covered.lives_all ends.node ends.here)
             (ring.stands.covered.covered ends.node ends.here) ends.quiet;
         made = λ m i. ⊎_elim
-            (λ j. of_list m (among_filtered (λ x. not (is_inside (place ends.node) (place x) (number key))) m (ring.links ends.node).list j))
+            (λ j. of_list m (among_filtered (λ x. not (is_strictly_between (place ends.node) (place x) (number key))) m (ring.links ends.node).list j))
             (λ j. itself m (nat_lt (length (ring.links ends.node).list) (2 * ring.r)) j)
-            (among-cases m (filter (λ x. not (is_inside (place ends.node) (place x) (number key))) (ring.links ends.node).list) (cond (nat_lt (length (ring.links ends.node).list) (2 * ring.r)) (ends.node ∷ []) []) i);
+            (among-cases m (filter (λ x. not (is_strictly_between (place ends.node) (place x) (number key))) (ring.links ends.node).list) (cond (nat_lt (length (ring.links ends.node).list) (2 * ring.r)) (ends.node ∷ []) []) i);
       }
     where
       all : names_of w
@@ -259,7 +259,7 @@ module _ (ring : Stretch) where
   -- who owned its key at an earlier moment since the ring was settled and lives holds the post, or something newer; and few of those that lived then have stopped
   pub record IsHeldSince (w : World) (p : Post) : Type 0 where
     pub before : List Peer
-    pub ascending : IsAscending place before
+    pub ascending : HasAscendingPlaces place before
     pub members : (m : Peer) → lives m ≡ true → IsAmong m before
     pub few : length (filter (λ m. not (lives m)) before) ≤ ring.stops
     pub held : (m : Peer) → IsAmong m (owners place ring.r before (number p.key)) → lives m ≡ true → IsHeldFor w p m
@@ -290,7 +290,7 @@ module _ (ring : Stretch) where
       by false (s ∷ asks) h = (h.0, by false asks h.1)
 
   acked_held : (w : World) (p : Post) (found : List Peer) (asks : Told) → take ring.r (filter (λ m. lives m) found) ≡ own p.key → ((m : Peer) → IsAmong m found → IsMade m) → AllByRecursion (λ s. IsMade s.0 → IsPutTrue w p s.0 s.1) asks
-      → IsPut is_of_put holds ring.r found asks true → IsAckHeld w p
+      → IsPutTrail is_of_put holds ring.r found asks true → IsAckHeld w p
   acked_held w p found asks is made h put = record {
     owner = one.0.0;
     owns = asked_own (λ m. lives m) is_of_put ring.r ring.stands.covered.positive found (own p.key) is (own_distinct p.key) asks answers (λ t. ring.r ≤ answered_in is_of_put t) (λ t e. e) put.asks one.0 one.1 holder_lives;
@@ -331,7 +331,7 @@ module _ (ring : Stretch) where
       let same = owned_is p.key found owned found_so.list found_so.found_is some in
       acked_held w p owned asks (ap (λ (x : List Peer). take ring.r (filter (λ m. lives m) x)) same ∙ found_so.owners_are) (λ m i. found_so.made m (subst (IsAmong m) same i))
       (puts_true w p asks (all-right (λ (x : Heard). IsTrueAt w (Some p) x.kind x) (told_all (ask.Route p.key) looks) (told_all (put_question p) asks) parts))
-      (subst (IsPut is_of_put holds ring.r owned asks) (sym (ap acknowledged ends.2) ∙ acked) ends.1)
+      (subst (IsPutTrail is_of_put holds ring.r owned asks) (sym (ap acknowledged ends.2) ∙ acked) ends.1)
 
   pub ack_later : (w v : World) (p : Post) → ((b : List ℕ) → Contains w.met b → Contains v.met b) → HeldStays w v → IsAckHeld w p → IsAckHeld v p
   ack_later w v p grows held h = record {

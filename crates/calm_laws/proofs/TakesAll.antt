@@ -12,19 +12,19 @@ use Rattle.script_model.specs.declared.command.Command.{Command}
 use Rattle.script_model.specs.declared.command.Command.TheVariants as command
 use Rattle.script_model.specs.declared.command.Piece.{Piece}
 use Rattle.session_model.specs.Brought.{brought_in}
-use Rattle.session_model.specs.Courses.Begins.{alone as begins_alone, refreshes as begins_refreshing}
+use Rattle.session_model.specs.Executions.Begins.{alone as begins_alone, refreshes as begins_refreshing}
 use Rattle.session_model.specs.Sessions.{Session}
-use Rattle.world_model.specs.Agents.{own}
+use Rattle.world_model.specs.Agents.{own_hss_key}
 use Rattle.world_model.specs.Calls.{AsLine, BeginsWith, Sending, sending_of}
 use Rattle.world_model.specs.Calls.AsLine.{calls}
 use Rattle.world_model.specs.Logs.{Played}
 use Rattle.world_model.specs.Step.{Does, MayDo, MayDoFirst, most_bytes}
-use Rattle.world_model.specs.Steps.{RunsOut, Scene}
-use Rattle.world_model.specs.Story.{HadTurn, beginning, having_begun}
+use Rattle.world_model.specs.Steps.{RunsOut, Configuration}
+use Rattle.world_model.specs.GhostState.{HadTurn, beginning, having_begun}
 use Rattle.world_model.specs.World.{Participant, participant}
 use Rattle.calm_laws.specs.Calm.{IsCalmAt, Stopped}
 use Rattle.world_laws.specs.Headline.{IsOnReplay}
-use Rattle.world_laws.specs.Keeps.{Keeps}
+use Rattle.world_laws.specs.Invariant.{Invariant}
 use Rattle.world_laws.specs.Laws.{LinesKeep}
 use Rattle.world_laws.proofs.AllLines.{does_line}
 use Rattle.world_laws.proofs.Bringing.{found_named}
@@ -66,17 +66,17 @@ some_heads w newest q among = let put = newest q among in (put.0, put.2, put.3, 
 
 -- ---- the line
 
-module _ (r : ℕ) (w : Played) (keeps : Keeps w) (world : IsCalmWorld r w) (backed : IsBackedWorld w.0 w.1) (count : ℕ) (lines : List (List ℕ)) (calm : IsCalmAt r w (Stopped count) lines) (newest : HaveNewest w) (honest : IsHonestIn w) (log : List ℕ) (entered : HaveEntered w.0 log) (pieces : List Piece) where
-  took : (k : ℕ) → k ≡ r → (s : Sending) → sending_of w.0 log pieces ≡ Some s → (t : Session) (end : Scene) → BeginsWith w.0 s t
-      → RunsOut hss_judged k s.by.name (record { world = w.0; story = having_begun w.1; session = t; began = beginning w.1 s.by.name }) end
-      → (h : HadTurn) (turn : IsOnReplay h) (one : Record) → end.story.turns ≡ w.1.turns ++ h ∷ [] → Contains turn.taken one ↔ IsWritten w h.view one
+module _ (r : ℕ) (w : Played) (keeps : Invariant w) (world : IsCalmWorld r w) (backed : IsBackedWorld w.0 w.1) (count : ℕ) (lines : List (List ℕ)) (calm : IsCalmAt r w (Stopped count) lines) (newest : HaveNewest w) (honest : IsHonestIn w) (log : List ℕ) (entered : HaveEntered w.0 log) (pieces : List Piece) where
+  took : (k : ℕ) → k ≡ r → (s : Sending) → sending_of w.0 log pieces ≡ Some s → (t : Session) (end : Configuration) → BeginsWith w.0 s t
+      → RunsOut hss_judged k s.by.name (record { world = w.0; ghost_state = having_begun w.1; session = t; began = beginning w.1 s.by.name }) end
+      → (h : HadTurn) (turn : IsOnReplay h) (one : Record) → end.ghost_state.turns ≡ w.1.turns ++ h ∷ [] → Contains turn.taken one ↔ IsWritten w h.view one
   took k same s sends t end begins runs h turn one is =
       ⊎_elim (λ on. by_run (runs_had r w world backed calm.apart calm.no_key (some_heads w newest) newest s.by.name s.view mine (in_run on)))
       (λ past. absurd (no_more w.1.turns h (sym (past_told r mine past) ∙ is)))
       (begins_on r w world backed calm.apart calm.no_key (some_heads w newest) keeps s t start well by_name sent.1 begins refl)
     where
-      start : Scene
-      start = record { world = w.0; story = having_begun w.1; session = t; began = beginning w.1 s.by.name }
+      start : Configuration
+      start = record { world = w.0; ghost_state = having_begun w.1; session = t; began = beginning w.1 s.by.name }
 
       sent : IsSentBy w.0 log s
       sent = sent_by w.0 log pieces s sends
@@ -130,7 +130,7 @@ calls_take_all lines_keep newest left r w next count lines line name output piec
     as_took r w keeps (calm_world r w count lines calm) (world_backed lines_keep r w (Stopped count) lines calm) count lines calm
     (newest r w count lines calm tidy none (within w next output name pieces (subst (λ o. MayDoFirst w o (Goes next output)) is step))) honest name entered pieces (sending_of w.0 name pieces) refl next output does h turn one had
   where
-    own_key : (p q : Participant) → Contains w.0.participants p → Contains w.0.participants q → head_key_of (own p.agent) ≡ head_key_of (own q.agent) → own p.agent ≡ own q.agent
+    own_key : (p q : Participant) → Contains w.0.participants p → Contains w.0.participants q → head_key_of (own_hss_key p.agent) ≡ head_key_of (own_hss_key q.agent) → own_hss_key p.agent ≡ own_hss_key q.agent
     own_key p q p_in q_in keys = one_own_key w (calmly_keeps lines_keep r w (Stopped count) lines calm) calm.apart p q p_in q_in keys
 
     honest : IsHonestIn w

@@ -6,7 +6,7 @@ use Rattle.std.proofs.lemmas.Bool.{ltb-false, ltb-true}
 use Rattle.std.proofs.lemmas.List.{append-nil}
 use Rattle.std.proofs.lemmas.List.Elements.{Contains-append_left, Contains-append_right}
 use Rattle.ivy_base.specs.declared.key.PubKey.{PubKey}
-use Rattle.ivy_base.specs.Naming.{NamesTellApart, head_key_of, owner_cmp}
+use Rattle.ivy_base.specs.Naming.{IsCollisionFree, head_key_of, owner_cmp}
 use Rattle.log_model.specs.Chain.{IsChain, LinkedFrom}
 use Rattle.log_model.specs.Closed.{IsClosedPart, log_of}
 use Rattle.log_model.specs.Rank.{own_entry}
@@ -21,15 +21,15 @@ use Rattle.log_model.proofs.Owners.{owner_itself}
 use Rattle.log_model.proofs.Part.{chain_front}
 use Rattle.turn_model.specs.Candidates.{IsTried, MakeChain, PassesThrough}
 use Rattle.turn_model.specs.Known.{EndsAt, IsKnown}
-use Rattle.turn_model.specs.Turn.{Candidate, IsAtHand, IsPrefixOf}
+use Rattle.turn_model.specs.Turn.{Candidate, IsAvailable, IsPrefixOf}
 use Rattle.turn_laws.proofs.OneCandidate.{IsNewest, IsOne, cases_of}
 use Rattle.agent_model.specs.Candidates.{AreCandidatesOf, Grounds, IsCandidateOf, evidence_in, reading_in}
 use Rattle.agent_model.specs.Candidates.IsCandidateOf.{misled as is_misled, by_heads}
-use Rattle.world_model.specs.Agents.{own, own_reach}
+use Rattle.world_model.specs.Agents.{own_hss_key as own, own_reach}
 use Rattle.world_model.specs.World.{Participant, named_bytes}
-use Rattle.world_model.specs.Story.{knowing_of, known_of}
+use Rattle.world_model.specs.GhostState.{knowing_of, known_of}
 use Rattle.world_model.specs.Logs.{Played}
-use Rattle.world_laws.specs.Keeps.{AreParticipants, EntersOwned, IsSound, Keeps}
+use Rattle.world_laws.specs.Invariant.{AreParticipants, EntersOwned, IsSound, Invariant}
 use Rattle.world_laws.proofs.MoreMet.{more_stand}
 use Rattle.world_laws.proofs.OneKnown.{stand_in_log}
 use Rattle.turn_laws.proofs.LinkedLogs.{chain_linked}
@@ -68,13 +68,13 @@ all_of_it xs ys (rest, is) le = by rest is
     by [] e = sym (append-nil xs) ∙ e
     by (z ∷ rest) e = let one = length-append xs (z ∷ rest) in let two = ap length e in absurd (omega (arith, one, two, le))
 
-module _ (w : Played) (keeps : Keeps w) (apart : NamesTellApart (named_bytes w.0)) (honest : IsHonestIn w) (p : Participant) (p_in : Contains w.0.participants p) (view : View) (in_view : p.agent.view ≡ Some view)
+module _ (w : Played) (keeps : Invariant w) (apart : IsCollisionFree (named_bytes w.0)) (honest : IsHonestIn w) (p : Participant) (p_in : Contains w.0.participants p) (view : View) (in_view : p.agent.view ≡ Some view)
     (entered : (q : Participant) → Contains w.0.participants q → Contains view.members (own q.agent) → q.agent.view ≡ Some view)
-    (grounds : Grounds) (started : Vector) (meets : (b : List ℕ) → Contains w.0.met b → Contains grounds.met b) (told_apart : NamesTellApart grounds.met)
+    (grounds : Grounds) (started : Vector) (meets : (b : List ℕ) → Contains w.0.met b → Contains grounds.met b) (told_apart : IsCollisionFree grounds.met)
     (own_is : grounds.standing.own ≡ own p.agent) (by_floor : IsKnown view grounds.standing.floor grounds.knew) (before : (r : Record) → Contains grounds.knew r → Contains (known_of w.1 p.name) r)
     (heard : (q : Participant) (t : Stamp) → Contains w.0.participants q → Contains (grounds.heads (head_key_of (own q.agent))) t → IsLeftBy q (head_key_of (own q.agent), t))
     (newest : (q : Participant) → Contains w.0.participants q → Contains view.members (own q.agent) → (own q.agent ≡ grounds.standing.own → ⊥) → (t : Stamp) × Contains (grounds.heads (head_key_of (own q.agent))) t × (own_reach q.agent ≤ t.seq))
-    (candidates : List Candidate) (are : AreCandidatesOf grounds view started candidates) (taken : List Record) (largest : IsClosedPart view (IsAtHand (known_of w.1 p.name) candidates) taken) where
+    (candidates : List Candidate) (are : AreCandidatesOf grounds view started candidates) (taken : List Record) (largest : IsClosedPart view (IsAvailable (known_of w.1 p.name) candidates) taken) where
   -- whose log a member's is
   who : (owner : PubKey) → Contains view.members owner → (q : Participant) × Contains w.0.participants q × (own q.agent ≡ owner)
   who owner member =
@@ -201,7 +201,7 @@ module _ (w : Played) (keeps : Keeps w) (apart : NamesTellApart (named_bytes w.0
           by (inr (apart_of, inl new)) = newest_chain chain new
           by (inr (apart_of, inr old)) = let made = makes its_newest.0 newest_tried in absurd (old.0 its_newest.0 newest_tried made.0 made.1)
 
-      by_candidate : (one : Record) → Contains (written w q) one → IsAtHand (known_of w.1 p.name) candidates one
+      by_candidate : (one : Record) → Contains (written w q) one → IsAvailable (known_of w.1 p.name) candidates one
       by_candidate one c =
           let found = from_map (λ (x : Candidate). x.owner) candidates (own q.agent) (subst (λ (l : List PubKey). Contains l (own q.agent)) (sym are.of_members) member) in
           let is : found.0.chain ≡ written w q = candidate_is found.0.chain (subst (λ (o : PubKey). IsCandidateOf grounds view started o found.0.chain) (sym found.2) (each (λ (x : Candidate). IsCandidateOf grounds view started x.owner x.chain) candidates found.0 are.each found.1)) in
@@ -212,21 +212,21 @@ module _ (w : Played) (keeps : Keeps w) (apart : NamesTellApart (named_bytes w.0
             subst (λ (l : List Record). Contains l one) (sym is) c,
           )
 
-    -- each of its records is at hand
-    written_at_hand : (one : Record) → Contains (written w q) one → IsAtHand (known_of w.1 p.name) candidates one
-    written_at_hand one c = by_owner (eq_by_cmp owner_cmp grounds.standing.own (own q.agent)) refl
+    -- each of its records is available
+    written_available : (one : Record) → Contains (written w q) one → IsAvailable (known_of w.1 p.name) candidates one
+    written_available one c = by_owner (eq_by_cmp owner_cmp grounds.standing.own (own q.agent)) refl
       where
-        its_own : own q.agent ≡ grounds.standing.own → IsAtHand (known_of w.1 p.name) candidates one
+        its_own : own q.agent ≡ grounds.standing.own → IsAvailable (known_of w.1 p.name) candidates one
         its_own same =
             let one_of : q ≡ p = honest.own_keys q p q_in p_in (ap head_key_of (same ∙ own_is)) in
             inl (from_log (own p.agent) (known_of w.1 p.name) one (subst (λ (x : Participant). Contains (written w x) one) one_of c))
 
-        known_far : own_reach q.agent ≤ seq_of grounds.standing.floor (head_key_of (own q.agent)) → IsAtHand (known_of w.1 p.name) candidates one
+        known_far : own_reach q.agent ≤ seq_of grounds.standing.floor (head_key_of (own q.agent)) → IsAvailable (known_of w.1 p.name) candidates one
         known_far far =
             let is : log_of (own q.agent) grounds.knew ≡ written w q = all_of_it (log_of (own q.agent) grounds.knew) (written w q) knew_begins (omega (arith, far, knew_long, log_long)) in
             inl (before one (from_log (own q.agent) grounds.knew one (subst (λ (l : List Record). Contains l one) (sym is) c)))
 
-        by_owner : (b : Bool) → eq_by_cmp owner_cmp grounds.standing.own (own q.agent) ≡ b → IsAtHand (known_of w.1 p.name) candidates one
+        by_owner : (b : Bool) → eq_by_cmp owner_cmp grounds.standing.own (own q.agent) ≡ b → IsAvailable (known_of w.1 p.name) candidates one
         by_owner true e = its_own (same_owner grounds.standing.own (own q.agent) e)
         by_owner false e = ⊎_elim known_far (λ further. by_candidate differ further one c) (le_or_less (own_reach q.agent) (seq_of grounds.standing.floor (head_key_of (own q.agent))))
           where
@@ -262,17 +262,17 @@ module _ (w : Played) (keeps : Keeps w) (apart : NamesTellApart (named_bytes w.0
           brought_written q.0 q.1 q_member new.0 chain one (subst (λ (o : PubKey). Contains (grounds.heads (head_key_of o)) new.0) same new.1.0) (subst (λ (o : PubKey). MakeChain (reading_in grounds view) o new.0 chain) same new.2) among
 
   all_written : (one : Record) → IsWritten w view one → Contains taken one
-  all_written one (q, q_in, member, c) = largest.largest (known_of w.1 q.name) at_hand sound.knows.closed one (from_log (own q.agent) (known_of w.1 q.name) one c)
+  all_written one (q, q_in, member, c) = largest.largest (known_of w.1 q.name) available sound.knows.closed one (from_log (own q.agent) (known_of w.1 q.name) one c)
     where
       sound : IsSound w.0.met q (knowing_of w.1 q.name) view
       sound = sound_in w keeps apart honest q q_in view (entered q q_in member)
 
-      at_hand : (x : Record) → Contains (known_of w.1 q.name) x → IsAtHand (known_of w.1 p.name) candidates x
-      at_hand x among =
+      available : (x : Record) → Contains (known_of w.1 q.name) x → IsAvailable (known_of w.1 p.name) candidates x
+      available x among =
           let x_member = each (λ (y : Record). Contains view.members y.owner) (known_of w.1 q.name) x sound.knows.by_floor.members among in
           let o = who x.owner x_member in
           let o_member : Contains view.members (own o.0.agent) = subst (Contains view.members) (sym o.2) x_member in
-          written_at_hand o.0 o.1 o_member x (in_whole (log_of (own o.0.agent) (known_of w.1 q.name)) (written w o.0) x (known_begins w keeps apart honest q q_in view (entered q q_in member) o.0 o.1 view (entered o.0 o.1 o_member)) (in_own_log (own o.0.agent) (known_of w.1 q.name) x among (sym o.2)))
+          written_available o.0 o.1 o_member x (in_whole (log_of (own o.0.agent) (known_of w.1 q.name)) (written w o.0) x (known_begins w keeps apart honest q q_in view (entered q q_in member) o.0 o.1 view (entered o.0 o.1 o_member)) (in_own_log (own o.0.agent) (known_of w.1 q.name) x among (sym o.2)))
 
   pub takes_written : (one : Record) → Contains taken one ↔ IsWritten w view one
   takes_written one = (only_written one, all_written one)

@@ -7,7 +7,7 @@ use Rattle.std.proofs.lemmas.List.Elements.{Contains-append_cases, Contains-appe
 use Rattle.ivy_base.specs.declared.key.Key.{Key}
 use Rattle.ivy_base.specs.declared.key.PubKey.{PubKey}
 use Rattle.ivy_base.specs.declared.operation.Moment.{Moment}
-use Rattle.ivy_base.specs.Naming.{NamesTellApart, head_key_of}
+use Rattle.ivy_base.specs.Naming.{IsCollisionFree, head_key_of}
 use Rattle.tree_model.specs.Tree.{same_key}
 use Rattle.tree_model.proofs.Keys.{same_key_is, same_key_itself}
 use Rattle.dhash_model.specs.Signed.{hss_judged}
@@ -22,7 +22,7 @@ use Rattle.dht_ids.specs.Peers.{place}
 use Rattle.round_laws.proofs.Nodes.{order_by}
 use Rattle.log_model.specs.Closed.{IsClosedPart}
 use Rattle.turn_model.specs.Known.{IsKnown}
-use Rattle.turn_model.specs.Turn.{IsAtHand, Turned}
+use Rattle.turn_model.specs.Turn.{IsAvailable, Turned}
 use Rattle.agent_model.specs.Candidates.{AreCandidatesOf}
 use Rattle.dht_ids.specs.Asked.{told}
 use Rattle.dht_ids.specs.declared.ask.Answer.{Answer}
@@ -33,16 +33,16 @@ use Rattle.dht_ids.specs.declared.peer.Peer.{Peer}
 use Rattle.dht_ids.specs.declared.post.Post.{Post}
 use Rattle.dhash_model.specs.GetHead.{IsGetOfHead}
 use Rattle.dhash_model.specs.declared.miss.Miss.{Miss}
-use Rattle.dhash_model.specs.declared.kind.Kind.{Kind}
-use Rattle.dhash_model.specs.declared.kind.Kind.TheVariants.{Content, Head}
+use Rattle.dhash_model.specs.declared.kind.BlockKind.{BlockKind}
+use Rattle.dhash_model.specs.declared.kind.BlockKind.TheVariants.{Content, Head}
 use Rattle.agent_model.specs.Agent.{is_head}
 use Rattle.agent_model.specs.Standing.{Chain, Refresh, Standing}
 use Rattle.agent_model.specs.Turning.{TurnEnd}
-use Rattle.session_model.specs.Brought.{BlockOf, Brought, HeadsOf, Want, all_heads, brought_in, heads_at, heads_of, stamp_of}
-use Rattle.session_model.specs.Brought.Want.{Content as wants_content}
-use Rattle.session_model.specs.Courses.{grounds_of, Fails, IsRefusal}
-use Rattle.session_model.specs.Courses.Fails.{fails, goes_on}
-use Rattle.session_model.specs.Courses.TakesTurn.{answers, begins_anew, gives_up}
+use Rattle.session_model.specs.Brought.{BlockOf, Brought, HeadsOf, WantedOfRing, all_heads, brought_in, heads_at, heads_of, stamp_of}
+use Rattle.session_model.specs.Brought.WantedOfRing.{Content as wants_content}
+use Rattle.session_model.specs.Executions.{grounds_of, Fails, IsRefusal}
+use Rattle.session_model.specs.Executions.Fails.{fails, goes_on}
+use Rattle.session_model.specs.Executions.TakesTurn.{answers, begins_again, gives_up}
 use Rattle.session_model.specs.Refreshing.{Done, FailsBy, Fetches, FetchesAll, Needs, Note, RefreshEnd, Refreshes, end_of_log}
 use Rattle.session_model.specs.Refreshing.Fetches.{no_heads, of_heads, of_own, wants_heads as fetch_heads}
 use Rattle.session_model.specs.Refreshing.FetchesAll.{all as fetches_all, goes_on as fetches_on, stays as fetches_stay}
@@ -53,18 +53,18 @@ use Rattle.session_model.specs.Sessions.Hears.{gets_on, got, puts, puts_on}
 use Rattle.session_model.specs.Sessions.Takes.{cached, posted}
 use Rattle.session_model.specs.Sessions.TakesAll.{more as takes_more, none as takes_none}
 use Rattle.session_model.specs.Walks.{Gives, GivesNone, Lacks, LogEnd, Stops}
-use Rattle.world_model.specs.Agents.{Agent, Kept, TakesTurn, own, own_reach}
+use Rattle.world_model.specs.Agents.{HssAgent, HssKept, TakesHssTurn, own_hss_key, own_reach}
 use Rattle.world_model.specs.Fates.{FateOf}
 use Rattle.world_model.specs.Logs.{Played}
-use Rattle.world_model.specs.Steps.{Acts, RunsOut, Scene, Steps, ask_told, with_cache}
+use Rattle.world_model.specs.Steps.{Acts, RunsOut, Configuration, Steps, ask_told, with_cache}
 use Rattle.world_model.specs.Steps.Acts.{asks, asks_in_vain, is_refused, settles, turns}
 use Rattle.world_model.specs.Steps.RunsOut.{is_over as runs_over, more as runs_more}
 use Rattle.world_model.specs.Steps.Steps.{acts, lacks_memory}
-use Rattle.world_model.specs.Story.{HadTurn, Knowing, Story, knowing_of, known_of}
+use Rattle.world_model.specs.GhostState.{HadTurn, Knowing, GhostState, knowing_of, known_of}
 use Rattle.world_model.specs.World.{Participant, World, named_bytes, participant}
-use Rattle.world_model.specs.Holding.{rank}
+use Rattle.world_model.specs.Holding.{block_rank}
 use Rattle.world_laws.specs.Headline.{IsOnReplay}
-use Rattle.world_laws.specs.Keeps.{IsSoundSession, Keeps}
+use Rattle.world_laws.specs.Invariant.{IsSoundSession, Invariant}
 use Rattle.world_laws.proofs.Bringing.{found_named, its_key, its_view}
 use Rattle.calm_laws.proofs.BlockKinds.{OfContent, OfHeads}
 use Rattle.calm_laws.proofs.Gets.{AreGot, IsOwnedAs, head_given}
@@ -85,14 +85,14 @@ use Rattle.world_laws.proofs.TakingOn.{brought_then}
 use Rattle.world_laws.proofs.HeadlineOfPublishing.{settles_past}
 use Rattle.calm_laws.specs.Completeness.{HaveHeads, IsWritten}
 use Rattle.calm_laws.specs.Takes.{HaveNewest, IsLeftBy}
-use Rattle.calm_laws.proofs.Calls.{AllKinds, IsFetched, IsRinged, ask_got, not_at_hand}
+use Rattle.calm_laws.proofs.Calls.{AllKinds, IsFetched, IsRinged, ask_got, not_available}
 use Rattle.calm_laws.proofs.CallSteps.{IsInCall, IsPast, acts_on, answered_past, in_call, lacks_past, met_apart, names_of, past_told}
 use Rattle.calm_laws.proofs.GotHeads.{AllHoldOf, AreHeardOf, EntryOf, IsHeardOf, fate_told, heads_so, takes_all_heard, then_heard}
 use Rattle.calm_laws.proofs.KeysStay.{KeysStay, acts_stay, placed_stay, stay_then}
 use Rattle.calm_laws.proofs.LeftHeads.{left_under}
 use Rattle.calm_laws.proofs.OwnLogs.{IsHonestIn}
 use Rattle.calm_laws.proofs.Standing.{IsCalmWorld, ring_of}
-use Rattle.calm_laws.proofs.BackedSteps.{SceneSo, fate_same, step_so, takes_all_same}
+use Rattle.calm_laws.proofs.BackedSteps.{ConfigurationSo, fate_same, step_so, takes_all_same}
 use Rattle.calm_laws.proofs.TakesLogs.{takes_written}
 use Rattle.calm_laws.proofs.BackedWorlds.{IsBackedWorld}
 
@@ -145,24 +145,24 @@ from_heads brought log t c =
 
 -- ---- the run
 
-module _ (r : ℕ) (w : Played) (world : IsCalmWorld r w) (backed : IsBackedWorld w.0 w.1) (apart : NamesTellApart (named_bytes w.0)) (no_key : (p : Participant) → Contains w.0.participants p → Contains w.0.met (own p.agent).0 → ⊥) (have : HaveHeads w)
+module _ (r : ℕ) (w : Played) (world : IsCalmWorld r w) (backed : IsBackedWorld w.0 w.1) (apart : IsCollisionFree (named_bytes w.0)) (no_key : (p : Participant) → Contains w.0.participants p → Contains w.0.met (own_hss_key p.agent).0 → ⊥) (have : HaveHeads w)
     (newest : HaveNewest w) where
   -- an owner of its key holds a head of a log that goes as far as the log
   newest_owned : (q : Participant) → Contains w.0.participants q
-      → IsOwnedAs (ring_of r w world) w.0 (head_key_of (own q.agent)) Head (own_reach q.agent)
+      → IsOwnedAs (ring_of r w world) w.0 (head_key_of (own_hss_key q.agent)) Head (own_reach q.agent)
   newest_owned q among = record {
     owner = ack.owner;
     owns = subst (λ k. IsAmong ack.owner (owners place r (order_by (ring_of r w world).base) (number k))) put.4 ack.owns;
     holds = subst (λ k. IsHeld w.0 k Head (own_reach q.agent) ack.owner) put.4 (subst (λ x. IsHeld w.0 put.0.key (cond x Head Content) (own_reach q.agent) ack.owner) put.3 lower);
   }
     where
-      put : (p : Post) × (j : Judged) × Contains w.1.acked p × (is_head p.kind ≡ true) × (p.key ≡ head_key_of (own q.agent)) × (hss_judged p.key p.bytes ≡ Some j) × (own_reach q.agent ≤ j.seq)
+      put : (p : Post) × (j : Judged) × Contains w.1.acked p × (is_head p.kind ≡ true) × (p.key ≡ head_key_of (own_hss_key q.agent)) × (hss_judged p.key p.bytes ≡ Some j) × (own_reach q.agent ≤ j.seq)
       put = newest q among
 
       ack : IsAckHeld (ring_of r w world) w.0 put.0
       ack = acked_on r world.stopped w world.state put.0 put.2
 
-      ranked : rank hss_judged put.0.key (block_of put.0) ≡ put.1.seq
+      ranked : block_rank hss_judged put.0.key (block_of put.0) ≡ put.1.seq
       ranked = sym (post_rank_is put.0) ∙ (ap (λ b. cond b (option_map_or (λ (j : Judged). j.seq) (hss_judged put.0.key put.0.bytes) 0) 0) put.3 ∙ ap (λ o. option_map_or (λ (j : Judged). j.seq) o 0) put.5)
 
       lower : IsHeld w.0 put.0.key (kind_of put.0) (own_reach q.agent) ack.owner
@@ -173,7 +173,7 @@ module _ (r : ℕ) (w : Played) (world : IsCalmWorld r w) (backed : IsBackedWorl
   Either key b = OfContent w.0 key b
       ⊎ OfHeads w.0 key b
 
-  either_of : (kind : Kind) (key : Key) (b : List ℕ)
+  either_of : (kind : BlockKind) (key : Key) (b : List ℕ)
       → IsOfKind (OfContent w.0)
       (OfHeads w.0) key kind b → Either key b
   either_of Content key b h = inl h
@@ -181,7 +181,7 @@ module _ (r : ℕ) (w : Played) (world : IsCalmWorld r w) (backed : IsBackedWorl
 
   -- what was brought of a log's heads goes as far as the log
   abbrev pub PartNewest : Brought → Type 0
-  PartNewest (HeadsOf owner (Ok heads)) = ((q : Participant) → Contains w.0.participants q → own q.agent ≡ owner → (j : Judged) × Contains heads j × (own_reach q.agent ≤ j.seq)) × AllByRecursion (λ j. EntryOf Either (head_key_of owner, stamp_of j)) heads
+  PartNewest (HeadsOf owner (Ok heads)) = ((q : Participant) → Contains w.0.participants q → own_hss_key q.agent ≡ owner → (j : Judged) × Contains heads j × (own_reach q.agent ≤ j.seq)) × AllByRecursion (λ j. EntryOf Either (head_key_of owner, stamp_of j)) heads
   PartNewest (HeadsOf owner (Err miss)) = Unit {0}
   PartNewest (BlockOf key came) = Unit {0}
 
@@ -203,7 +203,7 @@ module _ (r : ℕ) (w : Played) (world : IsCalmWorld r w) (backed : IsBackedWorl
   fails_newest (fails notes given miss xid asked at refreshed asks_it) h = h
   fails_newest (goes_on none) h = h
 
-  brought_newest : (v : World) → IsRinged r w world backed (met_apart r w world backed apart no_key have) have v → (want : Want) (trail : List Heard) (b : Brought) → Gets hss_judged r (entries_by (ring_of r w world).base) want trail b
+  brought_newest : (v : World) → IsRinged r w world backed (met_apart r w world backed apart no_key have) have v → (want : WantedOfRing) (trail : List Heard) (b : Brought) → Gets hss_judged r (entries_by (ring_of r w world).base) want trail b
       → AreGot (ring_of r w world) w.0 trail → AllByRecursion (IsHeardOf Either) trail → PartNewest b
   brought_newest v ring _ trail _ (got_heads {owner = owner} came get) so given_so = by came refl
     where
@@ -211,7 +211,7 @@ module _ (r : ℕ) (w : Played) (world : IsCalmWorld r w) (backed : IsBackedWorl
       by (Err miss) e = subst (λ x. PartNewest (HeadsOf owner x)) (sym e) tt
       by (Ok heads) e = subst (λ x. PartNewest (HeadsOf owner x)) (sym e) (
         λ q q_in same.
-            let given = head_given (ring_of r w world) w.0 v (head_key_of (own q.agent)) (own_reach q.agent) trail came (newest_owned q q_in) ring so
+            let given = head_given (ring_of r w world) w.0 v (head_key_of (own_hss_key q.agent)) (own_reach q.agent) trail came (newest_owned q q_in) ring so
             (subst (λ o. IsGetOfHead (hss_judged (head_key_of o)) (head_key_of o) r (entries_by (ring_of r w world).base) trail came) (sym same) get) in
             (given.one, subst (λ l. Contains l given.one) (some_heads given.heads heads (sym given.came_is ∙ e)) given.among, given.newer),
         heads_so Either (head_key_of owner) r (entries_by (ring_of r w world).base) trail heads came get e given_so,
@@ -226,9 +226,9 @@ module _ (r : ℕ) (w : Played) (world : IsCalmWorld r w) (backed : IsBackedWorl
   holds_of : (v : World) → AllKinds r w world backed (met_apart r w world backed apart no_key have) have v → AllHoldOf Either v
   holds_of v kinds id n at key block found = either_of block.kind key block.bytes ((kinds id n at).kinds key block found)
 
-  refused_heard : {now : Moment} {a : Agent} {view : View} {failing : Bool} {s : Session} {end : TurnEnd} {after : Agent} {saving : Option Kept} {t : Session} → TakesTurn (record { agent = a; view = view; now = now; fails = failing }) s end after saving t → IsRefusal end → AreHeardOf Either t
+  refused_heard : {now : Moment} {a : HssAgent} {view : View} {failing : Bool} {s : Session} {end : TurnEnd} {after : HssAgent} {saving : Option HssKept} {t : Session} → TakesHssTurn (record { agent = a; view = view; now = now; fails = failing }) s end after saving t → IsRefusal end → AreHeardOf Either t
   refused_heard (answers notes given xid asked reply applied after saving done asks_it turned) refusal = absurd refusal
-  refused_heard (begins_anew notes given xid asked end after saving done asks_it turned refused few) refusal = tt
+  refused_heard (begins_again notes given xid asked end after saving done asks_it turned refused few) refusal = tt
   refused_heard (gives_up notes given xid asked end after saving done asks_it turned refused many) refusal = tt
 
   heard_newest : {s heard : Session} {cache after : Cache} {node : Peer} {question : Ask} {given : Answer} → IsFetched r w world backed (met_apart r w world backed apart no_key have) have s → AllNewest s → (v next : World) → FateOf hss_judged v node question given next
@@ -242,9 +242,9 @@ module _ (r : ℕ) (w : Played) (world : IsCalmWorld r w) (backed : IsBackedWorl
   heard_newest h old v next fate ring kinds held were (puts_on said p posts acks is asks_next part) = old
   heard_newest h old v next fate ring kinds held were (puts said p posts acks came is asks_next whole) = old
 
-  refused_newest : {now : Moment} {a : Agent} {view : View} {failing : Bool} {s : Session} {end : TurnEnd} {after : Agent} {saving : Option Kept} {t : Session} → TakesTurn (record { agent = a; view = view; now = now; fails = failing }) s end after saving t → IsRefusal end → AllNewest s → AllNewest t
+  refused_newest : {now : Moment} {a : HssAgent} {view : View} {failing : Bool} {s : Session} {end : TurnEnd} {after : HssAgent} {saving : Option HssKept} {t : Session} → TakesHssTurn (record { agent = a; view = view; now = now; fails = failing }) s end after saving t → IsRefusal end → AllNewest s → AllNewest t
   refused_newest (answers notes given xid asked reply applied after saving done asks_it turned) refusal h = absurd refusal
-  refused_newest (begins_anew notes given xid asked end after saving done asks_it turned refused few) refusal h = tt
+  refused_newest (begins_again notes given xid asked end after saving done asks_it turned refused few) refusal h = tt
   refused_newest (gives_up notes given xid asked end after saving done asks_it turned refused many) refusal h = h
 
   takes_view : {s t : Session} {cache after : Cache} → TakesAll hss_judged r s cache t after → t.standing.view ≡ s.standing.view
@@ -258,10 +258,10 @@ module _ (r : ℕ) (w : Played) (world : IsCalmWorld r w) (backed : IsBackedWorl
   -- ---- the heads that were brought
 
   -- such a head of a participant's log left its agent
-  left_of : Keeps w → IsHonestIn w → (q : Participant) → Contains w.0.participants q → (e : Entry) → e.0 ≡ head_key_of (own q.agent) → EntryOf Either e → IsLeftBy q e
+  left_of : Invariant w → IsHonestIn w → (q : Participant) → Contains w.0.participants q → (e : Entry) → e.0 ≡ head_key_of (own_hss_key q.agent) → EntryOf Either e → IsLeftBy q e
   left_of keeps honest q q_in e of_log (b, j, inl content, judged, is) = absurd (no_key q q_in (subst (Contains w.0.met) same content.0))
     where
-      same : b ≡ (own q.agent).0
+      same : b ≡ (own_hss_key q.agent).0
       same = block_is_key w keeps apart b q content.0 q_in (content.1 ∙ of_log)
   left_of keeps honest q q_in e of_log (b, j, inr (in_met, left, some), judged, is) = (b, j, subst (λ (p : Participant). Contains p.left b) one left.3, judged, is)
     where
@@ -280,48 +280,48 @@ module _ (r : ℕ) (w : Played) (world : IsCalmWorld r w) (backed : IsBackedWorl
       of_part (HeadsOf owner (Err miss)) n d = absurd (in_nothing e d)
       of_part (BlockOf key came) n d = absurd (in_nothing e d)
 
-  -- ---- the scenes of the line
+  -- ---- the configurations of the line
 
   module _ (by_name : List ℕ) (view : View) where
     -- nothing is known yet that wasn't known before the line
-    pub record InRun (c : Scene) : Type 0 where
+    pub record InRun (c : Configuration) : Type 0 where
       pub call : IsInCall r w world backed apart no_key have c
-      pub known : (n : List ℕ) → known_of c.story n ≡ known_of w.1 n
-      pub turns : c.story.turns ≡ w.1.turns
+      pub known : (n : List ℕ) → known_of c.ghost_state n ≡ known_of w.1 n
+      pub turns : c.ghost_state.turns ≡ w.1.turns
       pub meets : (b : List ℕ) → Contains w.0.met b → Contains c.world.met b
       pub keys : KeysStay w.0.participants c.world.participants
       pub heard : AreHeardOf Either c.session
       pub parts : AllByRecursion PartNewest (brought_in c.session.parts)
       pub of : (c.session.by ≡ by_name) × (c.session.standing.view ≡ view)
 
-    -- a turn that was had in such a scene
+    -- a turn that was had in such a configuration
     pub record HadAt (h : HadTurn) : Type 0 where
-      pub at : Scene
+      pub at : Configuration
       pub run : InRun at
       pub by : Participant
       pub is_by : participant at.world at.session.by ≡ Some by
       pub in_view : View
-      pub after : Agent
+      pub after : HssAgent
       pub turned : Turned
-      pub is : h ≡ record { session = at.session; began = at.began; by = by; knowing = knowing_of at.story by.name; view = in_view; met = named_bytes at.world; now = at.world.now; after = after; turned = turned }
+      pub is : h ≡ record { session = at.session; began = at.began; by = by; knowing = knowing_of at.ghost_state by.name; view = in_view; met = named_bytes at.world; now = at.world.now; after = after; turned = turned }
 
     -- no turn was had, or one
-    abbrev pub HadOne : Scene → Type 0
-    HadOne c = (c.story.turns ≡ w.1.turns) ⊎ ((h : HadTurn) × HadAt h × (c.story.turns ≡ w.1.turns ++ h ∷ []))
+    abbrev pub HadOne : Configuration → Type 0
+    HadOne c = (c.ghost_state.turns ≡ w.1.turns) ⊎ ((h : HadTurn) × HadAt h × (c.ghost_state.turns ≡ w.1.turns ++ h ∷ []))
 
-    abbrev GoesOn : Scene → Type 0
+    abbrev GoesOn : Configuration → Type 0
     GoesOn c = InRun c ⊎ (IsPast c.session × HadOne c)
 
-    told_known : (st : Story) (name : List ℕ) (s t : Session) (n : List ℕ) → known_of (ask_told st name s t) n ≡ known_of st n
+    told_known : (st : GhostState) (name : List ℕ) (s t : Session) (n : List ℕ) → known_of (ask_told st name s t) n ≡ known_of st n
     told_known st name s t n = holds_then st name _ (λ (k : Knowing). k.known ≡ known_of st n) (λ k e. e) n refl
 
-    acts_run : (c next : Scene) → InRun c → (p : Participant) → participant c.world c.session.by ≡ Some p → ((key : Key) → Wants hss_judged r c.session (wants_content key) → pending_block key c.session.standing.pending ≡ None) → GoesWell r next → SceneSo next
+    acts_run : (c next : Configuration) → InRun c → (p : Participant) → participant c.world c.session.by ≡ Some p → ((key : Key) → Wants hss_judged r c.session (wants_content key) → pending_block key c.session.standing.pending ≡ None) → GoesWell r next → ConfigurationSo next
         → KeysStay c.world.participants next.world.participants → (next.session.by ≡ c.session.by) × (next.session.standing.view ≡ c.session.standing.view) → Acts hss_judged r p c next → GoesOn next
     acts_run c _ h p is_p unposted then_well so keys same (asks node question given v heard t cache fate hears goes) =
         ⊎_elim
         (λ call. inl (record {
           call = call;
-          known = λ n. told_known c.story p.name c.session t n ∙ h.known n;
+          known = λ n. told_known c.ghost_state p.name c.session t n ∙ h.known n;
           turns = h.turns;
           meets = λ b m. subst (λ l. Contains l b) (sym (fate_same fate).1) (h.meets b m);
           keys = stay_then w.0.participants c.world.participants _ h.keys keys;
@@ -334,7 +334,7 @@ module _ (r : ℕ) (w : Played) (world : IsCalmWorld r w) (backed : IsBackedWorl
     acts_run c _ h p is_p unposted then_well so keys same (asks_in_vain node question given v heard t cache fate hears lacking) =
         ⊎_elim (λ call. absurd ((lacks_past lacking).0 call.at)) (λ past. inr (past, inl h.turns)) (acts_on r w world backed apart no_key have c _ h.call p is_p unposted then_well so (asks_in_vain node question given v heard t cache fate hears lacking))
     acts_run c _ h p is_p unposted then_well so keys same (turns seen reply applied after saving t turned in_view takes replies is_turn) =
-        let had : HadTurn = record { session = c.session; began = c.began; by = p; knowing = knowing_of c.story p.name; view = seen; met = named_bytes c.world; now = c.world.now; after = after; turned = turned } in
+        let had : HadTurn = record { session = c.session; began = c.began; by = p; knowing = knowing_of c.ghost_state p.name; view = seen; met = named_bytes c.world; now = c.world.now; after = after; turned = turned } in
         inr (answered_past takes h.call.missed, inr (had, record { at = c; run = h; by = p; is_by = is_p; in_view = seen; after = after; turned = turned; is = refl }, ap (λ ts. ts ++ had ∷ []) h.turns))
     acts_run c _ h p is_p unposted then_well so keys same (is_refused seen end after saving t in_view refusal takes) =
         ⊎_elim
@@ -353,15 +353,15 @@ module _ (r : ℕ) (w : Played) (world : IsCalmWorld r w) (backed : IsBackedWorl
     acts_run c _ h p is_p unposted then_well so keys same (settles after t is) =
         ⊎_elim (λ call. absurd (settles_past is call.at)) (λ past. inr (past, inl h.turns)) (acts_on r w world backed apart no_key have c _ h.call p is_p unposted then_well so (settles after t is))
 
-    step_run : {c next : Scene} → InRun c → Steps hss_judged r by_name c next → GoesOn next
+    step_run : {c next : Configuration} → InRun c → Steps hss_judged r by_name c next → GoesOn next
     step_run {c} {next} h (acts p taken cache _ is_p takes act) =
-        acts_run mid next in_it (record p { cache = cache }) found (not_at_hand r w world backed (met_apart r w world backed apart no_key have) have takes in_it.call.fetched) then_well next_so
+        acts_run mid next in_it (record p { cache = cache }) found (not_available r w world backed (met_apart r w world backed apart no_key have) have takes in_it.call.fetched) then_well next_so
         (acts_stay by_name found_by act) (led.same.call.0 ∙ sym (takes_all_same takes).1, led.same.call.2 ∙ sym (takes_view takes)) act
       where
         step : Steps hss_judged r by_name c next
         step = acts p taken cache next is_p takes act
 
-        mid : Scene
+        mid : Configuration
         mid = with_cache hss_judged r c p taken cache
 
         in_it : InRun mid
@@ -382,11 +382,11 @@ module _ (r : ℕ) (w : Played) (world : IsCalmWorld r w) (backed : IsBackedWorl
         then_well : GoesWell r next
         then_well = record { keeps = led.leaves.0; hand = led.leaves.1; ringed = led.same.replicas ∙ h.call.well.ringed }
 
-        now_apart : NamesTellApart (named_bytes c.world)
+        now_apart : IsCollisionFree (named_bytes c.world)
         now_apart = names_of r w world backed apart no_key have c.world h.call.met_same h.call.keys_same
 
-        next_so : SceneSo next
-        next_so = step_so r h.of.0 (λ a b in_a in_b e. now_apart a b (Contains-append_left c.world.met _ a in_a) (Contains-append_left c.world.met _ b in_b) e) (λ at. record { well = h.call.well; apart = now_apart }) step h.call.scene
+        next_so : ConfigurationSo next
+        next_so = step_so r h.of.0 (λ a b in_a in_b e. now_apart a b (Contains-append_left c.world.met _ a in_a) (Contains-append_left c.world.met _ b in_b) e) (λ at. record { well = h.call.well; apart = now_apart }) step h.call.configuration
 
         found_by : participant mid.world by_name ≡ Some (record p { cache = cache })
         found_by = found_placed c.world by_name p (record p { cache = cache }) c.world.met is_p refl (λ x m. m) (λ x m. m)
@@ -395,7 +395,7 @@ module _ (r : ℕ) (w : Played) (world : IsCalmWorld r w) (backed : IsBackedWorl
         found = ap (participant mid.world) ((takes_all_same takes).1 ∙ h.of.0) ∙ found_by
     step_run h (lacks_memory p taken t cache is_p takes lacking) = inr (lacks_past lacking, inl h.turns)
 
-    pub runs_had : {c next : Scene} → RunsOut hss_judged r by_name c next → InRun c → HadOne next
+    pub runs_had : {c next : Configuration} → RunsOut hss_judged r by_name c next → InRun c → HadOne next
     runs_had (runs_over said over) h = inl h.turns
     runs_had (runs_more step rest) h = ⊎_elim
         (λ on. runs_had rest on)
@@ -404,16 +404,16 @@ module _ (r : ℕ) (w : Played) (world : IsCalmWorld r w) (backed : IsBackedWorl
 
     -- ---- the turn
 
-    module _ (keeps : Keeps w) (honest : IsHonestIn w) (p : Participant) (is_p : participant w.0 by_name ≡ Some p) (in_view : p.agent.view ≡ Some view)
-        (entered : (q : Participant) → Contains w.0.participants q → Contains view.members (own q.agent) → q.agent.view ≡ Some view) where
-      of_scene : (c : Scene) (h : InRun c) (by : Participant) → participant c.world c.session.by ≡ Some by → (seen : View) (after : Agent) (turned : Turned)
-          → (turn : IsOnReplay (record { session = c.session; began = c.began; by = by; knowing = knowing_of c.story by.name; view = seen; met = named_bytes c.world; now = c.world.now; after = after; turned = turned }))
+    module _ (keeps : Invariant w) (honest : IsHonestIn w) (p : Participant) (is_p : participant w.0 by_name ≡ Some p) (in_view : p.agent.view ≡ Some view)
+        (entered : (q : Participant) → Contains w.0.participants q → Contains view.members (own_hss_key q.agent) → q.agent.view ≡ Some view) where
+      of_configuration : (c : Configuration) (h : InRun c) (by : Participant) → participant c.world c.session.by ≡ Some by → (seen : View) (after : HssAgent) (turned : Turned)
+          → (turn : IsOnReplay (record { session = c.session; began = c.began; by = by; knowing = knowing_of c.ghost_state by.name; view = seen; met = named_bytes c.world; now = c.world.now; after = after; turned = turned }))
           → (one : Record) → Contains turn.taken one ↔ IsWritten w seen one
-      of_scene c h by is_by seen after turned turn one = subst (λ v. Contains turn.taken one ↔ IsWritten w v one) (sym seen_is) (takes_written w keeps apart honest p p_in view in_view entered (grounds_of (named_bytes c.world) c.session c.began.knew) turn.given.started
+      of_configuration c h by is_by seen after turned turn one = subst (λ v. Contains turn.taken one ↔ IsWritten w v one) (sym seen_is) (takes_written w keeps apart honest p p_in view in_view entered (grounds_of (named_bytes c.world) c.session c.began.knew) turn.given.started
           (λ b m. Contains-append_left c.world.met _ b (h.meets b m)) now_apart own_is
           (subst (λ v. IsKnown v c.session.standing.floor c.began.knew) h.of.1 sound.knows.by_floor) before heard newest_heads
           turn.candidates (subst (λ v. AreCandidatesOf (grounds_of (named_bytes c.world) c.session c.began.knew) v turn.given.started turn.candidates) seen_is turn.of_heads)
-          turn.taken (subst (λ v. IsClosedPart v (IsAtHand (known_of w.1 p.name) turn.candidates) turn.taken) seen_is (subst (λ k. IsClosedPart seen (IsAtHand k turn.candidates) turn.taken) known_is turn.taken_is_largest)) one)
+          turn.taken (subst (λ v. IsClosedPart v (IsAvailable (known_of w.1 p.name) turn.candidates) turn.taken) seen_is (subst (λ k. IsClosedPart seen (IsAvailable k turn.candidates) turn.taken) known_is turn.taken_is_largest)) one)
         where
           p_at : Contains w.0.participants p × (p.name ≡ by_name)
           p_at = found_named w.0.participants by_name p is_p
@@ -421,10 +421,10 @@ module _ (r : ℕ) (w : Played) (world : IsCalmWorld r w) (backed : IsBackedWorl
           p_in : Contains w.0.participants p
           p_in = p_at.0
 
-          now_apart : NamesTellApart (named_bytes c.world)
+          now_apart : IsCollisionFree (named_bytes c.world)
           now_apart = names_of r w world backed apart no_key have c.world h.call.met_same h.call.keys_same
 
-          sound : IsSoundSession c.world c.story c.session c.began
+          sound : IsSoundSession c.world c.ghost_state c.session c.began
           sound = h.call.well.hand.sound now_apart
 
           one_view : (a b : View) → Some a ≡ Some b → a ≡ b
@@ -439,29 +439,29 @@ module _ (r : ℕ) (w : Played) (world : IsCalmWorld r w) (backed : IsBackedWorl
           named : by.name ≡ p.name
           named = (found_named c.world.participants c.session.by by is_by).1 ∙ h.of.0 ∙ sym p_at.1
 
-          known_is : known_of c.story by.name ≡ known_of w.1 p.name
-          known_is = ap (known_of c.story) named ∙ h.known p.name
+          known_is : known_of c.ghost_state by.name ≡ known_of w.1 p.name
+          known_is = ap (known_of c.ghost_state) named ∙ h.known p.name
 
-          own_is : c.session.standing.own ≡ own p.agent
+          own_is : c.session.standing.own ≡ own_hss_key p.agent
           own_is =
               let x = h.keys by_name p is_p in
               let same : x.0 ≡ by = one_participant x.0 by (sym x.1 ∙ ap (participant c.world) (sym h.of.0) ∙ is_by) in
-              its_key c r h.call.well.hand by is_by ∙ ap (λ (y : Participant). own y.agent) (sym same) ∙ x.2
+              its_key c r h.call.well.hand by is_by ∙ ap (λ (y : Participant). own_hss_key y.agent) (sym same) ∙ x.2
 
           before : (q : Record) → Contains c.began.knew q → Contains (known_of w.1 p.name) q
-          before q m = subst (λ l. Contains l q) (h.known p.name) (subst (λ n. Contains (known_of c.story n) q) (h.of.0 ∙ sym p_at.1) (sound.known q m))
+          before q m = subst (λ l. Contains l q) (h.known p.name) (subst (λ n. Contains (known_of c.ghost_state n) q) (h.of.0 ∙ sym p_at.1) (sound.known q m))
 
-          heard : (q : Participant) (t : Stamp) → Contains w.0.participants q → Contains (heads_at (brought_in c.session.parts) (head_key_of (own q.agent))) t → IsLeftBy q (head_key_of (own q.agent), t)
+          heard : (q : Participant) (t : Stamp) → Contains w.0.participants q → Contains (heads_at (brought_in c.session.parts) (head_key_of (own_hss_key q.agent))) t → IsLeftBy q (head_key_of (own_hss_key q.agent), t)
           heard q t q_in m =
-              let of = all_entries (brought_in c.session.parts) h.parts (head_key_of (own q.agent), t) (from_heads (brought_in c.session.parts) (head_key_of (own q.agent)) t m) in
-              left_of keeps honest q q_in (head_key_of (own q.agent), t) refl of
+              let of = all_entries (brought_in c.session.parts) h.parts (head_key_of (own_hss_key q.agent), t) (from_heads (brought_in c.session.parts) (head_key_of (own_hss_key q.agent)) t m) in
+              left_of keeps honest q q_in (head_key_of (own_hss_key q.agent), t) refl of
 
-          newest_heads : (q : Participant) → Contains w.0.participants q → Contains view.members (own q.agent) → (own q.agent ≡ c.session.standing.own → ⊥) → (t : Stamp) × Contains (heads_at (brought_in c.session.parts) (head_key_of (own q.agent))) t × (own_reach q.agent ≤ t.seq)
+          newest_heads : (q : Participant) → Contains w.0.participants q → Contains view.members (own_hss_key q.agent) → (own_hss_key q.agent ≡ c.session.standing.own → ⊥) → (t : Stamp) × Contains (heads_at (brought_in c.session.parts) (head_key_of (own_hss_key q.agent))) t × (own_reach q.agent ≤ t.seq)
           newest_heads q q_in member other =
-              let has = done_has c.session.standing (own q.agent) other turn.refreshed refl (subst (λ (v : View). Contains v.members (own q.agent)) (sym h.of.1) member) in
-              let j = (each PartNewest (brought_in c.session.parts) (HeadsOf (own q.agent) (Ok has.0)) h.parts has.1).0 q q_in refl in
-              (stamp_of j.0, at_heads (brought_in c.session.parts) (head_key_of (own q.agent)) (stamp_of j.0) (in_heads (brought_in c.session.parts) (own q.agent) has.0 j.0 has.1 j.1), j.2)
+              let has = done_has c.session.standing (own_hss_key q.agent) other turn.refreshed refl (subst (λ (v : View). Contains v.members (own_hss_key q.agent)) (sym h.of.1) member) in
+              let j = (each PartNewest (brought_in c.session.parts) (HeadsOf (own_hss_key q.agent) (Ok has.0)) h.parts has.1).0 q q_in refl in
+              (stamp_of j.0, at_heads (brought_in c.session.parts) (head_key_of (own_hss_key q.agent)) (stamp_of j.0) (in_heads (brought_in c.session.parts) (own_hss_key q.agent) has.0 j.0 has.1 j.1), j.2)
 
       pub takes_at : (h : HadTurn) → HadAt h → (turn : IsOnReplay h) (one : Record) → Contains turn.taken one ↔ IsWritten w h.view one
       takes_at h had turn one =
-          (subst (λ (x : HadTurn). (t : IsOnReplay x) → Contains t.taken one ↔ IsWritten w x.view one) (sym had.is) (λ t. of_scene had.at had.run had.by had.is_by had.in_view had.after had.turned t one)) turn
+          (subst (λ (x : HadTurn). (t : IsOnReplay x) → Contains t.taken one ↔ IsWritten w x.view one) (sym had.is) (λ t. of_configuration had.at had.run had.by had.is_by had.in_view had.after had.turned t one)) turn

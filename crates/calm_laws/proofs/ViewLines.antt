@@ -12,7 +12,7 @@ use Rattle.dht_ids.specs.declared.ask.Ask.{Ask}
 use Rattle.dht_ids.specs.declared.ask.Ask.TheVariants as ask
 use Rattle.dht_ids.specs.declared.peer.Peer.{Peer}
 use Rattle.dht_ids.specs.declared.post.Post.{Post}
-use Rattle.dhash_model.specs.Course.{Told}
+use Rattle.dhash_model.specs.Execution.{Told}
 use Rattle.dhash_model.specs.declared.miss.Miss.{Miss}
 use Rattle.agent_model.specs.Others.{block_post}
 use Rattle.script_driver.specs.Run.{Goes}
@@ -20,7 +20,7 @@ use Rattle.world_model.specs.Fates.{Fates, asking}
 use Rattle.world_model.specs.Fates.Fates.{more as fates_more, none as fates_none}
 use Rattle.world_model.specs.Logs.{Played, ViewLine, acked_view}
 use Rattle.world_model.specs.Logs.ViewLine.{makes}
-use Rattle.world_model.specs.Story.{knowing_of}
+use Rattle.world_model.specs.GhostState.{knowing_of}
 use Rattle.world_model.specs.World.{World, meets}
 use Rattle.world_laws.proofs.Lines.{meets_it, meets_more}
 use Rattle.world_laws.proofs.RingLines.{fates_rest}

@@ -1,9 +1,10 @@
--- A refresh misses nothing, where of each record up to a head that it is brought, and up to the floor's, the block was put or is at hand, and what is missed wasn't put.
+-- A refresh misses nothing, where of each record up to a head that it is brought, and up to the floor's, the block was put or is available,
+-- and what is missed wasn't put.
 use Rattle.std.proofs.Common.{◌≡◌, inl, inr, ℕ, zero, suc, ◌+◌, ◌-◌, ◌≤◌, Bool, true, false, cond, List, [], ◌∷◌, ◌++◌, length, Option, Some, None, Ok, Err, refl, sym, ap, ◌∙◌, subst, arith, Contains, nat_lt, length-append}
 use Rattle.std.specs.List.{AllByRecursion}
 use Rattle.ivy_base.specs.declared.key.Key.{Key}
 use Rattle.ivy_base.specs.declared.key.PubKey.{PubKey}
-use Rattle.ivy_base.specs.Naming.{NamesTellApart, head_key_of, name}
+use Rattle.ivy_base.specs.Naming.{IsCollisionFree, head_key_of, name}
 use Rattle.log_model.specs.Chain.{LinkedFrom}
 use Rattle.log_model.specs.Record.{Record}
 use Rattle.log_model.specs.Spelling.{HasSpelling, body, no_name, record_block, record_kind, record_tag, vector_entry}
@@ -120,7 +121,7 @@ pub there_met : (acked pending : List Post) (met : List (List ℕ)) → ((p : Po
 there_met acked pending met put_met pending_met one (inl put) = subst (Contains met) put.3 (put_met put.0 put.1)
 there_met acked pending met put_met pending_met one (inr c) = each (IsMet met) pending (record_post one) pending_met c
 
-module _ (acked pending : List Post) (met : List (List ℕ)) (apart : NamesTellApart met) (put_met : (p : Post) → Contains acked p → Contains met p.bytes) (pending_met : AllByRecursion (IsMet met) pending) (log : Key) where
+module _ (acked pending : List Post) (met : List (List ℕ)) (apart : IsCollisionFree met) (put_met : (p : Post) → Contains acked p → Contains met p.bytes) (pending_met : AllByRecursion (IsMet met) pending) (log : Key) where
   walks_on : (owner : PubKey) → log ≡ head_key_of owner → {n : ℕ} {key : Key} {brought : List Brought} {records : List Record} {end : WalkEnd} → Walks owner n key brought records end → IsBack acked pending log n key → AllByRecursion (PartSo acked pending met log) brought → (miss : Miss) → end ≡ Misses miss → ⊥
   walks_on owner of_log came h parts miss e = cc e
   walks_on owner of_log wants h parts miss e = cc e
@@ -182,7 +183,7 @@ BroughtSo acked pending met b = (log : Key) → PartSo acked pending met log b
 abbrev pub FloorSo : List Post → List Post → Standing → List PubKey → Type 0
 FloorSo acked pending s owners = AllByRecursion (λ owner. (t : Stamp) → stamp_at s.floor (head_key_of owner) ≡ Some t → IsBack acked pending (head_key_of owner) t.seq t.name) owners
 
-module _ (acked pending : List Post) (met : List (List ℕ)) (apart : NamesTellApart met) (put_met : (p : Post) → Contains acked p → Contains met p.bytes) (pending_met : AllByRecursion (IsMet met) pending) (s : Standing) where
+module _ (acked pending : List Post) (met : List (List ℕ)) (apart : IsCollisionFree met) (put_met : (p : Post) → Contains acked p → Contains met p.bytes) (pending_met : AllByRecursion (IsMet met) pending) (s : Standing) where
   for_log : (log : Key) (brought : List Brought) → AllByRecursion (BroughtSo acked pending met) brought → AllByRecursion (PartSo acked pending met log) brought
   for_log log brought h = all_weaker (BroughtSo acked pending met) (PartSo acked pending met log) brought (λ b f. f log) h
 

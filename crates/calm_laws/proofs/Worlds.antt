@@ -15,7 +15,7 @@ use Rattle.log_model.proofs.Lists.{each}
 use Rattle.script_driver.specs.Run.{Goes}
 use Rattle.script_model.specs.declared.command.Command.{Command}
 use Rattle.world_model.specs.World.{NamedSession, Participant, World}
-use Rattle.world_model.specs.Story.{Story}
+use Rattle.world_model.specs.GhostState.{GhostState}
 use Rattle.world_model.specs.Logs.{Played}
 use Rattle.world_model.specs.Step.{Does}
 use Rattle.world_model.specs.RingOf.{lives_in}
@@ -51,7 +51,7 @@ orderly_more w end v more h id n e = let o = h id n e in record { kinds = λ key
 abbrev pub HasHolder : World → Post → Type 0
 HasHolder w p = (m : Peer) × (lives_in w m ≡ true) × IsHeldFor w p m
 
-pub record HoldsAll (w : World) (st : Story) : Type 0 where
+pub record HoldsAll (w : World) (st : GhostState) : Type 0 where
   pub orderly : AreOrderly w w
   pub acked : AllByRecursion (HasHolder w) st.acked
   pub pending : ArePending w
@@ -60,7 +60,7 @@ abbrev pub stretch : (r : ℕ) (base : List Shape) (links : Peer → Links Peer)
 stretch r base links start k stands end apart = record { r = r; base = base; links = links; start = start; stops = k; stands = stands; end = end; apart = apart }
 
 -- within a stretch, up to that world
-pub record IsStanding (r k : ℕ) (w : World) (st : Story) : Type 0 where
+pub record IsStanding (r k : ℕ) (w : World) (st : GhostState) : Type 0 where
   pub base : List Shape
   pub links : Peer → Links Peer
   pub start : ℕ
@@ -69,7 +69,7 @@ pub record IsStanding (r k : ℕ) (w : World) (st : Story) : Type 0 where
   pub still : IsRing r base links start w
   pub good : IsGood (stretch r base links start k stands w apart) w st
 
-abbrev pub IsState : ℕ → World → Story → Since → Type 0
+abbrev pub IsState : ℕ → World → GhostState → Since → Type 0
 IsState r w st (Stopped k) = IsStanding r k w st
 IsState r w st Joined = HoldsAll w st
 
@@ -83,7 +83,7 @@ module _ (r k : ℕ) (w : Played) (s : IsStanding r k w.0 w.1) where
   pub acked_on : (p : Post) → Contains w.1.acked p → IsAckHeld on w.0 p
   acked_on p acked = each (IsAckHeld on w.0) w.1.acked p s.good.acked acked
 
-pub to_holds : (r k : ℕ) (w : World) (st : Story) → IsStanding r k w st → HoldsAll w st
+pub to_holds : (r k : ℕ) (w : World) (st : GhostState) → IsStanding r k w st → HoldsAll w st
 to_holds r k w st s =
     let on = stretch r s.base s.links s.start k s.stands w s.apart in
     record {
@@ -92,7 +92,7 @@ to_holds r k w st s =
       pending = s.good.pending;
     }
 
-pub state_holds : (r : ℕ) (w : World) (st : Story) (since : Since) → IsState r w st since → HoldsAll w st
+pub state_holds : (r : ℕ) (w : World) (st : GhostState) (since : Since) → IsState r w st since → HoldsAll w st
 state_holds r w st (Stopped k) s = to_holds r k w st s
 state_holds r w st Joined s = s
 
@@ -116,7 +116,7 @@ module _ (ring : Stretch) (end : World) (apart : AreApart end) (room : IsWithinL
   heard_onward w post [] t = tt
   heard_onward w post (h ∷ trail) t = (true_onward w post h.kind h t.0, heard_onward w post trail t.1)
 
-  pub good_onward : (w : World) (st : Story) → IsGood ring w st → IsGood onward w st
+  pub good_onward : (w : World) (st : GhostState) → IsGood ring w st → IsGood onward w st
   good_onward w st g = record {
     orderly = orderly_more ring.end end w more g.orderly;
     acked = all_weaker (IsAckHeld ring w) (IsAckHeld onward w) st.acked (λ p a.

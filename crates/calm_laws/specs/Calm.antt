@@ -5,7 +5,7 @@ use Rattle.std.specs.Prelude.{Some}
 use Rattle.std.specs.Option.{option_map_or}
 use Rattle.ivy_base.specs.declared.key.Key.{Key}
 use Rattle.ivy_base.specs.declared.operation.Moment.{Moment}
-use Rattle.ivy_base.specs.Naming.{NamesTellApart}
+use Rattle.ivy_base.specs.Naming.{IsCollisionFree}
 use Rattle.ring_model.specs.Circle.{number}
 use Rattle.dht_ids.specs.declared.peer.Peer.{Peer}
 use Rattle.dht_ids.specs.declared.post.Post.{Post}
@@ -17,9 +17,9 @@ use Rattle.script_model.specs.declared.command.NodeWord.{NodeWord}
 use Rattle.script_model.specs.Lines.{command_of}
 use Rattle.log_model.specs.Spelling.{IsMoment}
 use Rattle.agent_model.specs.Agent.{is_head}
-use Rattle.world_model.specs.Agents.{own}
+use Rattle.world_model.specs.Agents.{own_hss_key}
 use Rattle.world_model.specs.World.{World, Participant, empty_world, named_bytes}
-use Rattle.world_model.specs.Story.{empty_story}
+use Rattle.world_model.specs.GhostState.{empty_ghost_state}
 use Rattle.world_model.specs.Logs.{Played}
 use Rattle.world_model.specs.Ring.{RingLine, live_in_order}
 use Rattle.world_model.specs.Step.{IvyStep}
@@ -62,8 +62,8 @@ pub data Calmly (r : ℕ) : Played → Since → List (List ℕ) → Played → 
 -- ---- worlds that are reached calmly
 
 -- the rank of what a node holds under a key: 0 for content, a head's number for a head
-abbrev pub rank_in : World → Key → Peer → Option ℕ
-rank_in w key p = rank_by hss_judged w key p
+abbrev pub held_rank : World → Key → Peer → Option ℕ
+held_rank w key p = rank_by hss_judged w key p
 
 -- The world was reached calmly from the line that made its ring, before which nothing was but a moment. No two different blocks that were
 -- met have one name, and no block that was met is a public key.
@@ -71,11 +71,11 @@ pub record IsCalmAt (r : ℕ) (w : Played) (since : Since) (lines : List (List �
   pub before : Played
   pub count : ℕ
   pub made : World
-  pub fresh : (now : Moment) × IsMoment now × (before ≡ (record empty_world { now = now }, empty_story))
+  pub fresh : (now : Moment) × IsMoment now × (before ≡ (record empty_world { now = now }, empty_ghost_state))
   pub rings : RingLine before.0 count r (Goes made [])
   pub calmly : Calmly r (made, before.1) (Stopped 0) lines w since
-  pub apart : NamesTellApart (named_bytes w.0)
-  pub no_key : (p : Participant) → Contains w.0.participants p → Contains w.0.met (own p.agent).0 → ⊥
+  pub apart : IsCollisionFree (named_bytes w.0)
+  pub no_key : (p : Participant) → Contains w.0.participants p → Contains w.0.met (own_hss_key p.agent).0 → ⊥
 
 -- the rank of a post
 abbrev pub post_rank : Post → ℕ

@@ -10,14 +10,14 @@ use Rattle.world_model.specs.Logs.{Played}
 use Rattle.world_model.specs.Step.{IvyStep}
 use Rattle.calm_laws.specs.Calm.{IsCalmAt, Since, Stopped}
 use Rattle.calm_laws.specs.Readable.{IsReadable, MovesBlocks}
-use Rattle.calm_laws.specs.Completeness.{HaveEntered, HaveOwnKeys, IsServed, TakesAll}
+use Rattle.calm_laws.specs.Completeness.{HaveEntered, HaveOwnKeys, IsLineServed, TakesAllWritten}
 use Rattle.calm_laws.specs.Takes.{CalmTidily}
 
 -- What was acknowledged before the line is stored and can be read. If the line is a whole call and goes on, it misses nothing.
 pub record IsServedCalmly (r : ℕ) (w : Played) (line : List ℕ) (outcome : Outcome Played) : Type 0 where
   pub readable : (p : Post) → Contains w.1.acked p → IsReadable r w.0 p
   pub served : (name : List ℕ) (pieces : List Piece) (next : Played) (output : List ℕ) → command_of line ≡ Some (command.As name pieces)
-      → outcome ≡ Goes next output → IsServed w (command.As name pieces) next output
+      → outcome ≡ Goes next output → IsLineServed w (command.As name pieces) next output
 
 -- If the world was reached calmly, the line is served so, except right after a join, and a round moves each block to its owners.
 -- Say further that it was reached tidily, no session is open, each log has a key of its own and all members of the caller's view have
@@ -29,7 +29,7 @@ pub record IsServedWhereCalm (w : Played) (line : List ℕ) (outcome : Outcome P
   pub takes_all : (r count : ℕ) (lines : List (List ℕ)) (name : List ℕ) (pieces : List Piece) (next : Played) (output : List ℕ)
       → (calm : IsCalmAt r w (Stopped count) lines) → CalmTidily r (calm.made, calm.before.1) (Stopped 0) lines w (Stopped count)
       → HaveOwnKeys w.0 → HaveEntered w.0 name → w.0.sessions ≡ [] → command_of line ≡ Some (command.As name pieces)
-      → outcome ≡ Goes next output → TakesAll w next
+      → outcome ≡ Goes next output → TakesAllWritten w next
 
 -- So it is of each line that, if it goes on, does what it may.
 abbrev pub LinesAreServedWhereCalm : Type 0

@@ -4,12 +4,12 @@ use Rattle.std.specs.Prelude.{◌≡◌, ◌≢◌, ◌⊎◌, ◌↔◌, ◌≤
 use Rattle.std.specs.Prelude.{is_some, Result, Bool}
 use Rattle.std.specs.List.{AllByRecursion}
 use Rattle.ivy_base.specs.declared.key.Key.{Key}
-use Rattle.ivy_base.specs.Naming.{NamesTellApart, head_key_of, name}
+use Rattle.ivy_base.specs.Naming.{IsCollisionFree, head_key_of, name}
 use Rattle.dht_ids.specs.declared.ask.Answer.{Answer}
 use Rattle.dht_ids.specs.declared.ask.Ask.TheVariants as ask
 use Rattle.dht_ids.specs.declared.peer.Peer.{Peer}
 use Rattle.dht_ids.specs.declared.post.Post.{Post}
-use Rattle.dhash_model.specs.Course.{Told, told_all}
+use Rattle.dhash_model.specs.Execution.{Told, told_all}
 use Rattle.dhash_model.specs.Puts.{holds}
 use Rattle.dhash_model.specs.declared.miss.Miss.{Miss}
 use Rattle.dhash_model.specs.Signed.{hss_judged}
@@ -24,11 +24,11 @@ use Rattle.script_model.specs.declared.command.Command.TheVariants as command
 use Rattle.script_model.specs.declared.command.Piece.{Piece}
 use Rattle.script_model.specs.Lines.{command_of}
 use Rattle.session_model.specs.Sessions.{IsPutOfPost, acknowledged, put_question}
-use Rattle.world_model.specs.Agents.{own}
+use Rattle.world_model.specs.Agents.{own_hss_key}
 use Rattle.world_model.specs.Fates.{FateOf, Fates, asking}
 use Rattle.world_model.specs.Nodes.{Node}
 use Rattle.world_model.specs.World.{World, Participant, entries, node_at, participant, view_named}
-use Rattle.world_model.specs.Story.{HadTurn, known_of}
+use Rattle.world_model.specs.GhostState.{HadTurn, known_of}
 use Rattle.world_model.specs.Logs.{Played}
 use Rattle.world_model.specs.Step.{IvyStep, most_bytes}
 use Rattle.calm_laws.specs.Calm.{IsCalmAt, Stopped}
@@ -38,23 +38,24 @@ use Rattle.world_laws.specs.Headline.{IsCaused, IsOnReplay}
 
 -- What is shown is what a session of the line said, and its refresh missed nothing: so the reply says neither that the client is to try
 -- again later, nor an IO error of a block. And each turn of the line is on the replay, without a premise.
-pub record IsServed (w : Played) (c : Command) (next : Played) (output : List ℕ) : Type 0 where
+pub record IsLineServed (w : Played) (c : Command) (next : Played) (output : List ℕ) : Type 0 where
   pub caused : IsCaused w c next output
   pub missed_nothing : caused.end.session.missed ≡ None
   -- Before each turn that the line made, no two different blocks that were met had one name: the headline's premise.
-  pub apart : (h : HadTurn) → Contains next.1.turns h → Contains w.1.turns h ⊎ NamesTellApart h.met
+  pub apart : (h : HadTurn) → Contains next.1.turns h → Contains w.1.turns h ⊎ IsCollisionFree h.met
 
 -- of each log a put of a head was acknowledged
 abbrev pub HaveHeads : Played → Type 0
 HaveHeads w = (q : Participant) → Contains w.0.participants q
-    → (p : Post) × Contains w.1.acked p × (is_head p.kind ≡ true) × (p.key ≡ head_key_of (own q.agent))
+    → (p : Post) × Contains w.1.acked p × (is_head p.kind ≡ true) × (p.key ≡ head_key_of (own_hss_key q.agent))
 
 -- In a calm script so is each whole call, where that is so.
 abbrev pub CallsMissNothingBehindHeads : Type 0
 CallsMissNothingBehindHeads =
     (r : ℕ) (w next : Played) (count : ℕ) (lines : List (List ℕ)) (line name output : List ℕ) (pieces : List Piece)
     → IsCalmAt r w (Stopped count) lines → HaveHeads w
-    → command_of line ≡ Some (command.As name pieces) → IvyStep w line (Goes next output) → IsServed w (command.As name pieces) next output
+    → command_of line ≡ Some (command.As name pieces) → IvyStep w line (Goes next output)
+    → IsLineServed w (command.As name pieces) next output
 
 -- While what was met is within its limit no node's store is full: it has room for any block that was met.
 abbrev pub StoresHaveRoom : Type 0
@@ -92,7 +93,8 @@ LogsHaveHeads = (r : ℕ) (w : Played) (count : ℕ) (lines : List (List ℕ)) �
 abbrev pub CallsMissNothing : Type 0
 CallsMissNothing = (r : ℕ) (w next : Played) (count : ℕ) (lines : List (List ℕ)) (line name output : List ℕ) (pieces : List Piece)
     → IsCalmAt r w (Stopped count) lines
-    → command_of line ≡ Some (command.As name pieces) → IvyStep w line (Goes next output) → IsServed w (command.As name pieces) next output
+    → command_of line ≡ Some (command.As name pieces) → IvyStep w line (Goes next output)
+    → IsLineServed w (command.As name pieces) next output
 
 -- ---- tidy scripts
 
@@ -112,21 +114,22 @@ IsTidyAt w _ = Unit {0}
 
 -- each log has a key of its own
 abbrev pub HaveOwnKeys : World → Type 0
-HaveOwnKeys w = (p q : Participant) → Contains w.participants p → Contains w.participants q → own p.agent ≡ own q.agent → p ≡ q
+HaveOwnKeys w = (p q : Participant) → Contains w.participants p → Contains w.participants q → own_hss_key p.agent ≡ own_hss_key q.agent
+    → p ≡ q
 
 -- all members of the caller's view have entered it
 abbrev pub HaveEntered : World → List ℕ → Type 0
 HaveEntered w caller = (p q : Participant) (view : View) → participant w caller ≡ Some p → p.agent.view ≡ Some view
-    → Contains w.participants q → Contains view.members (own q.agent) → q.agent.view ≡ Some view
+    → Contains w.participants q → Contains view.members (own_hss_key q.agent) → q.agent.view ≡ Some view
 
 -- ---- the turn takes everything
 
 -- a member of the view has written the record
 abbrev pub IsWritten : Played → View → Record → Type 0
-IsWritten w view one = (q : Participant) × Contains w.0.participants q × Contains view.members (own q.agent)
-    × Contains (log_of (own q.agent) (known_of w.1 q.name)) one
+IsWritten w view one = (q : Participant) × Contains w.0.participants q × Contains view.members (own_hss_key q.agent)
+    × Contains (log_of (own_hss_key q.agent) (known_of w.1 q.name)) one
 
 -- The new turn takes all records that the members of its view have written, and nothing else.
-abbrev pub TakesAll : Played → Played → Type 0
-TakesAll w next = (h : HadTurn) (turn : IsOnReplay h) (one : Record) → next.1.turns ≡ w.1.turns ++ h ∷ []
+abbrev pub TakesAllWritten : Played → Played → Type 0
+TakesAllWritten w next = (h : HadTurn) (turn : IsOnReplay h) (one : Record) → next.1.turns ≡ w.1.turns ++ h ∷ []
     → Contains turn.taken one ↔ IsWritten w h.view one

@@ -14,7 +14,7 @@ use Rattle.world_model.specs.Ring.{live_in_order}
 use Rattle.world_model.specs.Rounds.{IsRoundOf}
 use Rattle.world_model.specs.Step.{most_bytes}
 use Rattle.world_model.specs.World.{World}
-use Rattle.calm_laws.specs.Calm.{IsCalmAt, Since, Stopped, post_rank, rank_in}
+use Rattle.calm_laws.specs.Calm.{IsCalmAt, Since, Stopped, post_rank, held_rank}
 use Rattle.calm_laws.specs.Readable.{IsReadable, KeepsItsRing, MovesBlocks}
 
 -- The ring is settled after each round, and covered at each later line but between a join and its round.
@@ -41,4 +41,4 @@ RoundMovesBlocks = (r : ℕ) (w : Played) (next : World) (since : Since) (lines 
 abbrev pub AckedHasCopies : Type 0
 AckedHasCopies = (r : ℕ) (w : Played) (lines : List (List ℕ)) (p : Post) (m : Peer) → IsCalmAt r w (Stopped 0) lines → IsWithinLimit w.0
     → Contains w.1.acked p → IsAmong m (owners place r (live_in_order w.0) (number p.key))
-    → IsAtLeast (post_rank p) (rank_in w.0 p.key m)
+    → IsAtLeast (post_rank p) (held_rank w.0 p.key m)

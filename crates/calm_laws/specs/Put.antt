@@ -16,13 +16,13 @@ use Rattle.dht_ids.specs.declared.judge.Judged.{Judged}
 use Rattle.dht_ids.specs.declared.post.Post.{Post}
 use Rattle.dhash_model.specs.Signed.{hss_judged}
 use Rattle.dhash_model.specs.Stores.{Block}
-use Rattle.dhash_model.specs.declared.kind.Kind.TheVariants.{Head}
+use Rattle.dhash_model.specs.declared.kind.BlockKind.TheVariants.{Head}
 use Rattle.agent_model.specs.Agent.{record_post}
 use Rattle.session_model.specs.Brought.{stamp_of}
-use Rattle.world_model.specs.Agents.{own}
+use Rattle.world_model.specs.Agents.{own_hss_key}
 use Rattle.world_model.specs.Nodes.{Node}
 use Rattle.world_model.specs.World.{Participant}
-use Rattle.world_model.specs.Story.{known_of}
+use Rattle.world_model.specs.GhostState.{known_of}
 use Rattle.world_model.specs.Logs.{Played}
 use Rattle.calm_laws.specs.Calm.{IsCalmAt, Stopped}
 
@@ -56,4 +56,5 @@ HeadsNameWhatWasPut = (r : ℕ) (w : Played) (count : ℕ) (lines : List (List �
 abbrev pub KnownIsPutOrPending : Type 0
 KnownIsPutOrPending = (r : ℕ) (w : Played) (count : ℕ) (lines : List (List ℕ)) (p : Participant) (one : Record)
     → IsCalmAt r w (Stopped count) lines → Contains w.0.participants p
-    → Contains (known_of w.1 p.name) one → WasPut w.1.acked one ⊎ ((one.owner ≡ own p.agent) × Contains p.agent.pending (record_post one))
+    → Contains (known_of w.1 p.name) one
+    → WasPut w.1.acked one ⊎ ((one.owner ≡ own_hss_key p.agent) × Contains p.agent.pending (record_post one))

@@ -12,7 +12,7 @@ use Rattle.dht_ids.specs.declared.peer.Peer.{Peer}
 use Rattle.dht_ids.specs.declared.post.Post.{Post}
 use Rattle.dhash_model.specs.GetBlock.{IsGetOfBlock}
 use Rattle.dhash_model.specs.GetHead.{IsGetOfHead}
-use Rattle.dhash_model.specs.Course.{Told, told_all}
+use Rattle.dhash_model.specs.Execution.{Told, told_all}
 use Rattle.dhash_model.specs.declared.miss.Miss.{Miss}
 use Rattle.dhash_model.specs.Signed.{hss_judged}
 use Rattle.agent_model.specs.Agent.{is_head}
@@ -22,7 +22,7 @@ use Rattle.world_model.specs.Ring.{live_in_order}
 use Rattle.world_model.specs.RingOf.{lives_in}
 use Rattle.world_model.specs.World.{World, entries}
 use Rattle.round_laws.specs.RingOf.{IsCoveredIn, IsSettledIn}
-use Rattle.calm_laws.specs.Calm.{IsCalmAt, Stopped, post_rank, rank_in}
+use Rattle.calm_laws.specs.Calm.{IsCalmAt, Stopped, post_rank, held_rank}
 
 -- If the world was reached calmly, its ring is covered, except between a join and its round: look-ups find the owners.
 -- If no node stopped since the last round, or since the ring was made, it is settled.
@@ -32,7 +32,7 @@ KeepsItsRing w = (r count : ℕ) (lines : List (List ℕ)) → IsCalmAt r w (Sto
 
 -- An owner of its key holds the post, or a newer head.
 abbrev pub IsHeld : ℕ → World → Post → Type 0
-IsHeld r w p = (m : Peer) × IsAmong m (owners place r (live_in_order w) (number p.key)) × IsAtLeast (post_rank p) (rank_in w p.key m)
+IsHeld r w p = (m : Peer) × IsAmong m (owners place r (live_in_order w) (number p.key)) × IsAtLeast (post_rank p) (held_rank w p.key m)
 
 -- Each get of its block returns it.
 abbrev pub GetsGiveBlock : ℕ → World → Post → Type 0
@@ -56,6 +56,6 @@ pub record IsReadable (r : ℕ) (w : World) (p : Post) : Type 0 where
 -- A live node holds something under a key exactly if it is an owner of the key and a live node held something under it before.
 abbrev pub MovesBlocks : ℕ → World → World → Type 0
 MovesBlocks r w next = (m : Peer) (key : Key) → lives_in next m ≡ true
-    → (is_some (rank_in next key m) ≡ true) ↔
+    → (is_some (held_rank next key m) ≡ true) ↔
     (IsAmong m (owners place r (live_in_order w) (number key)) × (p : Peer) × (lives_in w p ≡ true)
-    × (is_some (rank_in w key p) ≡ true))
+    × (is_some (held_rank w key p) ≡ true))

@@ -13,13 +13,13 @@ use Rattle.script_model.specs.declared.command.Command.TheVariants as command
 use Rattle.script_model.specs.declared.command.Piece.{Piece}
 use Rattle.script_model.specs.Lines.{command_of}
 use Rattle.session_model.specs.Brought.{stamp_of}
-use Rattle.world_model.specs.Agents.{own, own_reach}
+use Rattle.world_model.specs.Agents.{own_hss_key, own_reach}
 use Rattle.world_model.specs.Logs.{Played}
 use Rattle.world_model.specs.Step.{IvyStep, most_bytes}
-use Rattle.world_model.specs.Story.{knowing_of}
+use Rattle.world_model.specs.GhostState.{knowing_of}
 use Rattle.world_model.specs.World.{Participant}
 use Rattle.calm_laws.specs.Calm.{IsCalm, IsCalmAt, Since, Stopped}
-use Rattle.calm_laws.specs.Completeness.{HaveEntered, HaveOwnKeys, IsTidyAt, TakesAll}
+use Rattle.calm_laws.specs.Completeness.{HaveEntered, HaveOwnKeys, IsTidyAt, TakesAllWritten}
 
 -- the head left that agent
 abbrev pub IsLeftBy : Participant → Entry → Type 0
@@ -30,13 +30,13 @@ IsLeftBy q e = (bytes : List ℕ) × (j : Judged) × Contains q.left bytes × (h
 abbrev pub ReceivedHeadsLeft : Type 0
 ReceivedHeadsLeft = (r : ℕ) (w : Played) (count : ℕ) (lines : List (List ℕ)) (name : List ℕ) (e : Entry) (q : Participant)
     → IsCalmAt r w (Stopped count) lines
-    → Contains (knowing_of w.1 name).received e → Contains w.0.participants q → e.0 ≡ head_key_of (own q.agent)
-    → (p : Participant) × Contains w.0.participants p × (own p.agent ≡ own q.agent) × IsLeftBy p e
+    → Contains (knowing_of w.1 name).received e → Contains w.0.participants q → e.0 ≡ head_key_of (own_hss_key q.agent)
+    → (p : Participant) × Contains w.0.participants p × (own_hss_key p.agent ≡ own_hss_key q.agent) × IsLeftBy p e
 
 -- of each log a put of a head was acknowledged that goes as far as its agent's floor
 abbrev pub HaveNewest : Played → Type 0
 HaveNewest w = (q : Participant) → Contains w.0.participants q
-    → (p : Post) × (j : Judged) × Contains w.1.acked p × (is_head p.kind ≡ true) × (p.key ≡ head_key_of (own q.agent))
+    → (p : Post) × (j : Judged) × Contains w.1.acked p × (is_head p.kind ≡ true) × (p.key ≡ head_key_of (own_hss_key q.agent))
     × (hss_judged p.key p.bytes ≡ Some j) × (own_reach q.agent ≤ j.seq)
 
 -- one run that is both calm and tidy at each line
@@ -58,4 +58,4 @@ CallsTakeAll = (r : ℕ) (w next : Played) (count : ℕ) (lines : List (List ℕ
     → (calm : IsCalmAt r w (Stopped count) lines)
     → CalmTidily r (calm.made, calm.before.1) (Stopped 0) lines w (Stopped count) → HaveOwnKeys w.0 → HaveEntered w.0 name
     → w.0.sessions ≡ [] → command_of line ≡ Some (command.As name pieces) → IvyStep w line (Goes next output)
-    → TakesAll w next
+    → TakesAllWritten w next

@@ -39,8 +39,8 @@
 //!   `proofs/Holding.antt`: what nodes hold through asks; `proofs/Asking.antt`: whom puts and gets ask where some
 //!   nodes are silent;
 //! - `proofs/Stretches.antt` and `proofs/States.antt`: what holds while the ring stays, some of whose nodes have
-//!   stopped; `proofs/Steps.antt`, `proofs/Scenes.antt`, `proofs/Lines.antt` and `proofs/Commands.antt`: each step
-//!   and each line keeps that;
+//!   stopped; `proofs/Steps.antt`, `proofs/Configurations.antt`, `proofs/Lines.antt` and `proofs/Commands.antt`:
+//!   each step and each line keeps that;
 //! - `proofs/Repairs.antt` and `proofs/Moved.antt`: rounds; `proofs/Facts.antt`: the ring, line by line;
 //!   `proofs/Worlds.antt`, `proofs/Changes.antt` and `proofs/Runs.antt`: what holds as nodes stop and join;
 //! - `proofs/Gets.antt`, `proofs/Given.antt` and `proofs/Durable.antt`: gets, and the laws.
@@ -62,11 +62,11 @@
 //!   acknowledged; `proofs/LogHeads.antt`: heads of logs; `proofs/Received.antt`: received heads left their
 //!   logs' agents.
 //! - Newest heads (posts that fit, agents, steps, lines, scripts): `proofs/FitPosts.antt`,
-//!   `proofs/NewestCover.antt`, `proofs/NewestScenes.antt`, `proofs/NewestLines.antt` and
+//!   `proofs/NewestCover.antt`, `proofs/NewestConfigurations.antt`, `proofs/NewestLines.antt` and
 //!   `proofs/NewestPut.antt`.
 //! - What is written, what heads name, what a refresh gets of each log, what a turn takes of it:
 //!   `proofs/OwnLogs.antt`, `proofs/LeftHeads.antt`, `proofs/GotHeads.antt`, `proofs/TakesLogs.antt`,
-//!   `proofs/TakesRuns.antt` and `proofs/TakesAll.antt`.
+//!   `proofs/TakesRuns.antt` and `proofs/TakesAllWritten.antt`.
 #![tactic(auto)]
 
 ghost use Rattle.calm_laws.specs.Laws.{AckedHasCopies, AcknowledgedIsReadable, RingStays, RoundMovesBlocks};

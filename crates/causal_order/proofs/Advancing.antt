@@ -147,9 +147,9 @@ fewer_named r (q ∷ rest) last h = h
 each_to_all : {X : Type 0} (P : X → Type 0) (xs : List X) → ((x : X) → Contains xs x → P x) → All P xs
 each_to_all P xs h = All-from_recursion P xs (each_from P xs h)
 
-module _ (AtHand : Record → Type 0) (base : Base) (taken_before : List kept.Record) (logs : List Log) (i : ℕ) (n : IsNext logs i)
+module _ (Available : Record → Type 0) (base : Base) (taken_before : List kept.Record) (logs : List Log) (i : ℕ) (n : IsNext logs i)
     (kept_all : All (IsKept base.front.now (known_of base taken_before)) logs) (owners : map (λ (l : Log). l.owner) logs ≡ base.view.now.members)
-    (t : IsTaken base.view.now base.front.now AtHand (known_of base taken_before) (records_of taken_before) (map queue_of logs)) where
+    (t : IsTaken base.view.now base.front.now Available (known_of base taken_before) (records_of taken_before) (map queue_of logs)) where
   known : List Record
   known = known_of base taken_before
 
@@ -193,13 +193,13 @@ module _ (AtHand : Record → Type 0) (base : Base) (taken_before : List kept.Re
     owned : (record_of s.next).owner ≡ s.old.owner
     owned = (left_owned base.view.now base.front.now (known_of base taken_before) (map queue_of logs) t.passed (queue_of s.old) (to_map queue_of logs s.old old_stands) (record_of s.next) (subst (λ (ys : List Record). Contains ys (record_of s.next)) (sym least.first) (here (record_of s.next) (records_of s.new.queue.items)))).owned
 
-    pub taken_state : IsTaken base.view.now base.front.now AtHand (known_of base more) (records_of more) (map queue_of after)
+    pub taken_state : IsTaken base.view.now base.front.now Available (known_of base more) (records_of more) (map queue_of after)
     taken_state =
-        let next = taken base.view.now base.front.now AtHand (known_of base taken_before) (records_of taken_before) (map queue_of logs) (map queue_of after) (queue_of s.old) (record_of s.next) (records_of s.new.queue.items) t least short s.causes in
+        let next = taken base.view.now base.front.now Available (known_of base taken_before) (records_of taken_before) (map queue_of logs) (map queue_of after) (queue_of s.old) (record_of s.next) (records_of s.new.queue.items) t least short s.causes in
         let known_is : known_of base more ≡ known_of base taken_before ++ record_of s.next ∷ [] = ap (known_of base) s.pushed ∙ known_push base taken_before s.next in
         let taken_is : records_of more ≡ records_of taken_before ++ record_of s.next ∷ [] = ap records_of s.pushed ∙ records_push taken_before s.next in
-        subst (λ (k : List Record). IsTaken base.view.now base.front.now AtHand k (records_of more) (map queue_of after)) (sym known_is)
-        (subst (λ (out : List Record). IsTaken base.view.now base.front.now AtHand (known_of base taken_before ++ record_of s.next ∷ []) out (map queue_of after)) (sym taken_is) next)
+        subst (λ (k : List Record). IsTaken base.view.now base.front.now Available k (records_of more) (map queue_of after)) (sym known_is)
+        (subst (λ (out : List Record). IsTaken base.view.now base.front.now Available (known_of base taken_before ++ record_of s.next ∷ []) out (map queue_of after)) (sym taken_is) next)
 
     going : GoesOnFrom base.view.now s.old.owner (start base.view.now base.front.now s.old.owner) (log_of s.old.owner (known_of base taken_before) ++ record_of s.next ∷ records_of s.new.queue.items)
     going = subst (λ (q : List Record). GoesOnFrom base.view.now s.old.owner (start base.view.now base.front.now s.old.owner) (log_of s.old.owner (known_of base taken_before) ++ q)) least.first (t.passed.going (queue_of s.old) (to_map queue_of logs s.old old_stands))
@@ -252,12 +252,12 @@ module _ (AtHand : Record → Type 0) (base : Base) (taken_before : List kept.Re
     left_stands : Contains logs s.old
     left_stands = (i, n.1.0.within, s.stands)
 
-    pub left_state : IsTaken base.view.now base.front.now AtHand (known_of base more) (records_of more) (map queue_of after)
+    pub left_state : IsTaken base.view.now base.front.now Available (known_of base more) (records_of more) (map queue_of after)
     left_state =
         let least = is_least base.view.now base.front.now (known_of base taken_before) logs kept_all t.passed i n s.old n.1.0.within s.stands s.first s.queue.0 s.queue.1 in
         let short = subst (λ (a : List Log). IsShortened (map queue_of logs) (map queue_of a) (queue_of s.old) []) (sym s.set) (shortened logs i s.old s.new [] n.1.0.within s.stands s.cleared.owner (ap records_of s.cleared.queue)) in
-        let next = left_out base.view.now base.front.now AtHand (known_of base taken_before) (records_of taken_before) (map queue_of logs) (map queue_of after) (queue_of s.old) (record_of s.first) (records_of s.queue.0) t least short s.missing in
-        subst (λ (m : List kept.Record). IsTaken base.view.now base.front.now AtHand (known_of base m) (records_of m) (map queue_of after)) (sym s.kept_taken) next
+        let next = left_out base.view.now base.front.now Available (known_of base taken_before) (records_of taken_before) (map queue_of logs) (map queue_of after) (queue_of s.old) (record_of s.first) (records_of s.queue.0) t least short s.missing in
+        subst (λ (m : List kept.Record). IsTaken base.view.now base.front.now Available (known_of base m) (records_of m) (map queue_of after)) (sym s.kept_taken) next
 
     left_new : IsKept base.front.now (known_of base taken_before) s.new
     left_new =

@@ -10,9 +10,9 @@ use Rattle.log_model.proofs.Lists.{here, there}
 use Rattle.log_records.specs.declared.batch.Chain.{Chain}
 use Rattle.log_records.specs.Records.{records_of}
 use Rattle.log_records.specs.Kept.{chain_of, chains_of}
-use Rattle.log_model.specs.Fetched.{EndsAt, owner_of}
+use Rattle.log_model.specs.Fetched.{EndsAtStamp, owner_of}
 use Rattle.log_records.specs.Batches.{Batch, IsBatch, Extends, AreApart, owners_in}
-use Rattle.causal_order.specs.AtHand.{IsFetched}
+use Rattle.causal_order.specs.Available.{IsFetched}
 use Rattle.causal_order.specs.Kept.{newest_name}
 use Rattle.causal_order.specs.Started.{HaveOwnOwners}
 use Rattle.causal_order.proofs.Places.{newest_push}
@@ -33,7 +33,7 @@ pub are_fetched : (view : View) (front : Vector) (held : List Record) (cs : List
     → AllByRecursion (λ c. IsFetched view front held c.1) chains → AllByRecursion (λ (c : Chain). IsFetched view front held (records_of c.records)) cs
 are_fetched view front held cs chains e h = each_mapped chain_of (λ (p : Stamp × List Record). IsFetched view front held p.1) cs (subst (AllByRecursion (λ (p : Stamp × List Record). IsFetched view front held p.1)) (sym e) h)
 
-named : (head : Stamp) (chain : List Record) → EndsAt head chain → IfSome (newest_name None chain) (λ name. name ≡ head.name)
+named : (head : Stamp) (chain : List Record) → EndsAtStamp head chain → IfSome (newest_name None chain) (λ name. name ≡ head.name)
 named head chain e = subst (λ o. IfSome o (λ name. name ≡ head.name)) (sym (ap (newest_name None) e.2 ∙ newest_push None e.0 e.1)) (ap (λ (s : Stamp). s.name) e.3)
 
 pub are_named : (b : Batch) (cs : List Chain) → IsBatch b → chains_of cs ≡ b.chains → AllByRecursion (λ (c : Chain). IfSome (newest_name None (records_of c.records)) (λ name. name ≡ c.head.name)) cs

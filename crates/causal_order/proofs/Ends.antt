@@ -17,7 +17,7 @@ use Rattle.log_model.proofs.Lists.{in_cons, in_nothing, each_from, each}
 use Rattle.log_model.proofs.Owners.{records_total}
 use Rattle.log_model.proofs.Sets.{same_list, in_order_ascends, in_order_in, in_order_has, filter_ascends, same_rank_is}
 use Rattle.causal_order.specs.Over.{HasCauses, GoesOnFrom, IsClosed, IsClosedPart}
-use Rattle.causal_order.specs.AtHand.{IsAtHand, IsNewPart}
+use Rattle.causal_order.specs.Available.{IsAvailable, IsNewPart}
 use Rattle.causal_order.proofs.Logs.{ascends_over}
 use Rattle.causal_order.specs.Passing.{Queue, IsLeft, IsTaken, IsBefore}
 use Rattle.causal_order.proofs.Passes.{start, in_log, of_log, causes_weaken}
@@ -41,7 +41,7 @@ one_of_rank (x ∷ xs) h r q cr cq e d = ⊎_elim
 pub tied_back : (r q : Record) → record_cmp r q ≡ Equal → record_cmp q r ≡ Equal
 tied_back r q e = records_total.antisymm q r ∙ ap ordering_reverse e
 
-module _ (view : View) (front : Vector) (AtHand : Record → Type 0) (known out : List Record) (queues : List Queue) (p : IsTaken view front AtHand known out queues) where
+module _ (view : View) (front : Vector) (Available : Record → Type 0) (known out : List Record) (queues : List Queue) (p : IsTaken view front Available known out queues) where
   log_ascends : (owner : PubKey) → IsAscending (log_of owner known)
   log_ascends owner = ascends_over view owner (start view front owner) (log_of owner known) (p.passed.logs owner)
 
@@ -69,7 +69,7 @@ module _ (view : View) (front : Vector) (AtHand : Record → Type 0) (known out 
     causes = each_from (HasCauses view front (in_order known)) (in_order known) (λ r c. causes_weaken view front known (in_order known) r in_order_keeps (each (HasCauses view front known) known r p.passed.causes (in_order_in known r c)));
   }
 
-  pub is_part : ((q : Record) → IsLeft queues q → ⊥) → IsClosedPart view front AtHand (in_order known)
+  pub is_part : ((q : Record) → IsLeft queues q → ⊥) → IsClosedPart view front Available (in_order known)
   is_part none = record {
     part = λ q c. p.hand q (in_order_in known q c);
     closed = is_closed;
@@ -83,17 +83,17 @@ not_held (x ∷ xs) ys h q c d = ⊎_elim
     (λ e. let b = each (IsBefore x) (xs ++ ys) q h.0 (Contains-append_right xs ys q d) in not_before q q (tied_itself records_total q) (subst (λ (y : Record). IsBefore y q) e b))
     (λ f. not_held xs ys h.1 q f d) (in_cons x xs q c)
 
-pub is_fresh : (view : View) (front : Vector) (AtHand : Record → Type 0) (held out : List Record) (queues : List Queue) → IsTaken view front AtHand (held ++ out) out queues → AllByRecursion (λ r. Contains held r → ⊥) out
-is_fresh view front AtHand held out queues p = each_from (λ r. Contains held r → ⊥) out
+pub is_fresh : (view : View) (front : Vector) (Available : Record → Type 0) (held out : List Record) (queues : List Queue) → IsTaken view front Available (held ++ out) out queues → AllByRecursion (λ r. Contains held r → ⊥) out
+is_fresh view front Available held out queues p = each_from (λ r. Contains held r → ⊥) out
     (λ r c d. not_held (log_of r.owner held) (log_of r.owner out)
-    (subst IsAscending (filter-append (λ (x : Record). eq_by_cmp owner_cmp r.owner x.owner) held out) (log_ascends view front AtHand (held ++ out) out queues p r.owner))
+    (subst IsAscending (filter-append (λ (x : Record). eq_by_cmp owner_cmp r.owner x.owner) held out) (log_ascends view front Available (held ++ out) out queues p r.owner))
     r (in_log r.owner held r d refl) (in_log r.owner out r c refl))
 
-pub is_new_part : (view : View) (front : Vector) (held : List Record) (chains : List (List Record)) (out : List Record) (queues : List Queue) → IsTaken view front (IsAtHand view front held chains) (held ++ out) out queues
+pub is_new_part : (view : View) (front : Vector) (held : List Record) (chains : List (List Record)) (out : List Record) (queues : List Queue) → IsTaken view front (IsAvailable view front held chains) (held ++ out) out queues
     → ((q : Record) → IsLeft queues q → ⊥) → IsNewPart view front held chains out
 is_new_part view front held chains out queues p none = record {
   ascending = p.ascending;
-  fresh = is_fresh view front (IsAtHand view front held chains) held out queues p;
-  within = each_from (λ r. Contains (in_order (held ++ out)) r) out (λ r c. in_order_keeps view front (IsAtHand view front held chains) (held ++ out) out queues p r (Contains-append_right held out r c));
-  largest = is_part view front (IsAtHand view front held chains) (held ++ out) out queues p none;
+  fresh = is_fresh view front (IsAvailable view front held chains) held out queues p;
+  within = each_from (λ r. Contains (in_order (held ++ out)) r) out (λ r c. in_order_keeps view front (IsAvailable view front held chains) (held ++ out) out queues p r (Contains-append_right held out r c));
+  largest = is_part view front (IsAvailable view front held chains) (held ++ out) out queues p none;
 }

@@ -11,9 +11,9 @@ use Rattle.log_model.specs.Vector.{Vector, Stamp}
 use Rattle.log_model.specs.Record.{Record}
 use Rattle.log_model.specs.Spelling.{HasSpelling, IsEndOp}
 use Rattle.log_model.specs.Chain.{IsFirst}
-use Rattle.log_model.specs.Fetched.{Edge, owner_of, stamp_in, EndsAt, GoesOnFrom}
+use Rattle.log_model.specs.Fetched.{Edge, owner_of, stamp_in, EndsAtStamp, GoesOnFrom}
 use Rattle.log_records.specs.Batches.{Batch, Extends}
-use Rattle.causal_order.specs.AtHand.{held_to, BeginsBy, IsLinked, IsFetched}
+use Rattle.causal_order.specs.Available.{held_to, BeginsBy, IsLinked, IsFetched}
 use Rattle.causal_order.specs.Laws.{BatchesAreFetched}
 
 end_is : (o : Op) → IsEndOp o → o ≡ op.End
@@ -31,11 +31,11 @@ end_is op.End h = refl
 opens : (r : Record) → HasSpelling r → r.seq ≡ 1 → IsFirst r
 opens r h one = record { seq = one; ends = end_is r.op (h.ends_first.0 one); prev = (h.first_alone one).0; vector = (h.first_alone one).1 }
 
-nothing_ends : (t : Stamp) → EndsAt t [] → ⊥
+nothing_ends : (t : Stamp) → EndsAtStamp t [] → ⊥
 nothing_ends t ([], last, is, same) = cc
 nothing_ends t (b ∷ before, last, is, same) = cc
 
-linked : (view : View) (t : Stamp) (held : Option Stamp) (edge : Option Edge) (chain : List Record) → EndsAt t chain → GoesOnFrom view held edge chain → IsLinked view chain
+linked : (view : View) (t : Stamp) (held : Option Stamp) (edge : Option Edge) (chain : List Record) → EndsAtStamp t chain → GoesOnFrom view held edge chain → IsLinked view chain
 linked view t held edge [] ends goes = nothing_ends t ends
 linked view t held edge (r ∷ rs) ends goes = (goes.0, opens r goes.0.spelled, goes.3)
 

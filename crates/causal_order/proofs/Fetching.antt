@@ -3,11 +3,11 @@ use Rattle.std.proofs.Common.{◌≡◌, ℕ, ◌+◌, ◌≤◌, List, [], ◌�
 use Rattle.log_model.specs.View.{View}
 use Rattle.log_model.specs.Vector.{Vector, Stamp, reach}
 use Rattle.log_model.specs.Record.{Record}
-use Rattle.log_model.specs.Fetched.{Edge, owner_of, stamp_in, EndsAt, IsSound, GoesOnFrom}
-use Rattle.causal_order.specs.AtHand.{IsLinked, BeginsBy, IsFetched, held_to}
+use Rattle.log_model.specs.Fetched.{Edge, owner_of, stamp_in, EndsAtStamp, IsSound, GoesOnFrom}
+use Rattle.causal_order.specs.Available.{IsLinked, BeginsBy, IsFetched, held_to}
 
 module _ (view : View) (n : ℕ) (edge : Option Edge) where
-  linked : (o : Option Stamp) (chain : List Record) (head : Stamp) → GoesOnFrom view o edge chain → EndsAt head chain → ((s : Stamp) → o ≡ Some s → 1 ≤ s.seq) → IsLinked view chain
+  linked : (o : Option Stamp) (chain : List Record) (head : Stamp) → GoesOnFrom view o edge chain → EndsAtStamp head chain → ((s : Stamp) → o ≡ Some s → 1 ≤ s.seq) → IsLinked view chain
   linked o [] head g e some = absurd (empty e.0 e.1 e.2)
     where
       empty : (before : List Record) (last : Record) → [] ≡ before ++ last ∷ [] → ⊥

@@ -9,7 +9,7 @@ use Rattle.version_vectors.specs.Ranks.{rank_of}
 use Rattle.log_records.specs.declared.record.Record as kept
 use Rattle.log_records.specs.Records.{records_of}
 use Rattle.causal_order.specs.Passing.{IsLeft, IsTaken}
-use Rattle.causal_order.specs.AtHand.{IsAtHand, IsNewPart}
+use Rattle.causal_order.specs.Available.{IsAvailable, IsNewPart}
 use Rattle.causal_order.specs.declared.base.Base.{Base}
 use Rattle.causal_order.specs.declared.log.Log.{Log}
 use Rattle.causal_order.specs.Kept.{IsKept, AreKept, IsNext, IsSeenAt, HaveNone, IsGoing, left_in, known_of, queue_of, first_rank}
@@ -17,19 +17,19 @@ use Rattle.causal_order.proofs.Ends.{is_new_part}
 use Rattle.causal_order.proofs.Meeting.{from_map}
 use Rattle.causal_order.proofs.Advancing.{taken_state, taken_kept, taken_owners, left_state, left_kept, left_owners}
 
-pub are_kept : (base : Base) (AtHand : Record → Type 0) (logs : List Log) (taken : List kept.Record) → IsGoing base AtHand logs taken → AreKept base.view.now base.front.now (known_of base taken) logs
-are_kept base AtHand logs taken g = record { kept = g.kept; owners = g.owners; passed = g.passing.passed }
+pub are_kept : (base : Base) (Available : Record → Type 0) (logs : List Log) (taken : List kept.Record) → IsGoing base Available logs taken → AreKept base.view.now base.front.now (known_of base taken) logs
+are_kept base Available logs taken g = record { kept = g.kept; owners = g.owners; passed = g.passing.passed }
 
-pub goes_on : (base : Base) (AtHand : Record → Type 0) (logs : List Log) (taken : List kept.Record) (after : List Log) (more : List kept.Record) (i : ℕ) → IsNext logs i → IsGoing base AtHand logs taken → IsSeenAt base logs taken after more i → IsGoing base AtHand after more
-goes_on base AtHand logs taken after more i n g (inl s) = record {
-  kept = taken_kept AtHand base taken logs i n g.kept g.owners g.passing after more s;
-  owners = taken_owners AtHand base taken logs i n g.kept g.owners g.passing after more s;
-  passing = taken_state AtHand base taken logs i n g.kept g.owners g.passing after more s;
+pub goes_on : (base : Base) (Available : Record → Type 0) (logs : List Log) (taken : List kept.Record) (after : List Log) (more : List kept.Record) (i : ℕ) → IsNext logs i → IsGoing base Available logs taken → IsSeenAt base logs taken after more i → IsGoing base Available after more
+goes_on base Available logs taken after more i n g (inl s) = record {
+  kept = taken_kept Available base taken logs i n g.kept g.owners g.passing after more s;
+  owners = taken_owners Available base taken logs i n g.kept g.owners g.passing after more s;
+  passing = taken_state Available base taken logs i n g.kept g.owners g.passing after more s;
 }
-goes_on base AtHand logs taken after more i n g (inr s) = record {
-  kept = left_kept AtHand base taken logs i n g.kept g.owners g.passing after more s;
-  owners = left_owners AtHand base taken logs i n g.kept g.owners g.passing after more s;
-  passing = left_state AtHand base taken logs i n g.kept g.owners g.passing after more s;
+goes_on base Available logs taken after more i n g (inr s) = record {
+  kept = left_kept Available base taken logs i n g.kept g.owners g.passing after more s;
+  owners = left_owners Available base taken logs i n g.kept g.owners g.passing after more s;
+  passing = left_state Available base taken logs i n g.kept g.owners g.passing after more s;
 }
 
 -- each step sees a record more
@@ -58,20 +58,20 @@ none_left base taken logs kept none q left =
     by [] e c = in_nothing q c
     by (r ∷ rs) e c = cc
 
-pub is_whole : (base : Base) (chains : List (List Record)) (logs : List Log) (taken : List kept.Record) → IsGoing base (IsAtHand base.view.now base.front.now (records_of base.held.now) chains) logs taken → HaveNone logs
+pub is_whole : (base : Base) (chains : List (List Record)) (logs : List Log) (taken : List kept.Record) → IsGoing base (IsAvailable base.view.now base.front.now (records_of base.held.now) chains) logs taken → HaveNone logs
     → IsNewPart base.view.now base.front.now (records_of base.held.now) chains (records_of taken)
 is_whole base chains logs taken g none = is_new_part base.view.now base.front.now (records_of base.held.now) chains (records_of taken) (map queue_of logs) g.passing (none_left base taken logs g.kept none)
 
 -- the state as the pass begins
 pub begins : (base : Base) (chains chains_too : List (List Record)) (logs_made logs : List Log) (taken : List kept.Record) → chains_too ≡ chains → logs ≡ logs_made → taken ≡ []
     → AreKept base.view.now base.front.now (known_of base []) logs_made
-    → IsTaken base.view.now base.front.now (IsAtHand base.view.now base.front.now (records_of base.held.now) chains_too) (known_of base []) [] (map queue_of logs_made)
-    → IsGoing base (IsAtHand base.view.now base.front.now (records_of base.held.now) chains) logs taken
+    → IsTaken base.view.now base.front.now (IsAvailable base.view.now base.front.now (records_of base.held.now) chains_too) (known_of base []) [] (map queue_of logs_made)
+    → IsGoing base (IsAvailable base.view.now base.front.now (records_of base.held.now) chains) logs taken
 begins base chains chains_too logs_made logs taken same is none begun passing =
-    subst (λ (ls : List Log). IsGoing base (IsAtHand base.view.now base.front.now (records_of base.held.now) chains) ls taken) (sym is)
-    (subst (λ (t : List kept.Record). IsGoing base (IsAtHand base.view.now base.front.now (records_of base.held.now) chains) logs_made t) (sym none)
+    subst (λ (ls : List Log). IsGoing base (IsAvailable base.view.now base.front.now (records_of base.held.now) chains) ls taken) (sym is)
+    (subst (λ (t : List kept.Record). IsGoing base (IsAvailable base.view.now base.front.now (records_of base.held.now) chains) logs_made t) (sym none)
     (record {
       kept = begun.kept;
       owners = begun.owners;
-      passing = subst (λ (cs : List (List Record)). IsTaken base.view.now base.front.now (IsAtHand base.view.now base.front.now (records_of base.held.now) cs) (known_of base []) [] (map queue_of logs_made)) same passing;
+      passing = subst (λ (cs : List (List Record)). IsTaken base.view.now base.front.now (IsAvailable base.view.now base.front.now (records_of base.held.now) cs) (known_of base []) [] (map queue_of logs_made)) same passing;
     }))

@@ -1,4 +1,4 @@
--- A log behind the front: its numbers, its beginnings, and what precedes each of its records.
+-- A log after the front: its numbers, its beginnings, and what precedes each of its records.
 use Rattle.std.proofs.Common.{◌≡◌, ◌⊎◌, inl, inr, ⊎_elim, ℕ, ◌+◌, ◌<◌, List, [], ◌∷◌, ◌++◌, sym, ap, ◌∙◌, subst, arith, Option, Some, None, Contains}
 use Rattle.std.specs.List.{AllByRecursion}
 use Rattle.ivy_base.specs.declared.key.PubKey.{PubKey}
@@ -14,7 +14,7 @@ use Rattle.log_model.proofs.Part.{Numbered, numbered, chain_front, chain_good, P
 use Rattle.log_model.proofs.Sets.{IsBefore, lighter_is_before, chain_ascends}
 use Rattle.causal_order.specs.Over.{GoesOnFrom}
 
--- ---- behind one record
+-- ---- after one record
 
 pub numbers_after : (view : View) (owner : PubKey) (p : Record) (n : ℕ) (rs : List Record) → n ≡ p.seq + 1 → GoesOn view owner p rs → Numbered n rs
 numbers_after view owner p n [] e g = tt
@@ -45,7 +45,7 @@ ascends_after : (view : View) (owner : PubKey) (p : Record) (rs : List Record) �
 ascends_after view owner p [] good g = (tt, tt)
 ascends_after view owner p (r ∷ rs) good g = (each_from (IsBefore p) (r ∷ rs) (λ q c. lighter_is_before p q (each (λ q. weight p < weight q) (r ∷ rs) q (heavier_after view owner p (r ∷ rs) good g) c)), ascends_after view owner r rs g.0 g.2)
 
--- ---- behind a stamp, or from the first record on
+-- ---- after a stamp, or from the first record on
 
 module _ (view : View) (owner : PubKey) where
   pub numbers_over : (o : Option Stamp) (rs : List Record) → GoesOnFrom view owner o rs → Numbered (reach o + 1) rs

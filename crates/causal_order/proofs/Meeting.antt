@@ -103,7 +103,7 @@ module _ (view : View) (front : Vector) (known : List Record) (logs : List Log) 
         let seq : c.seq ≡ e.1.seq = ap (λ (x : Entry). x.1.seq) cited in
         omega (arith, above, base, seq, low)
 
-    -- and what is behind it isn't under it
+    -- and what is after it isn't under it
     pub not_under : l.base < e.1.seq → IsUnder front e → ⊥
     not_under high (inl below) = let b = base_of in omega (arith, b, high, below)
     not_under high (inr own) = let b = base_of in let r : seq_of front e.0 ≡ e.1.seq = ap reach own in omega (arith, b, high, r)

@@ -12,13 +12,13 @@ use Rattle.log_records.specs.declared.record.Record as kept
 use Rattle.log_records.specs.declared.batch.Chain.{Chain}
 use Rattle.log_records.specs.Records.{records_of}
 use Rattle.causal_order.specs.Over.{IsClosed, IsClosedPart}
-use Rattle.causal_order.specs.AtHand.{IsAtHand, IsNewPart}
+use Rattle.causal_order.specs.Available.{IsAvailable, IsNewPart}
 
 module _ (view : View) (front : Vector) (held : List Record) (closed : IsClosed view front held) where
-  is_held : (r : Record) → IsAtHand view front held [] r → Contains held r
+  is_held : (r : Record) → IsAvailable view front held [] r → Contains held r
   is_held r hand = ⊎_elim (λ c. c) (λ chain. absurd (in_nothing chain.0 chain.1)) hand
 
-  held_is_part : IsClosedPart view front (IsAtHand view front held []) held
+  held_is_part : IsClosedPart view front (IsAvailable view front held []) held
   held_is_part = record {
     part = λ r c. inl c;
     closed = closed;
@@ -33,7 +33,7 @@ module _ (view : View) (front : Vector) (held : List Record) (closed : IsClosed 
     ascending = tt;
     fresh = tt;
     within = tt;
-    largest = subst (IsClosedPart view front (IsAtHand view front held [])) (sym same) held_is_part;
+    largest = subst (IsClosedPart view front (IsAvailable view front held [])) (sym same) held_is_part;
   }
 
   pub nothing_new : (chains : List Chain) (out : List kept.Record) (len : ℕ) → len ≡ length chains → nat_eq len 0 ≡ true → out ≡ [] → IsNewPart view front held (map (λ (c : Chain). records_of c.records) chains) (records_of out)

@@ -1,4 +1,4 @@
--- The records of a log by their places: each by its number, and the name of each from the one behind it.
+-- The records of a log by their places: each by its number, and the name of each from the one after it.
 use Rattle.std.proofs.Common.{◌≡◌, ℕ, zero, suc, ◌+◌, ◌-◌, ◌<◌, List, [], ◌∷◌, ◌++◌, length, get_or, refl, sym, ap, ◌∙◌, subst, arith, Option, Some, None, Contains, length-append}
 use Rattle.std.specs.Prelude.{nat_eq, true}
 use Rattle.std.specs.Cmp.Lexicographic.{pointwise}
@@ -125,16 +125,16 @@ key_itself a b e = sym (same_key_answer a b) ∙ subst (λ (k : Key). same_key a
 pub known_length : (base : Base) (taken : List kept.Record) → length (known_of base taken) ≡ length base.held.now + length taken
 known_length base taken = length-append (records_of base.held.now) (records_of taken) ∙ (rw (length-map base.held.now record_of, length-map taken record_of) refl)
 
-module _ (view : View) (owner : PubKey) (o : Option Stamp) (log : List Record) (seq base i : ℕ) (chain : GoesOnFrom view owner o log) (behind : base < seq) (start : base ≡ reach o) (index : i ≡ seq - base - 1) where
+module _ (view : View) (owner : PubKey) (o : Option Stamp) (log : List Record) (seq base i : ℕ) (chain : GoesOnFrom view owner o log) (after : base < seq) (start : base ≡ reach o) (index : i ≡ seq - base - 1) where
   -- the record of that number is the one of the index
   pub seq_at : (r : Record) → IsAt log i r → r.seq ≡ seq
-  seq_at r at = let e = number_at (reach o + 1) log i r (numbers_over view owner o log chain) at in omega (arith, e, behind, start, index)
+  seq_at r at = let e = number_at (reach o + 1) log i r (numbers_over view owner o log chain) at in omega (arith, e, after, start, index)
 
   pub index_of : (r : Record) → Contains log r → r.seq ≡ seq → IsAt log i r
   index_of r c e =
       let w = stands_at log r c in
       let n = number_at (reach o + 1) log w.0 r (numbers_over view owner o log chain) w.1 in
-      subst (λ (k : ℕ). IsAt log k r) (omega (arith, n, e, behind, start, index)) w.1
+      subst (λ (k : ℕ). IsAt log k r) (omega (arith, n, e, after, start, index)) w.1
 
 pub base_is : (front : Vector) (known : List Record) (l : Log) → IsKept front known l → l.base ≡ reach (stamp_at front (head_key_of l.owner))
 base_is front known l h = h.base ∙ ap (λ (k : Key). seq_of front k) h.key

@@ -21,7 +21,7 @@ use Rattle.version_vectors.specs.Ranks.{rank_of}
 use Rattle.log_records.specs.Records.{records_of}
 use Rattle.log_model.specs.Fetched.{owner_of}
 use Rattle.causal_order.specs.Over.{GoesOnFrom, IsChainOver}
-use Rattle.causal_order.specs.AtHand.{IsLinked, BeginsBy, IsFetched, Extends, above, news, held_to}
+use Rattle.causal_order.specs.Available.{IsLinked, BeginsBy, IsFetched, Extends, above, news, held_to}
 use Rattle.causal_order.specs.declared.log.Log.{Log}
 use Rattle.causal_order.specs.Kept.{IsKept, newest_name, first_rank}
 use Rattle.causal_order.specs.Started.{Joins, HasQueued}

@@ -20,7 +20,7 @@ use Rattle.log_records.specs.Records.{record_of}
 use Rattle.log_records.specs.Records.{records_of}
 use Rattle.log_model.specs.Fetched.{owner_of}
 use Rattle.causal_order.specs.Over.{GoesOnFrom, IsChainOver, IsClosed}
-use Rattle.causal_order.specs.AtHand.{IsLinked, IsFetched, Extends, IsAtHand, news, held_to}
+use Rattle.causal_order.specs.Available.{IsLinked, IsFetched, Extends, IsAvailable, news, held_to}
 use Rattle.causal_order.specs.Passing.{Queue, AreApart, IsLeft, IsPassed, IsTaken}
 use Rattle.causal_order.specs.declared.log.Log.{Log}
 use Rattle.log_records.specs.declared.batch.Chain.{Chain}
@@ -181,9 +181,9 @@ module _ (view : View) (front : Vector) (held : List Record) where
       passed = passed;
     }
 
-    -- what is left is at hand
-    left_at_hand : (q : Record) → IsLeft (map queue_of logs) q → IsAtHand view front held chains q
-    left_at_hand q left =
+    -- what is left is available
+    left_available : (q : Record) → IsLeft (map queue_of logs) q → IsAvailable view front held chains q
+    left_available q left =
         let w = from_map queue_of logs left.queue left.stands in
         let h = queued_in w.0 w.1 in
         let stands : Contains (records_of w.0.queue.items) q = subst (λ (m : Queue). Contains m.left q) (sym w.2) left.left in
@@ -191,21 +191,21 @@ module _ (view : View) (front : Vector) (held : List Record) where
         let own : w.0.owner ≡ q.owner = sym (over_owner w.0.owner (records_of w.0.queue.items) q h.going stands) in
         inr (d.0, d.1, subst (λ (o : PubKey). Extends view front held o d.0) own d.2, subst (λ (o : PubKey). Contains (news front held o d.0) q) own d.3)
 
-    -- what is at hand of a member's log is held or left
-    seen_at_hand : (q : Record) → Contains view.members q.owner → IsAtHand view front held chains q → Contains held q ⊎ IsLeft (map queue_of logs) q
-    seen_at_hand q member (inl c) = inl c
-    seen_at_hand q member (inr d) =
+    -- what is available of a member's log is held or left
+    seen_available : (q : Record) → Contains view.members q.owner → IsAvailable view front held chains q → Contains held q ⊎ IsLeft (map queue_of logs) q
+    seen_available q member (inl c) = inl c
+    seen_available q member (inr d) =
         let w = from_map (λ (l : Log). l.owner) logs q.owner (subst (λ (os : List PubKey). Contains os q.owner) (sym owners) member) in
         let own : q.owner ≡ w.0.owner = sym w.2 in
         let left : Contains (records_of w.0.queue.items) q = (queued_in w.0 w.1).all d.0 d.1 (subst (λ (o : PubKey). Extends view front held o d.0) own d.2) q (subst (λ (o : PubKey). Contains (news front held o d.0) q) own d.3) in
         inr (record { queue = queue_of w.0; stands = to_map queue_of logs w.0 w.1; left = left })
 
-    pub taken_held : IsTaken view front (IsAtHand view front held chains) held [] (map queue_of logs)
+    pub taken_held : IsTaken view front (IsAvailable view front held chains) held [] (map queue_of logs)
     taken_held = record {
       passed = passed;
       hand = λ q c. inl c;
-      left_hand = left_at_hand;
-      seen = λ t within_closed within q c. seen_at_hand q (each (λ r. Contains view.members r.owner) t q within_closed.members c) (within q c);
+      left_hand = left_available;
+      seen = λ t within_closed within q c. seen_available q (each (λ r. Contains view.members r.owner) t q within_closed.members c) (within q c);
       ascending = tt;
       below = λ q x c l. absurd (in_nothing q c);
     }
@@ -213,8 +213,8 @@ module _ (view : View) (front : Vector) (held : List Record) where
     pub kept_start : AreKept view front (held ++ []) logs
     kept_start = subst (λ (known : List Record). AreKept view front known logs) (sym (append-nil held)) kept_held
 
-    pub taken_start : IsTaken view front (IsAtHand view front held chains) (held ++ []) [] (map queue_of logs)
-    taken_start = subst (λ (known : List Record). IsTaken view front (IsAtHand view front held chains) known [] (map queue_of logs)) (sym (append-nil held)) taken_held
+    pub taken_start : IsTaken view front (IsAvailable view front held chains) (held ++ []) [] (map queue_of logs)
+    taken_start = subst (λ (known : List Record). IsTaken view front (IsAvailable view front held chains) known [] (map queue_of logs)) (sym (append-nil held)) taken_held
 
 -- a log of that owner there is
 pub no_log : (logs : List Log) (owner other : PubKey) → owner ≡ other → Contains (map (λ l. l.owner) logs) other → All (λ l. l.owner ≡ owner → ⊥) logs → ⊥

@@ -22,7 +22,7 @@ use Rattle.log_records.specs.declared.record.Record as kept
 use Rattle.log_records.specs.Records.{record_of}
 use Rattle.log_records.specs.Records.{records_of}
 use Rattle.causal_order.specs.Over.{GoesOnFrom}
-use Rattle.causal_order.specs.AtHand.{IsLinked, above}
+use Rattle.causal_order.specs.Available.{IsLinked, above}
 use Rattle.causal_order.specs.Kept.{IsAt, AreAt, newest_name}
 use Rattle.causal_order.specs.Started.{NamesNewest, KnowsNewest, Joins}
 use Rattle.causal_order.proofs.Logs.{good_over, numbers_after}
@@ -166,7 +166,7 @@ above_less n r rs le = by (nat_lt n r.seq) refl
     by true e = absurd (let lt = ltb-true n r.seq e in omega (arith, lt, le))
     by false e = refl
 
--- the first of the queue is let go
+-- the first of the queue is dropped
 pub let_go : (view : View) (n : ℕ) (old new : List kept.Record) (o : Option kept.Record) (first : kept.Record) → old ≡ option_to_list o ++ new → first ≡ get_or old 0 first → first.seq ≤ n
     → IsOnward view (records_of old) → (above n (records_of old) ≡ above n (records_of new)) × IsOnward view (records_of new)
 let_go view n old new None first e f le onward = (ap (λ (xs : List kept.Record). above n (records_of xs)) e, subst (λ (xs : List kept.Record). IsOnward view (records_of xs)) e onward)

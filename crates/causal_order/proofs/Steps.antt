@@ -52,7 +52,7 @@ ascends_push [] r h before = (tt, tt)
 ascends_push (x ∷ xs) r h before =
     (each_append (IsBefore x) xs (r ∷ []) h.0 (before x (here x xs), tt), ascends_push xs r h.1 (λ q c. before q (there x xs q c)))
 
-module _ (view : View) (front : Vector) (AtHand : Record → Type 0) where
+module _ (view : View) (front : Vector) (Available : Record → Type 0) where
   module _ (queues after : List Queue) (k : Queue) (rest : List Record) (apart : AreApart queues) (h : IsShortened queues after k rest) where
     new_queue : Queue
     new_queue = record { owner = k.owner; left = rest }
@@ -104,7 +104,7 @@ module _ (view : View) (front : Vector) (AtHand : Record → Type 0) where
   -- ---- the least record is taken
 
   module _ (known out : List Record) (queues after : List Queue) (k : Queue) (r : Record) (rest : List Record)
-      (p : IsTaken view front AtHand known out queues) (f : IsLeast queues k r rest) (h : IsShortened queues after k rest) where
+      (p : IsTaken view front Available known out queues) (f : IsLeast queues k r rest) (h : IsShortened queues after k rest) where
     apart : AreApart queues
     apart = p.passed.apart
 
@@ -159,7 +159,7 @@ module _ (view : View) (front : Vector) (AtHand : Record → Type 0) where
         (λ g. record { queue = l.queue; stands = g.0; left = l.left })
         (from_after queues after k rest apart h l.queue l.stands)
 
-    -- r is before all that is left behind it
+    -- r is before all that is left after it
     below_left : (q : Record) → IsLeft after q → IsBefore r q
     below_left q l = ⊎_elim
         (λ e. each (IsBefore r) rest q (ascends_after) (subst (λ (m : Queue). Contains m.left q) e l.left))
@@ -170,7 +170,7 @@ module _ (view : View) (front : Vector) (AtHand : Record → Type 0) where
         ascends_after : AllByRecursion (IsBefore r) rest
         ascends_after = (ascends_right (log_of k.owner known) (r ∷ rest) (ascends_over view k.owner (start view front k.owner) (log_of k.owner known ++ r ∷ rest) (going view front known queues p.passed k r rest f))).0
 
-    pub taken : HasCauses view front known r → IsTaken view front AtHand (known ++ r ∷ []) (out ++ r ∷ []) after
+    pub taken : HasCauses view front known r → IsTaken view front Available (known ++ r ∷ []) (out ++ r ∷ []) after
     taken causes = record {
       passed = record {
         logs = logs_after;
@@ -182,7 +182,7 @@ module _ (view : View) (front : Vector) (AtHand : Record → Type 0) where
             (each_from (HasCauses view front (known ++ r ∷ [])) known (λ q c. causes_weaken view front known (known ++ r ∷ []) q (λ x d. Contains-append_left known (r ∷ []) x d) (each (HasCauses view front known) known q p.passed.causes c)))
             (causes_weaken view front known (known ++ r ∷ []) r (λ x d. Contains-append_left known (r ∷ []) x d) causes, tt);
       };
-      hand = λ q c. ⊎_elim (λ d. p.hand q d) (λ e. subst AtHand e (p.left_hand r (record { queue = k; stands = f.stands; left = subst (λ (xs : List Record). Contains xs r) (sym f.first) (here r rest) }))) (Contains-push_cases known r q c);
+      hand = λ q c. ⊎_elim (λ d. p.hand q d) (λ e. subst Available e (p.left_hand r (record { queue = k; stands = f.stands; left = subst (λ (xs : List Record). Contains xs r) (sym f.first) (here r rest) }))) (Contains-push_cases known r q c);
       left_hand = λ q l. p.left_hand q (was_left q l);
       seen = λ t closed within q c. keeps q (p.seen t closed within q c);
       ascending = ascends_push out r p.ascending (λ q c. p.below q r c (record { queue = k; stands = f.stands; left = subst (λ (xs : List Record). Contains xs r) (sym f.first) (here r rest) }));
@@ -192,7 +192,7 @@ module _ (view : View) (front : Vector) (AtHand : Record → Type 0) where
   -- ---- the least record is left out, with its log
 
   module _ (known out : List Record) (queues after : List Queue) (k : Queue) (r : Record) (rest : List Record)
-      (p : IsTaken view front AtHand known out queues) (f : IsLeast queues k r rest) (h : IsShortened queues after k []) where
+      (p : IsTaken view front Available known out queues) (f : IsLeast queues k r rest) (h : IsShortened queues after k []) where
     fewer_left : (q : Record) → IsLeft after q → IsLeft queues q
     fewer_left q l = ⊎_elim
         (λ e. absurd (in_nothing q (subst (λ (m : Queue). Contains m.left q) e l.left)))
@@ -206,7 +206,7 @@ module _ (view : View) (front : Vector) (AtHand : Record → Type 0) where
         (λ g. p.passed.going l g.0)
         (from_after queues after k [] p.passed.apart h l c)
 
-    still_seen : (HasCauses view front known r → ⊥) → (t : List Record) → IsClosed view front t → ((q : Record) → Contains t q → AtHand q) → IsSeen known after t
+    still_seen : (HasCauses view front known r → ⊥) → (t : List Record) → IsClosed view front t → ((q : Record) → Contains t q → Available q) → IsSeen known after t
     still_seen missing t closed within q c = by (p.seen t closed within q c)
       where
         never : Contains t r → ⊥
@@ -221,7 +221,7 @@ module _ (view : View) (front : Vector) (AtHand : Record → Type 0) where
             (λ d. inr (record { queue = l.queue; stands = d; left = l.left }))
             (to_after queues after k [] p.passed.apart h l.queue l.stands)
 
-    pub left_out : (HasCauses view front known r → ⊥) → IsTaken view front AtHand known out after
+    pub left_out : (HasCauses view front known r → ⊥) → IsTaken view front Available known out after
     left_out missing = record {
       passed = record {
         logs = p.passed.logs;

@@ -87,7 +87,7 @@ pub record IsAdvanced (old new : Log) (place : ℕ) (r : kept.Record) : Type 0 w
   pub tip : new.tip ≡ Some (name_before (records_of new.queue.items) new.last)
   pub next : option_map rank_of new.next ≡ first_rank (records_of new.queue.items)
 
--- what was left in the log's queue was let go
+-- what was left in the log's queue was dropped
 pub record IsCleared (old new : Log) : Type 0 where
   pub owner : new.owner ≡ old.owner
   pub key : new.key ≡ old.key
@@ -170,7 +170,7 @@ left_in [] = 0
 left_in (l ∷ logs) = length l.queue.items + left_in logs
 
 -- the state of the pass between two steps
-pub record IsGoing (base : Base) (AtHand : Record → Type 0) (logs : List Log) (taken : List kept.Record) : Type 0 where
+pub record IsGoing (base : Base) (Available : Record → Type 0) (logs : List Log) (taken : List kept.Record) : Type 0 where
   pub kept : All (IsKept base.front.now (known_of base taken)) logs
   pub owners : map (λ l. l.owner) logs ≡ base.view.now.members
-  pub passing : IsTaken base.view.now base.front.now AtHand (known_of base taken) (records_of taken) (map queue_of logs)
+  pub passing : IsTaken base.view.now base.front.now Available (known_of base taken) (records_of taken) (map queue_of logs)

@@ -14,9 +14,9 @@ use Rattle.log_model.specs.Replay.{in_order}
 use Rattle.log_model.specs.Fetched.{Edge, owner_of}
 use Rattle.log_records.specs.Batches.{Batch, IsBatch, AreUnder}
 use Rattle.causal_order.specs.Over.{IsClosed, IsClosedPart}
-use Rattle.causal_order.specs.AtHand.{held_to, BeginsBy, IsFetched}
+use Rattle.causal_order.specs.Available.{held_to, BeginsBy, IsFetched}
 
--- Over the empty front closed sets, and closed parts of records at hand, are those of `log_model`.
+-- Over the empty front closed sets, and closed parts of available records, are those of `log_model`.
 abbrev pub FreshIsPlain : Type 0
 FreshIsPlain = (view : View) (s : List Record) → IsClosed view [] s ↔ log.IsClosed view s
 

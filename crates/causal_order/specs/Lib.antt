@@ -1,5 +1,5 @@
 pub mod Over
-pub mod AtHand
+pub mod Available
 pub mod Laws
 pub mod Passing
 pub mod Kept

@@ -28,26 +28,26 @@ pub record ComesNext (view : View) (owner : PubKey) (s : Stamp) (r : Record) : T
   pub seq : r.seq ≡ s.seq + 1
   pub prev : r.prev ≡ s.name
 
--- the owner's records behind that stamp, or from the first one on
+-- the owner's records after that stamp, or from the first one on
 abbrev pub GoesOnFrom : View → PubKey → Option Stamp → List Record → Type 0
 GoesOnFrom view owner None rs = IsChain view owner rs
 GoesOnFrom view owner (Some s) [] = Unit {0}
 GoesOnFrom view owner (Some s) (r ∷ rs) = ComesNext view owner s r × GoesOn view owner r rs
 
--- the owner's log, behind the front
+-- the owner's log, after the front
 abbrev pub IsChainOver : View → Vector → PubKey → List Record → Type 0
 IsChainOver view front owner rs = GoesOnFrom view owner (stamp_at front (head_key_of owner)) rs
 
--- a set of records, in ascending order: of each member's log the beginning behind the front, and with each record its causes
+-- a set of records, in ascending order: of each member's log the beginning after the front, and with each record its causes
 pub record IsClosed (view : View) (front : Vector) (s : List Record) : Type 0 where
   pub ascending : IsAscending s
   pub members : AllByRecursion (λ r. Contains view.members r.owner) s
   pub chains : (owner : PubKey) → IsChainOver view front owner (log_of owner s)
   pub causes : AllByRecursion (HasCauses view front s) s
 
--- the largest closed part of what is at hand: each closed part of it is in this one
-pub record IsClosedPart (view : View) (front : Vector) (AtHand : Record → Type 0) (s : List Record) : Type 0 where
-  pub part : (r : Record) → Contains s r → AtHand r
+-- the largest closed part of what is available: each closed part of it is in this one
+pub record IsClosedPart (view : View) (front : Vector) (Available : Record → Type 0) (s : List Record) : Type 0 where
+  pub part : (r : Record) → Contains s r → Available r
   pub closed : IsClosed view front s
-  pub largest : (t : List Record) → ((r : Record) → Contains t r → AtHand r) → IsClosed view front t → (r : Record) → Contains t r
+  pub largest : (t : List Record) → ((r : Record) → Contains t r → Available r) → IsClosed view front t → (r : Record) → Contains t r
       → Contains s r

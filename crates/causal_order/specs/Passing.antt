@@ -48,12 +48,13 @@ pub record IsPassed (view : View) (front : Vector) (known : List Record) (queues
   pub members : AllByRecursion (λ r. Contains view.members r.owner) known
   pub causes : AllByRecursion (HasCauses view front known) known
 
--- what was taken, of it the new records, what is left, and that no closed set at hand has anything else
-pub record IsTaken (view : View) (front : Vector) (AtHand : Record → Type 0) (known out : List Record) (queues : List Queue) : Type 0 where
+-- what was taken, of it the new records, what is left, and that no available closed set has anything else
+pub record IsTaken (view : View) (front : Vector) (Available : Record → Type 0) (known out : List Record)
+    (queues : List Queue) : Type 0 where
   pub passed : IsPassed view front known queues
-  pub hand : (q : Record) → Contains known q → AtHand q
-  pub left_hand : (q : Record) → IsLeft queues q → AtHand q
-  pub seen : (t : List Record) → IsClosed view front t → ((q : Record) → Contains t q → AtHand q) → IsSeen known queues t
+  pub hand : (q : Record) → Contains known q → Available q
+  pub left_hand : (q : Record) → IsLeft queues q → Available q
+  pub seen : (t : List Record) → IsClosed view front t → ((q : Record) → Contains t q → Available q) → IsSeen known queues t
   pub ascending : IsAscending out
   pub below : (q x : Record) → Contains out q → IsLeft queues x → IsBefore q x
 

@@ -10,7 +10,7 @@ use Rattle.log_model.specs.Closed.{log_of}
 use Rattle.log_model.specs.Fetched.{owner_of}
 use Rattle.log_records.specs.Records.{records_of}
 use Rattle.causal_order.specs.Over.{IsChainOver}
-use Rattle.causal_order.specs.AtHand.{news, Extends}
+use Rattle.causal_order.specs.Available.{news, Extends}
 use Rattle.causal_order.specs.declared.log.Log.{Log}
 use Rattle.causal_order.specs.Kept.{IsKept}
 

@@ -19,10 +19,10 @@
 //! `causes` tests one record. Each cause and each record before it in its log weighs less, so each record
 //! needs to be seen only once.
 //!
-//! Definitions: `specs/Over.antt` (closed sets over a front), `specs/AtHand.antt` (what the part is taken of,
-//! and the result), `specs/Laws.antt`. `specs/Passing.antt`, `specs/Kept.antt` and `specs/Started.antt` serve
-//! the functions inside. For callers `proofs/Fetching.antt` has that a chain which a batch took is one of
-//! which a closed part may be taken.
+//! Definitions: `specs/Over.antt` (closed sets over a front), `specs/Available.antt` (what the part is taken
+//! of, and the result), `specs/Laws.antt`. `specs/Passing.antt`, `specs/Kept.antt` and `specs/Started.antt`
+//! serve the functions inside. For callers `proofs/Fetching.antt` has that a chain which a batch took is one
+//! of which a closed part may be taken.
 //!
 //! Costs, for n new records that cite up to v logs, with m members and h held records:
 //! - n m steps to find the least next ones, and m h to set out what is held;

@@ -26,7 +26,7 @@ pub struct Log {
     pub key: Key,
     /// The number of the front's record; 0 where the front has none.
     pub base: u32,
-    /// The places of the log's records among all that are known, from the one behind the front's on.
+    /// The places of the log's records among all that are known, from the one after the front's on.
     pub places: Vec<usize>,
     /// The name of the newest record that is known, or else of the front's.
     pub tip: Option<Key>,
@@ -54,7 +54,7 @@ impl Log {
         }
     }
 
-    /// The place of the known record of that entry, one of the log's behind the front.
+    /// The place of the known record of that entry, one of the log's after the front.
     pub fn place_of(&self, base: &Base<'_>, taken: &[Record], entry: &Entry) -> Option<usize>
         requires kept { IsKept base.now.front.now (known_of base.now taken.now) self.now }
         requires chain { IsChainOver base.now.view.now base.now.front.now self.now.owner (log_of self.now.owner (known_of base.now taken.now)) }
@@ -83,7 +83,7 @@ impl Log {
 
     /// Takes the next record from the queue, which is to stand at that place.
     ///
-    /// There is none where the queue is empty. The error is want of memory; after either the log isn't used again.
+    /// There is none where the queue is empty. The error is: out of memory; after either the log isn't used again.
     pub fn advance(&mut self, place: usize) -> Result<Option<Record>, Memory>
         requires { AllByRecursion (λ r. length r.vector ≤ 2 ^ 31) self.old.queue.items }
         ensures taken { IfOk result (λ next. IfSome next (IsAdvanced self.old self.new place)) }
@@ -98,7 +98,7 @@ impl Log {
         Ok(Some(record))
     }
 
-    /// Lets go what is left in the queue.
+    /// Drops what is left in the queue.
     pub fn clear(&mut self)
         ensures { IsCleared self.old self.new }
     {

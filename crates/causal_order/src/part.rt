@@ -4,7 +4,7 @@ ghost use Rattle.std.specs.Prelude.{◌≡◌, map, None, IfOk, IfSome};
 ghost use Rattle.std.specs.List.{AllByRecursion};
 ghost use Rattle.log_records.specs.Records.{records_of};
 ghost use Rattle.causal_order.specs.Over.{IsClosed};
-ghost use Rattle.causal_order.specs.AtHand.{IsFetched, IsNewPart};
+ghost use Rattle.causal_order.specs.Available.{IsFetched, IsNewPart};
 ghost use Rattle.causal_order.specs.Kept.{newest_name};
 ghost use Rattle.causal_order.specs.Started.{HaveOwnOwners};
 
@@ -23,7 +23,7 @@ use view_blocks::View;
 /// under the view, over the front. Each chain is of a member's log, was added under the view, and begins next after
 /// what is held of its log, or before. A chain that doesn't go on from what is held is left out.
 ///
-/// The error is want of memory.
+/// The error is: out of memory.
 pub fn closed_part(
     alloc: Global,
     view: &View,

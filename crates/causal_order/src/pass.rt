@@ -65,7 +65,7 @@ fn may_take(base: &Base<'_>, logs: &[Log], taken: &[Record], log: &Log) -> bool
 }
 
 /// Takes the least of the next records, which is the next one of that log, or lets it and the rest of its log go. The
-/// error is want of memory.
+/// error is: out of memory.
 pub fn see(
     base: &Base<'_>,
     logs: &mut [Log],

@@ -11,7 +11,7 @@ ghost use Rattle.log_model.specs.Fetched.{owner_of};
 ghost use Rattle.log_records.specs.Records.{record_of};
 ghost use Rattle.log_records.specs.Records.{records_of};
 ghost use Rattle.causal_order.specs.Over.{IsClosed};
-ghost use Rattle.causal_order.specs.AtHand.{IsAtHand, IsFetched, IsLinked, news};
+ghost use Rattle.causal_order.specs.Available.{IsAvailable, IsFetched, IsLinked, news};
 ghost use Rattle.causal_order.specs.Passing.{IsTaken};
 ghost use Rattle.causal_order.specs.Kept.{AreAt, AreKept, IsKept, known_of, newest_name, queue_of};
 ghost use Rattle.causal_order.specs.Started.{HaveOwnOwners, HasQueued, IsHeldLog, Joins, KnowsNewest, TakesIn};
@@ -25,7 +25,7 @@ use std::alloc::Global;
 use std::collections::VecDeque;
 
 /// The members' logs as they are when a pass begins: of each the places of what is held, and the records of its chain
-/// that go on from that. The error is want of memory.
+/// that go on from that. The error is: out of memory.
 pub fn begin(alloc: Global, base: &Base<'_>, chains: Vec<Chain>) -> Result<Vec<Log>, Memory>
     requires view { IsView base.now.view.now }
     requires held { IsClosed base.now.view.now base.now.front.now (records_of base.now.held.now) }
@@ -33,14 +33,14 @@ pub fn begin(alloc: Global, base: &Base<'_>, chains: Vec<Chain>) -> Result<Vec<L
     requires named { AllByRecursion (λ c. IfSome (newest_name None (records_of c.records)) (λ n. n ≡ c.head.name)) chains.items }
     requires apart { HaveOwnOwners (map (λ c. records_of c.records) chains.items) }
     ensures kept { IfOk result (λ logs. AreKept base.now.view.now base.now.front.now (known_of base.now []) logs.items) }
-    ensures taken { IfOk result (λ logs. IsTaken base.now.view.now base.now.front.now (IsAtHand base.now.view.now base.now.front.now (records_of base.now.held.now) (map (λ c. records_of c.records) chains.items)) (known_of base.now []) [] (map queue_of logs.items)) }
+    ensures taken { IfOk result (λ logs. IsTaken base.now.view.now base.now.front.now (IsAvailable base.now.view.now base.now.front.now (records_of base.now.held.now) (map (λ c. records_of c.records) chains.items)) (known_of base.now []) [] (map queue_of logs.items)) }
 {
     let mut logs = held_logs(alloc, base)?;
     take_chains(base, logs.as_mut_slice(), chains);
     Ok(logs)
 }
 
-/// Of each member the log as it is held. The error is want of memory.
+/// Of each member the log as it is held. The error is: out of memory.
 fn held_logs(alloc: Global, base: &Base<'_>) -> Result<Vec<Log>, Memory>
     ensures owners { IfOk result (λ logs. map (λ l. l.owner) logs.items ≡ base.now.view.now.members) }
     ensures held { IfOk result (λ logs. All (λ l. IsHeldLog base.now.front.now (records_of base.now.held.now) l.owner l) logs.items) }
@@ -53,7 +53,7 @@ fn held_logs(alloc: Global, base: &Base<'_>) -> Result<Vec<Log>, Memory>
     Ok(logs)
 }
 
-/// The owner's log as it is held. The error is want of memory.
+/// The owner's log as it is held. The error is: out of memory.
 fn held_log(alloc: Global, base: &Base<'_>, owner: &PubKey) -> Result<Log, Memory>
     ensures { IfOk result (IsHeldLog base.now.front.now (records_of base.now.held.now) owner.now) }
 {
@@ -72,7 +72,7 @@ fn held_log(alloc: Global, base: &Base<'_>, owner: &PubKey) -> Result<Log, Memor
     })
 }
 
-/// Where the owner's records stand. The error is want of memory.
+/// Where the owner's records stand. The error is: out of memory.
 fn places_of(alloc: Global, held: &[Record], owner: &PubKey) -> Result<Vec<usize>, Memory>
     ensures { IfOk result (λ places. AreAt (records_of held.now) places.items (log_of owner.now (records_of held.now))) }
 {
@@ -85,7 +85,7 @@ fn places_of(alloc: Global, held: &[Record], owner: &PubKey) -> Result<Vec<usize
     Ok(places)
 }
 
-/// The name of the record at the last of the places, and where there are none that of the front's. The error is want
+/// The name of the record at the last of the places, and where there are none that of the front's. The error is: out
 /// of memory.
 fn tip_of(
     alloc: Global,
@@ -177,7 +177,7 @@ fn take_chain(base: &Base<'_>, log: &mut Log, chain: Chain)
     log.last = chain.head.name;
 }
 
-/// The chain's records behind those that are held of the log.
+/// The chain's records after those that are held of the log.
 fn news(base: &Base<'_>, log: &Log, records: Vec<Record>) -> VecDeque<Record>
     requires held { IsClosed base.now.view.now base.now.front.now (records_of base.now.held.now) }
     requires kept { IsKept base.now.front.now (records_of base.now.held.now) log.now }

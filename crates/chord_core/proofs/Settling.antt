@@ -7,7 +7,7 @@ use Rattle.std.proofs.lemmas.List.{take_all, take-append-le, append-nil, drop_mo
 use Rattle.std.proofs.lemmas.List.Sorted.{Contains-permutation, IsPermutation-sym, IsPermutation-trans, sum_by-IsPermutation, length_permutation}
 use Rattle.std.proofs.lemmas.List.Sums.{sum_by-cons}
 use Rattle.std.proofs.Math.Seq.{take-append-add}
-use Rattle.ring_model.specs.Members.{IsAmong, IsAscending, following, from_place, first}
+use Rattle.ring_model.specs.Members.{IsAmong, HasAscendingPlaces, following, from_place, first}
 use Rattle.ring_model.proofs.Lists.{all-among, all_from, all_weaker, among_index, index_among, filter_all, filter-keeps, filter-drops}
 
 -- ---- lists
@@ -93,8 +93,8 @@ module _ {A : Type 0} (place : A → ℕ) where
   first_over_zero (x ∷ xs) key i d some h front back =
       sym (ap (λ l. first (l ++ filter (λ m. ltb (place m) key) (x ∷ xs))) (sym back ∙ drop_all i (x ∷ xs) h) ∙ ap first (sym front ∙ take_all i (x ∷ xs) h))
 
-  -- the member at a place, and those behind it
-  own_first : (live : List A) (n : A) → IsAscending place live → IsAmong n live → filter (λ m. leb (place n) (place m)) live ≡ n ∷ filter (λ m. ltb (place n) (place m)) live
+  -- the member at a place, and those after it
+  own_first : (live : List A) (n : A) → HasAscendingPlaces place live → IsAmong n live → filter (λ m. leb (place n) (place m)) live ≡ n ∷ filter (λ m. ltb (place n) (place m)) live
   own_first [] n a h = elim h [ ]
   own_first (x ∷ xs) n a (inl e) =
       let at_n : place x ≡ place n = ap place e in
@@ -107,10 +107,10 @@ module _ {A : Type 0} (place : A → ℕ) where
       filter-drops (λ m. leb (place n) (place m)) x xs (lt-leb (place n) (place x) below) ∙ own_first xs n a.1 h
       ∙ ap (λ l. n ∷ l) (sym (filter-drops (λ m. ltb (place n) (place m)) x xs (le-ltb (place n) (place x) (omega arith))))
 
-  -- the members behind one and then those before it are the others, clockwise
-  pub following_is : (sorted live : List A) (n : A) (behind front : List A) → sorted ≡ live → IsAscending place live → IsAmong n live → behind ≡ drop 1 (filter (λ m. leb (place n) (place m)) sorted) → front ≡ filter (λ m. ltb (place m) (place n)) sorted
-      → behind ++ front ≡ following place live n
-  following_is sorted live n behind front e a h b f = rw (b, f, e, own_first live n a h) refl
+  -- the members after one and then those before it are the others, clockwise
+  pub following_is : (sorted live : List A) (n : A) (after front : List A) → sorted ≡ live → HasAscendingPlaces place live → IsAmong n live → after ≡ drop 1 (filter (λ m. leb (place n) (place m)) sorted) → front ≡ filter (λ m. ltb (place m) (place n)) sorted
+      → after ++ front ≡ following place live n
+  following_is sorted live n after front e a h b f = rw (b, f, e, own_first live n a h) refl
 
   -- ---- members in any order
 
@@ -145,7 +145,7 @@ module _ {A : Type 0} (place : A → ℕ) where
   none_counted v [] a = count_none v
   none_counted v (x ∷ xs) a = count_else v x xs (λ e. let h : v < place x = a.0 in omega arith) ∙ none_counted v xs a.1
 
-  ascending_counts : (v : ℕ) (xs : List A) → IsAscending place xs → count v xs ≤ 1
+  ascending_counts : (v : ℕ) (xs : List A) → HasAscendingPlaces place xs → count v xs ≤ 1
   ascending_counts v [] a = let c = count_none v in omega arith
   ascending_counts v (x ∷ xs) a =
       ⊎_elim
@@ -154,7 +154,7 @@ module _ {A : Type 0} (place : A → ℕ) where
       (cases_eq (place x) v)
 
   -- members that don't fall and of whom no two stand at one place ascend strictly
-  strictly : (xs : List A) → IsNonDecreasingBy place xs → ((v : ℕ) → count v xs ≤ 1) → IsAscending place xs
+  strictly : (xs : List A) → IsNonDecreasingBy place xs → ((v : ℕ) → count v xs ≤ 1) → HasAscendingPlaces place xs
   strictly [] n c = tt
   strictly (x ∷ xs) n c =
       (all_from (λ y. place x < place y) xs above, strictly xs (λ i j d le lt. n (suc i) (suc j) d (omega arith) (omega arith)) (λ v. fewer v (cases_eq (place x) v)))
@@ -174,7 +174,7 @@ module _ {A : Type 0} (place : A → ℕ) where
           (cases_eq (place x) (place y))
 
   -- ascending lists with the same members are one
-  same_members : (xs ys : List A) → IsAscending place xs → IsAscending place ys → ((m : A) → IsAmong m xs → IsAmong m ys) → ((m : A) → IsAmong m ys → IsAmong m xs) → xs ≡ ys
+  same_members : (xs ys : List A) → HasAscendingPlaces place xs → HasAscendingPlaces place ys → ((m : A) → IsAmong m xs → IsAmong m ys) → ((m : A) → IsAmong m ys → IsAmong m xs) → xs ≡ ys
   same_members [] [] a b f g = refl
   same_members [] (y ∷ ys) a b f g = elim (g y (inl refl)) [ ]
   same_members (x ∷ xs) [] a b f g = elim (f x (inl refl)) [ ]
@@ -196,10 +196,10 @@ module _ {A : Type 0} (place : A → ℕ) where
       right e m h (inr i) = i
 
   -- a sorted list of the members of an ascending one is that one
-  pub sorted_is : (members sorted live : List A) → IsPermutation members sorted → IsNonDecreasingBy place sorted → IsAscending place live → IsPermutation live members → sorted ≡ live
+  pub sorted_is : (members sorted live : List A) → IsPermutation members sorted → IsNonDecreasingBy place sorted → HasAscendingPlaces place live → IsPermutation live members → sorted ≡ live
   sorted_is members sorted live p n a q =
       let both : IsPermutation live sorted = IsPermutation-trans live members sorted q p in
-      let strict : IsAscending place sorted = strictly sorted n (λ v. let e = count_permutation v live sorted both in let c = ascending_counts v live a in omega arith) in
+      let strict : HasAscendingPlaces place sorted = strictly sorted n (λ v. let e = count_permutation v live sorted both in let c = ascending_counts v live a in omega arith) in
       same_members sorted live strict a
       (λ m h. among_contained live m (Contains-permutation sorted live m (IsPermutation-sym live sorted both) (contained_among sorted m h)))
       (λ m h. among_contained sorted m (Contains-permutation live sorted m both (contained_among live m h)))

@@ -45,7 +45,7 @@ AnswersLeadToOwners = (r : ℕ) (live : List Peer) (lives : Peer → Bool) (node
     → (e : Peer) → lives e ≡ true → IsAmong e entries → IsLookup [] None entries (routes looks) found
     → (last : List Peer) × (found ≡ Some last) × (take r (filter lives last) ≡ owners place r live (number key))
 
--- By what the nodes of a settled ring answer, a look-up hears at most one answer for each bit behind the first.
+-- By what the nodes of a settled ring answer, a look-up hears at most one answer for each bit after the first.
 abbrev pub FewNodesAnswer : Type 0
 FewNodesAnswer = (r : ℕ) (live : List Peer) (lives : Peer → Bool) (nodes : Peer → State) (key : Key) (entries : List Peer)
     (looks : List (Peer × Answer)) (found : Option (List Peer))

@@ -10,7 +10,7 @@
 //! `IsSettledNode` of `dhash_model`, and `specs/State.antt` (what a node answers); the laws: `specs/Laws.antt`.
 //!
 //! Costs, counted in comparisons of identifiers: a route takes one for each finger and entry of the list and for each
-//! peer that it is put behind; a settled node takes n log n to sort the members and log n for each finger.
+//! peer that it is put after; a settled node takes n log n to sort the members and log n for each finger.
 #![tactic(auto)]
 
 mod laws;

@@ -4,7 +4,7 @@ ghost use Rattle.std.specs.Prelude.{◌≡◌, ◌-◌, ◌*◌, ◌≤◌, List
 ghost use Rattle.dht_ids.specs.Peers.{place};
 ghost use Rattle.dht_ids.specs.declared.peer.Peer.{Peer};
 ghost use Rattle.ring_model.specs.Circle.{identifier_bits};
-ghost use Rattle.ring_model.specs.Members.{IsAscending};
+ghost use Rattle.ring_model.specs.Members.{HasAscendingPlaces};
 ghost use Rattle.ring_model.specs.Pass.{notified};
 ghost use Rattle.dhash_model.specs.Settled.{IsSettledNode};
 ghost use Rattle.dhash_model.specs.State.{alone_node, with_links, with_list, adopted, stabilised};
@@ -44,7 +44,7 @@ impl Model for Node {
 }
 
 impl Node {
-    /// A node that knows of nobody; each of its fingers is itself. r is 1 to 8. The error is want of memory.
+    /// A node that knows of nobody; each of its fingers is itself. r is 1 to 8. The error is: out of memory.
     pub fn alone(alloc: Global, me: Peer, replicas: u32) -> Result<Node, Memory>
         requires { (1 ≤ replicas) × (replicas ≤ 8) }
         ensures { IfOk result (λ node. node ≡ alone_node me replicas) }
@@ -61,11 +61,11 @@ impl Node {
 
     /// A node of a settled ring of these members. r is 1 to 8, the node is one of the members, and no two of them have
     /// one identifier. It takes a number of comparisons that grows like n log n with the number of members. The error
-    /// is want of memory.
+    /// is: out of memory.
     pub fn settled(alloc: Global, me: Peer, replicas: u32, members: &Peers) -> Result<Node, Memory>
         requires few { (1 ≤ replicas) × (replicas ≤ 8) }
         requires member { Contains members.now me }
-        ensures { (live : List Peer) → IsAscending place live → IsPermutation live members.now → IfOk result (λ node. IsSettledNode live me replicas node) }
+        ensures { (live : List Peer) → HasAscendingPlaces place live → IsPermutation live members.now → IfOk result (λ node. IsSettledNode live me replicas node) }
     {
         let live = settle::ascending(alloc, members.as_slice())?;
         let (behind, front) = settle::around(&live, &me.id);
@@ -80,7 +80,7 @@ impl Node {
     }
 
     /// Answers Route by the list and the fingers, and Near by the predecessor and the list. It may be asked nothing
-    /// else. The error is want of memory.
+    /// else. The error is: out of memory.
     pub fn answer(&self, alloc: Global, ask: &Ask) -> Result<Answer, Memory>
         requires { IsOfRing ask.now }
         ensures { IfOk result (λ answer. Some answer ≡ ring_answer self.now ask.now) }
@@ -102,7 +102,7 @@ impl Node {
     }
 
     /// Takes the first list of a joining node: the entries that stand elsewhere than the node, at most 2r. The error
-    /// is want of memory, and the node is as before then.
+    /// is: out of memory, and the node is as before then.
     pub fn adopt(&mut self, alloc: Global, list: &Peers) -> Result<(), Memory>
         ensures { MatchResult result (λ _. self.new ≡ with_list self.old (adopted self.old list.now)) (λ _. self.new ≡ self.old) }
     {
@@ -111,7 +111,7 @@ impl Node {
     }
 
     /// Hears what the first entry of the list answered to Near: the list is renewed by it, or loses an entry that is
-    /// silent (Chord, SIGCOMM 2001, section 5.1). The error is want of memory, and the node is as before then.
+    /// silent (Chord, SIGCOMM 2001, section 5.1). The error is: out of memory, and the node is as before then.
     pub fn stabilise(&mut self, alloc: Global, heard: &Answer) -> Result<(), Memory>
         requires { IsOfNear heard.now }
         ensures { MatchResult result (λ _. self.new ≡ with_list self.old (stabilised self.old self.old.links.list heard.now)) (λ _. self.new ≡ self.old) }

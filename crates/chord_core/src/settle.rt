@@ -26,7 +26,7 @@ pub(crate) fn ascending(alloc: Global, members: &[Peer]) -> Result<Vec<Peer>, Me
     Ok(sorted)
 }
 
-/// How many members stand before the key. The others stand at it or behind it.
+/// How many members stand before the key. The others stand at it or after it.
 fn count_before(live: &[Peer], key: &Key) -> usize
     requires { IsNonDecreasingBy place live.now }
     ensures bound { result ≤ length live.now }
@@ -36,7 +36,7 @@ fn count_before(live: &[Peer], key: &Key) -> usize
     live.partition_point(|peer| order(&peer.id, key) == Ordering::Less)
 }
 
-/// The members behind the one at the key, and those before it.
+/// The members after the one at the key, and those before it.
 pub(crate) fn around<'a>(live: &'a [Peer], key: &Key) -> (&'a [Peer], &'a [Peer])
     requires { IsNonDecreasingBy place live.now }
     ensures behind { result.0.now ≡ drop 1 (filter (λ m. nat_le (number key.now) (place m)) live.now) }
@@ -49,7 +49,7 @@ pub(crate) fn around<'a>(live: &'a [Peer], key: &Key) -> (&'a [Peer], &'a [Peer]
     }
 }
 
-/// The first member at the key or behind it.
+/// The first member at the key or after it.
 fn first_from(live: &[Peer], key: &Key) -> Peer
     requires rising { IsNonDecreasingBy place live.now }
     requires some { 0 < length live.now }
@@ -72,7 +72,7 @@ pub(crate) fn fingers(alloc: Global, live: &[Peer], me: Peer) -> Result<Vec<Peer
     Ok(fingers)
 }
 
-/// The first of the peers behind a node, and then of those before it.
+/// The first of the peers after a node, and then of those before it.
 pub(crate) fn next(
     alloc: Global,
     behind: &[Peer],
@@ -89,7 +89,7 @@ pub(crate) fn next(
     Ok(list)
 }
 
-/// The last of the peers before a node, or else of those behind it.
+/// The last of the peers before a node, or else of those after it.
 pub(crate) fn last(behind: &[Peer], front: &[Peer]) -> Option<Peer>
     ensures { result ≡ last_or None (behind.now ++ front.now) }
 {

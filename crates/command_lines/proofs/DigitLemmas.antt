@@ -5,11 +5,11 @@ use Rattle.std.specs.List.{list_all}
 use Rattle.std.proofs.lemmas.Bool.{le-ltb, lt-ltb}
 use Rattle.std.proofs.lemmas.List.{at_drop_more, drop_all}
 
--- the value of digits behind a value that was read so far
+-- the value of digits after a value that was read so far
 abbrev pub value_after : ℕ → List ℕ → ℕ
 value_after value digits = fold (λ n d. n * 10 + (d - 48)) value digits
 
--- the value of these bytes behind a value, if they are digits and it is below 2 ^ 64
+-- the value of these bytes after a value, if they are digits and it is below 2 ^ 64
 abbrev pub read_after : ℕ → List ℕ → Option ℕ
 read_after value bytes = cond (list_all is_ascii_digit bytes && nat_lt (value_after value bytes) (2 ^ 64)) (Some (value_after value bytes)) None
 

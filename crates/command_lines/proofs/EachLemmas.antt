@@ -1,4 +1,4 @@
--- Reading words one after the other, each as a value: the values that were read so far, and those of the other words behind them.
+-- Reading words one after the other, each as a value: the values that were read so far, and those of the other words after them.
 use Rattle.std.proofs.Common.{◌≡◌, ℕ, ◌+◌, ◌<◌, ◌≤◌, List, [], ◌∷◌, ◌++◌, length, get_or, drop, Option, Some, None, Bor, refl, sym, ap, ◌∙◌, append_assoc}
 use Rattle.std.proofs.lemmas.List.{at_drop_more, at_drop_all, append-nil}
 use Rattle.script_model.specs.Words.{◌>>=◌, each_of}

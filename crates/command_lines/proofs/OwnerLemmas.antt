@@ -1,4 +1,4 @@
--- The words of a key's owner: a place, and behind it a key.
+-- The words of a key's owner: a place, and after it a key.
 use Rattle.std.proofs.Common.{◌≡◌, ℕ, ◌^◌, ◌≤◌, List, [], ◌∷◌, length, drop, get_or, Some, None, Bor, refl, arith}
 use Rattle.script_model.specs.declared.command.KeyWord.{KeyWord}
 use Rattle.script_model.specs.declared.command.NodeWord.TheVariants as node

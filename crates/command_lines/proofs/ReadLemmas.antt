@@ -9,14 +9,14 @@ use Rattle.script_model.specs.declared.command.KeyWord.{KeyWord}
 use Rattle.script_model.specs.declared.command.Command.{Command}
 use Rattle.script_model.specs.declared.command.Shown.{Shown}
 use Rattle.script_model.specs.declared.command.Command.TheVariants as command
-use Rattle.script_model.specs.Words.{◌>>=◌, each_of, piece_of, parts_at, set_of, sets_of, number_below, node_of, key_of, byte_of}
+use Rattle.script_model.specs.Words.{◌>>=◌, each_of, piece_of, parts_at, set_of, sets_of, number_below, node_word_of, key_of, byte_of}
 use Rattle.script_model.specs.Lines.{damage_of, of_node, open_of, show_command, shown_of}
 use Rattle.command_lines.specs.Steps.{pieces_of}
 
 abbrev pub seen : List (Bor (List ℕ)) → List (List ℕ)
 seen words = map (λ w. w.now) words
 
--- values that were read so far, and those of the other words behind them
+-- values that were read so far, and those of the other words after them
 abbrev pub behind : {A : Type 0} → List A → Option (List A) → Option (List A)
 behind values None = None
 behind values (Some others) = Some (values ++ others)
@@ -69,7 +69,7 @@ no_offset (Some n) None byte = refl
 no_offset (Some n) (Some k) byte = refl
 
 damage_parts : (words : List (Bor (List ℕ))) (d : Bor (List ℕ)) → length words ≡ 4
-    → damage_of (seen words) ≡ damaged (node_of (get_or words 0 d).now) (key_of (get_or words 1 d).now) (number_below (2 ^ 64) (get_or words 2 d).now) (byte_of (get_or words 3 d).now)
+    → damage_of (seen words) ≡ damaged (node_word_of (get_or words 0 d).now) (key_of (get_or words 1 d).now) (number_below (2 ^ 64) (get_or words 2 d).now) (byte_of (get_or words 3 d).now)
 damage_parts [] d four = absurd (omega (arith, four))
 damage_parts (n ∷ []) d four = absurd (omega (arith, four))
 damage_parts (n ∷ k ∷ []) d four = absurd (omega (arith, four))
@@ -78,7 +78,7 @@ damage_parts (n ∷ k ∷ o ∷ b ∷ []) d four = refl
 damage_parts (n ∷ k ∷ o ∷ b ∷ x ∷ words) d four = absurd (omega (arith, four))
 
 pub damage_without_offset : (words : List (Bor (List ℕ))) (d : Bor (List ℕ)) → length words ≡ 4 → number_below (2 ^ 64) (get_or words 2 d).now ≡ None → None ≡ damage_of (seen words)
-damage_without_offset words d four none = rw (damage_parts words d four, none) (sym (no_offset (node_of (get_or words 0 d).now) (key_of (get_or words 1 d).now) (byte_of (get_or words 3 d).now)))
+damage_without_offset words d four none = rw (damage_parts words d four, none) (sym (no_offset (node_word_of (get_or words 0 d).now) (key_of (get_or words 1 d).now) (byte_of (get_or words 3 d).now)))
 
 -- ---- a line of one node
 
@@ -91,7 +91,7 @@ too_many_for_node [] many = absurd (omega (arith, many))
 too_many_for_node (n ∷ []) many = absurd (omega (arith, many))
 too_many_for_node (n ∷ x ∷ words) many = refl
 
-pub without_node : (words : List (Bor (List ℕ))) (d : Bor (List ℕ)) → length words ≡ 1 → node_of (get_or words 0 d).now ≡ None → of_node (λ node. node) (seen words) ≡ None
+pub without_node : (words : List (Bor (List ℕ))) (d : Bor (List ℕ)) → length words ≡ 1 → node_word_of (get_or words 0 d).now ≡ None → of_node (λ node. node) (seen words) ≡ None
 without_node [] d one none = absurd (omega (arith, one))
 without_node (n ∷ []) d one none = rw none refl
 without_node (n ∷ x ∷ words) d one none = absurd (omega (arith, one))
@@ -99,7 +99,7 @@ without_node (n ∷ x ∷ words) d one none = absurd (omega (arith, one))
 -- what is made of that node
 pub made_of_node : {Made : Type 0} (make : NodeWord → Made) (words : List (List ℕ)) (o : Option NodeWord) → o ≡ of_node (λ node. node) words → option_map make o ≡ of_node make words
 made_of_node make [] o is = ap (option_map make) is
-made_of_node make (n ∷ []) o is = ap (option_map make) is ∙ by (node_of n)
+made_of_node make (n ∷ []) o is = ap (option_map make) is ∙ by (node_word_of n)
   where
     by : (p : Option NodeWord) → option_map make (p >>= λ node. Some node) ≡ (p >>= λ node. Some (make node))
     by None = refl

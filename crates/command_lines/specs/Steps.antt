@@ -41,13 +41,13 @@ long_piece long.Word = piece.DoubleWord
 long_piece long.Handle = piece.HandleOf
 long_piece long.Verifier = piece.VerifierOf
 
--- how many groups stand behind the first
+-- how many groups stand after the first
 abbrev pub groups_of : List (List ℕ) → Option ℕ
 groups_of [] = Some 0
 groups_of (k ∷ []) = number_below (2 ^ 64) k
 groups_of _ = None
 
--- the key behind a node's place: a key by itself, or its parts
+-- the key after a node's place: a key by itself, or its parts
 abbrev pub key_behind : List (List ℕ) → Option KeyWord
 key_behind (word ∷ []) = key_of word
 key_behind parts = key_of_parts parts

@@ -1,7 +1,7 @@
 //! The lines of a participant's agent.
 
 ghost use Rattle.std.specs.Prelude.{◌≡◌, IfOk, map};
-ghost use Rattle.script_model.specs.Lines.{of_log, kept_of, keep_of};
+ghost use Rattle.script_model.specs.Lines.{of_log, kept_word_of, keep_of};
 ghost use Rattle.command_lines.specs.Steps.{command_asked};
 
 use crate::names::name;
@@ -22,7 +22,7 @@ pub enum Asked {
     Finish,
 }
 
-/// The line that asks this and nothing more, of the words behind the first. The error is want of memory.
+/// The line that asks this and nothing more, of the words after the first. The error is: out of memory.
 pub fn ask(alloc: Global, asked: Asked, words: &[&[u8]]) -> Result<Option<Command>, Memory>
     ensures { IfOk result (λ command. command ≡ of_log (command_asked asked) (map (λ word. word.now) words.now)) }
 {
@@ -42,7 +42,7 @@ pub fn ask(alloc: Global, asked: Asked, words: &[&[u8]]) -> Result<Option<Comman
 
 /// Whether a save that fails leaves the new bytes, of the word for it.
 fn kept(word: &[u8]) -> Option<bool>
-    ensures { result ≡ kept_of word.now }
+    ensures { result ≡ kept_word_of word.now }
 {
     if is(word, b"new") {
         Some(true)
@@ -53,7 +53,7 @@ fn kept(word: &[u8]) -> Option<bool>
     }
 }
 
-/// `keep P K W`, of the words behind the first. The error is want of memory.
+/// `keep P K W`, of the words after the first. The error is: out of memory.
 pub fn keep(alloc: Global, words: &[&[u8]]) -> Result<Option<Command>, Memory>
     ensures { IfOk result (λ read. read ≡ keep_of (map (λ word. word.now) words.now)) }
 {

@@ -1,7 +1,7 @@
 //! The lines of calls and sessions, and the line that ends a run.
 
 ghost use Rattle.std.specs.Prelude.{◌≡◌, IfOk, map};
-ghost use Rattle.script_model.specs.Lines.{as_of, open_of, step_of, end_of};
+ghost use Rattle.script_model.specs.Lines.{as_of, open_of, step_line_of, end_line_of};
 
 use crate::agents::{Asked, ask};
 use crate::names::name;
@@ -11,7 +11,7 @@ use ivy_base::{Bytes, Memory};
 use script_model::Command;
 use std::alloc::Global;
 
-/// `as P PIECES`, of the words behind the first. The error is want of memory.
+/// `as P PIECES`, of the words after the first. The error is: out of memory.
 pub fn call(alloc: Global, words: &[&[u8]]) -> Result<Option<Command>, Memory>
     ensures { IfOk result (λ command. command ≡ as_of (map (λ word. word.now) words.now)) }
 {
@@ -28,7 +28,7 @@ pub fn call(alloc: Global, words: &[&[u8]]) -> Result<Option<Command>, Memory>
     Ok(Some(Command::As { log, pieces }))
 }
 
-/// `open S P PIECES`, of the words behind the first. The error is want of memory.
+/// `open S P PIECES`, of the words after the first. The error is: out of memory.
 pub fn begin(alloc: Global, words: &[&[u8]]) -> Result<Option<Command>, Memory>
     ensures { IfOk result (λ command. command ≡ open_of (map (λ word. word.now) words.now)) }
 {
@@ -53,9 +53,9 @@ pub fn begin(alloc: Global, words: &[&[u8]]) -> Result<Option<Command>, Memory>
     }))
 }
 
-/// `step S K`, of the words behind the first. The error is want of memory.
+/// `step S K`, of the words after the first. The error is: out of memory.
 pub fn step(alloc: Global, words: &[&[u8]]) -> Result<Option<Command>, Memory>
-    ensures { IfOk result (λ command. command ≡ step_of (map (λ word. word.now) words.now)) }
+    ensures { IfOk result (λ command. command ≡ step_line_of (map (λ word. word.now) words.now)) }
 {
     let [session, count] = words else {
         return Ok(None);
@@ -70,9 +70,9 @@ pub fn step(alloc: Global, words: &[&[u8]]) -> Result<Option<Command>, Memory>
     Ok(Some(Command::Step { session, count }))
 }
 
-/// `end` and `end S`, of the words behind the first. The error is want of memory.
+/// `end` and `end S`, of the words after the first. The error is: out of memory.
 pub fn end(alloc: Global, words: &[&[u8]]) -> Result<Option<Command>, Memory>
-    ensures { IfOk result (λ command. command ≡ end_of (map (λ word. word.now) words.now)) }
+    ensures { IfOk result (λ command. command ≡ end_line_of (map (λ word. word.now) words.now)) }
 {
     match words {
         [] => Ok(Some(Command::End)),

@@ -65,7 +65,7 @@ fn is_raw(word: &[u8]) -> bool
     word.len() >= 2 && word.len() % 2 == 0 && are_lower_hex(word)
 }
 
-/// The bytes that a word is, if it is their digits. The error is want of memory.
+/// The bytes that a word is, if it is their digits. The error is: out of memory.
 pub fn raw(alloc: Global, word: &[u8]) -> Result<Option<Bytes>, Memory>
     ensures { IfOk result (λ bytes. bytes ≡ raw_of word.now) }
 {

@@ -2,7 +2,7 @@
 
 ghost use Rattle.std.specs.Prelude.{◌≡◌, ◌^◌, [], ◌∷◌, true, length, IfOk, map};
 ghost use Rattle.std.specs.List.{list_all};
-ghost use Rattle.script_model.specs.Words.{is_lower_hex, key_of_name, key_of_parts, itself_of, key_of, parts_at, owner_node, numbered_node, node_of};
+ghost use Rattle.script_model.specs.Words.{is_lower_hex, key_of_name, key_of_parts, itself_of, key_of, parts_at, owner_node, numbered_node, node_word_of};
 ghost use Rattle.command_lines.specs.Steps.{key_behind};
 
 use crate::hex_digits::{is_key_text, key_bytes};
@@ -28,7 +28,7 @@ fn key_of_name(word: &[u8], name: Bytes) -> Option<KeyWord>
     }
 }
 
-/// The key of a word and a name. The error is want of memory.
+/// The key of a word and a name. The error is: out of memory.
 fn key_of_two(alloc: Global, word: &[u8], whose: &[u8]) -> Result<Option<KeyWord>, Memory>
     ensures { IfOk result (λ key. key ≡ key_of_parts (word.now ∷ whose.now ∷ [])) }
 {
@@ -39,7 +39,7 @@ fn key_of_two(alloc: Global, word: &[u8], whose: &[u8]) -> Result<Option<KeyWord
     Ok(key_of_name(word, whose))
 }
 
-/// The key of a log's record, of `rec`, a name and a number. The error is want of memory.
+/// The key of a log's record, of `rec`, a name and a number. The error is: out of memory.
 fn key_of_three(
     alloc: Global,
     word: &[u8],
@@ -61,7 +61,7 @@ fn key_of_three(
     Ok(Some(KeyWord::RecordOf { log, seq }))
 }
 
-/// The key of the parts between colons. The error is want of memory.
+/// The key of the parts between colons. The error is: out of memory.
 fn key_of_parts(alloc: Global, parts: &[&[u8]]) -> Result<Option<KeyWord>, Memory>
     ensures { IfOk result (λ key. key ≡ key_of_parts (map (λ part. part.now) parts.now)) }
 {
@@ -82,7 +82,7 @@ fn itself(word: &[u8]) -> Option<KeyWord>
     Some(KeyWord::Itself { key })
 }
 
-/// The key that the parts of a text are. The error is want of memory.
+/// The key that the parts of a text are. The error is: out of memory.
 fn key_of_text(alloc: Global, text: &[u8]) -> Result<Option<KeyWord>, Memory>
     ensures { IfOk result (λ key. key ≡ key_of_parts (parts_at 58 text.now)) }
 {
@@ -90,7 +90,7 @@ fn key_of_text(alloc: Global, text: &[u8]) -> Result<Option<KeyWord>, Memory>
     key_of_parts(alloc, &parts)
 }
 
-/// The key that a word is, if it is one. The error is want of memory.
+/// The key that a word is, if it is one. The error is: out of memory.
 pub fn key(alloc: Global, word: &[u8]) -> Result<Option<KeyWord>, Memory>
     ensures { IfOk result (λ key. key ≡ key_of word.now) }
 {
@@ -101,7 +101,7 @@ pub fn key(alloc: Global, word: &[u8]) -> Result<Option<KeyWord>, Memory>
     }
 }
 
-/// The key that is the only part, or that several parts are. The error is want of memory.
+/// The key that is the only part, or that several parts are. The error is: out of memory.
 fn key_behind(alloc: Global, parts: &[&[u8]]) -> Result<Option<KeyWord>, Memory>
     ensures { IfOk result (λ key. key ≡ key_behind (map (λ part. part.now) parts.now)) }
 {
@@ -111,7 +111,7 @@ fn key_behind(alloc: Global, parts: &[&[u8]]) -> Result<Option<KeyWord>, Memory>
     }
 }
 
-/// A key's owner, of its place and the key. The error is want of memory.
+/// A key's owner, of its place and the key. The error is: out of memory.
 fn owner_of_parts(alloc: Global, parts: &[&[u8]]) -> Result<Option<NodeWord>, Memory>
     ensures { IfOk result (λ node. node ≡ owner_node (map (λ part. part.now) parts.now)) }
 {
@@ -127,7 +127,7 @@ fn owner_of_parts(alloc: Global, parts: &[&[u8]]) -> Result<Option<NodeWord>, Me
     Ok(Some(NodeWord::OwnerOf { place, key }))
 }
 
-/// A key's owner, of the text behind `own:`. The error is want of memory.
+/// A key's owner, of the text after `own:`. The error is: out of memory.
 fn owner(alloc: Global, text: &[u8]) -> Result<Option<NodeWord>, Memory>
     ensures { IfOk result (λ node. node ≡ owner_node (parts_at 58 text.now)) }
 {
@@ -143,9 +143,9 @@ fn numbered(word: &[u8]) -> Option<NodeWord>
     Some(NodeWord::Numbered { number })
 }
 
-/// The node that a word is, if it is one. The error is want of memory.
+/// The node that a word is, if it is one. The error is: out of memory.
 pub fn node(alloc: Global, word: &[u8]) -> Result<Option<NodeWord>, Memory>
-    ensures { IfOk result (λ node. node ≡ node_of word.now) }
+    ensures { IfOk result (λ node. node ≡ node_word_of word.now) }
 {
     if word.starts_with(b"own:".as_slice()) {
         owner(alloc, &word[4..])

@@ -15,7 +15,7 @@ use script_model::Command;
 use std::alloc::Global;
 
 /// A command of a call or a session, or one that makes nodes, logs and views, sets the moment, or shows something. The
-/// error is want of memory.
+/// error is: out of memory.
 fn call_command(alloc: Global, word: &[u8], words: &[&[u8]]) -> Result<Option<Command>, Memory>
     ensures { IfOk result (λ command. command ≡ call_command word.now (map (λ word. word.now) words.now)) }
 {
@@ -43,7 +43,7 @@ fn call_command(alloc: Global, word: &[u8], words: &[&[u8]]) -> Result<Option<Co
 }
 
 /// The command that these words are, if they are one: one of agents, of nodes and their blocks, or one of those above.
-/// The error is want of memory.
+/// The error is: out of memory.
 fn command(alloc: Global, words: &[&[u8]]) -> Result<Option<Command>, Memory>
     ensures { IfOk result (λ command. command ≡ command_of_words (map (λ word. word.now) words.now)) }
 {
@@ -80,7 +80,7 @@ fn is_comment(line: &[u8]) -> bool
 }
 
 /// Reads a line of a script, without its newline. `Ok(None)` where the line is no command, as one of more than
-/// 32,768 bytes. The error is want of memory.
+/// 32,768 bytes. The error is: out of memory.
 pub fn read_command(alloc: Global, line: &[u8]) -> Result<Option<Command>, Memory>
     ensures { IfOk result (λ command. command ≡ command_of line.now) }
 {

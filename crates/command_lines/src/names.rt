@@ -37,7 +37,7 @@ pub fn name(word: &[u8]) -> Option<&[u8]>
 }
 
 /// The names that stand in a word, in its order, if it is names joined by commas; they are copied. There is one at
-/// least: neither the empty word nor an empty part between commas is a name. The error is want of memory.
+/// least: neither the empty word nor an empty part between commas is a name. The error is: out of memory.
 pub fn names(alloc: Global, word: &[u8]) -> Result<Option<Names>, Memory>
     ensures { IfOk result (λ names. names ≡ names_of word.now) }
 {

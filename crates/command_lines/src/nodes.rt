@@ -11,7 +11,7 @@ use ivy_base::Memory;
 use script_model::{Command, NodeWord};
 use std::alloc::Global;
 
-/// `join I`, of the words behind the first.
+/// `join I`, of the words after the first.
 pub fn join(words: &[&[u8]]) -> Option<Command>
     ensures { result ≡ join_of (map (λ word. word.now) words.now) }
 {
@@ -22,7 +22,7 @@ pub fn join(words: &[&[u8]]) -> Option<Command>
     Some(Command::Join { node })
 }
 
-/// The node that the only word is, if there is one word and it is a node. The error is want of memory.
+/// The node that the only word is, if there is one word and it is a node. The error is: out of memory.
 pub fn only_node(alloc: Global, words: &[&[u8]]) -> Result<Option<NodeWord>, Memory>
     ensures { IfOk result (λ node. node ≡ of_node (λ node. node) (map (λ word. word.now) words.now)) }
 {
@@ -35,7 +35,7 @@ pub fn only_node(alloc: Global, words: &[&[u8]]) -> Result<Option<NodeWord>, Mem
     Ok(Some(node))
 }
 
-/// `stop NODE`, of the words behind the first. The error is want of memory.
+/// `stop NODE`, of the words after the first. The error is: out of memory.
 pub fn stop(alloc: Global, words: &[&[u8]]) -> Result<Option<Command>, Memory>
     ensures { IfOk result (λ read. read ≡ of_node command.Stop (map (λ word. word.now) words.now)) }
 {
@@ -45,7 +45,7 @@ pub fn stop(alloc: Global, words: &[&[u8]]) -> Result<Option<Command>, Memory>
     Ok(Some(Command::Stop { node }))
 }
 
-/// `round`, of the words behind the first.
+/// `round`, of the words after the first.
 pub fn round(words: &[&[u8]]) -> Option<Command>
     ensures { result ≡ round_of (map (λ word. word.now) words.now) }
 {
@@ -56,7 +56,7 @@ pub fn round(words: &[&[u8]]) -> Option<Command>
     }
 }
 
-/// `lose K`, of the words behind the first.
+/// `lose K`, of the words after the first.
 pub fn lose(words: &[&[u8]]) -> Option<Command>
     ensures { result ≡ lose_of (map (λ word. word.now) words.now) }
 {
@@ -67,7 +67,7 @@ pub fn lose(words: &[&[u8]]) -> Option<Command>
     Some(Command::Lose { count })
 }
 
-/// `damage NODE KEY OFFSET BYTE`, of the words behind the first. The error is want of memory.
+/// `damage NODE KEY OFFSET BYTE`, of the words after the first. The error is: out of memory.
 pub fn damage(alloc: Global, words: &[&[u8]]) -> Result<Option<Command>, Memory>
     ensures { IfOk result (λ command. command ≡ damage_of (map (λ word. word.now) words.now)) }
 {

@@ -12,14 +12,14 @@ use ivy_base::{Bytes, Memory};
 use script_model::{Piece, Pieces};
 use std::alloc::Global;
 
-/// Whether the last of so many groups behind a group is a number of 32 bits.
+/// Whether the last of so many groups after a group is a number of 32 bits.
 fn is_last_group_small(gid: u32, groups: u64) -> bool
     ensures { result ≡ nat_lt (gid + groups) (2 ^ 32) }
 {
     groups <= u64::from(u32::MAX - gid)
 }
 
-/// How many groups stand behind the first, of the words for it: none where there is no word.
+/// How many groups stand after the first, of the words for it: none where there is no word.
 fn further_groups(words: &[&[u8]]) -> Option<u64>
     ensures { result ≡ groups_of (map (λ word. word.now) words.now) }
 {
@@ -53,7 +53,7 @@ fn call_of_numbers(mount: bool, numbers: &[&[u8]]) -> Option<Piece>
     })
 }
 
-/// The head of a call, of the text behind the program's name. The error is want of memory.
+/// The head of a call, of the text after the program's name. The error is: out of memory.
 fn call(alloc: Global, mount: bool, text: &[u8]) -> Result<Option<Piece>, Memory>
     ensures { IfOk result (λ piece. piece ≡ call_of mount (parts_at 58 text.now)) }
 {
@@ -64,20 +64,20 @@ fn call(alloc: Global, mount: bool, text: &[u8]) -> Result<Option<Piece>, Memory
 /// A piece of a number of four bytes.
 #[derive(Drop)]
 enum Short {
-    /// The number itself, of the digits behind `u:`.
+    /// The number itself, of the digits after `u:`.
     Word,
-    /// Attributes with that mode, of the digits behind `sa:`.
+    /// Attributes with that mode, of the digits after `sa:`.
     Mode,
 }
 
 /// A piece of a number of eight bytes.
 #[derive(Drop)]
 enum Long {
-    /// The number itself, of the digits behind `w:`.
+    /// The number itself, of the digits after `w:`.
     Word,
-    /// The file handle of the reply of that number, of the digits behind `h:`.
+    /// The file handle of the reply of that number, of the digits after `h:`.
     Handle,
-    /// The verifier of the reply of that number, of the digits behind `v:`.
+    /// The verifier of the reply of that number, of the digits after `v:`.
     Verifier,
 }
 
@@ -116,7 +116,7 @@ fn are_printable(text: &[u8]) -> bool
     true
 }
 
-/// A string, of the text behind `s:`. The error is want of memory.
+/// A string, of the text after `s:`. The error is: out of memory.
 fn text(alloc: Global, text: &[u8]) -> Result<Option<Piece>, Memory>
     ensures { IfOk result (λ piece. piece ≡ text_of text.now) }
 {
@@ -140,7 +140,7 @@ fn opaque_of_parts(parts: &[&[u8]]) -> Option<Piece>
     })
 }
 
-/// Opaque data, of the text behind `o:`. The error is want of memory.
+/// Opaque data, of the text after `o:`. The error is: out of memory.
 fn opaque(alloc: Global, text: &[u8]) -> Result<Option<Piece>, Memory>
     ensures { IfOk result (λ piece. piece ≡ opaque_of (parts_at 58 text.now)) }
 {
@@ -148,7 +148,7 @@ fn opaque(alloc: Global, text: &[u8]) -> Result<Option<Piece>, Memory>
     Ok(opaque_of_parts(&parts))
 }
 
-/// Bytes, of their digits. The error is want of memory.
+/// Bytes, of their digits. The error is: out of memory.
 fn raw_piece(alloc: Global, digits: &[u8]) -> Result<Option<Piece>, Memory>
     ensures { IfOk result (λ piece. piece ≡ of_raw digits.now) }
 {
@@ -158,7 +158,7 @@ fn raw_piece(alloc: Global, digits: &[u8]) -> Result<Option<Piece>, Memory>
     Ok(Some(Piece::Raw { bytes }))
 }
 
-/// The piece that a word is that is no call. The error is want of memory.
+/// The piece that a word is that is no call. The error is: out of memory.
 fn data_piece(alloc: Global, word: &[u8]) -> Result<Option<Piece>, Memory>
     ensures { IfOk result (λ piece. piece ≡ data_of word.now) }
 {
@@ -181,7 +181,7 @@ fn data_piece(alloc: Global, word: &[u8]) -> Result<Option<Piece>, Memory>
     }
 }
 
-/// The piece that a word is, if it is one. The error is want of memory.
+/// The piece that a word is, if it is one. The error is: out of memory.
 fn piece(alloc: Global, word: &[u8]) -> Result<Option<Piece>, Memory>
     ensures { IfOk result (λ piece. piece ≡ piece_of word.now) }
 {
@@ -196,7 +196,7 @@ fn piece(alloc: Global, word: &[u8]) -> Result<Option<Piece>, Memory>
     }
 }
 
-/// The pieces that these words are, if there is one at least and each is one. The error is want of memory.
+/// The pieces that these words are, if there is one at least and each is one. The error is: out of memory.
 pub fn pieces(alloc: Global, words: &[&[u8]]) -> Result<Option<Pieces>, Memory>
     ensures { IfOk result (λ pieces. pieces ≡ pieces_of (map (λ word. word.now) words.now)) }
 {

@@ -41,8 +41,8 @@ fn named_set(word: &[u8]) -> Option<Set>
     }
 }
 
-/// The sets that a word names, the top level's first, if it is one to three names of sets joined by commas. The error is
-/// want of memory.
+/// The sets that a word names, the top level's first, if it is one to three names of sets joined by commas. The error
+/// is: out of memory.
 pub fn key_sets(alloc: Global, word: &[u8]) -> Result<Option<SetWords>, Memory>
     ensures { IfOk result (λ sets. sets ≡ sets_of word.now) }
 {

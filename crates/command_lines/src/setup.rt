@@ -1,7 +1,7 @@
 //! The lines that make nodes, logs and views, and set the moment.
 
 ghost use Rattle.std.specs.Prelude.{◌≡◌, IfOk, map};
-ghost use Rattle.script_model.specs.Lines.{ring_of, log_of, view_of, use_of, at_of};
+ghost use Rattle.script_model.specs.Lines.{ring_of, log_line_of, view_of, use_of, at_of};
 ghost use Rattle.command_lines.specs.Steps.{former_of};
 
 use crate::hex_digits::{identifier, seed};
@@ -12,7 +12,7 @@ use ivy_base::{Bytes, Memory};
 use script_model::{Command, Names};
 use std::alloc::Global;
 
-/// `ring N R`, of the words behind the first.
+/// `ring N R`, of the words after the first.
 pub fn ring(words: &[&[u8]]) -> Option<Command>
     ensures { result ≡ ring_of (map (λ word. word.now) words.now) }
 {
@@ -24,9 +24,9 @@ pub fn ring(words: &[&[u8]]) -> Option<Command>
     Some(Command::Ring { nodes, replicas })
 }
 
-/// `log P ID SEED SETS`, of the words behind the first. The error is want of memory.
+/// `log P ID SEED SETS`, of the words after the first. The error is: out of memory.
 pub fn log(alloc: Global, words: &[&[u8]]) -> Result<Option<Command>, Memory>
-    ensures { IfOk result (λ command. command ≡ log_of (map (λ word. word.now) words.now)) }
+    ensures { IfOk result (λ command. command ≡ log_line_of (map (λ word. word.now) words.now)) }
 {
     let [log, id, key_seed, sets] = words else {
         return Ok(None);
@@ -52,7 +52,7 @@ pub fn log(alloc: Global, words: &[&[u8]]) -> Result<Option<Command>, Memory>
     }))
 }
 
-/// The former members of a view, of the words behind its members: there may be none. The error is want of memory.
+/// The former members of a view, of the words after its members: there may be none. The error is: out of memory.
 fn former_names(alloc: Global, words: &[&[u8]]) -> Result<Option<Names>, Memory>
     ensures { IfOk result (λ names. names ≡ former_of (map (λ word. word.now) words.now)) }
 {
@@ -63,7 +63,7 @@ fn former_names(alloc: Global, words: &[&[u8]]) -> Result<Option<Names>, Memory>
     }
 }
 
-/// `view V M` and `view V M F`, of the words behind the first. The error is want of memory.
+/// `view V M` and `view V M F`, of the words after the first. The error is: out of memory.
 pub fn view(alloc: Global, words: &[&[u8]]) -> Result<Option<Command>, Memory>
     ensures { IfOk result (λ command. command ≡ view_of (map (λ word. word.now) words.now)) }
 {
@@ -87,7 +87,7 @@ pub fn view(alloc: Global, words: &[&[u8]]) -> Result<Option<Command>, Memory>
     }))
 }
 
-/// `use P V`, of the words behind the first. The error is want of memory.
+/// `use P V`, of the words after the first. The error is: out of memory.
 pub fn enter(alloc: Global, words: &[&[u8]]) -> Result<Option<Command>, Memory>
     ensures { IfOk result (λ command. command ≡ use_of (map (λ word. word.now) words.now)) }
 {
@@ -105,7 +105,7 @@ pub fn enter(alloc: Global, words: &[&[u8]]) -> Result<Option<Command>, Memory>
     Ok(Some(Command::Use { log, view }))
 }
 
-/// `at SEC NSEC`, of the words behind the first.
+/// `at SEC NSEC`, of the words after the first.
 pub fn moment(words: &[&[u8]]) -> Option<Command>
     ensures { result ≡ at_of (map (λ word. word.now) words.now) }
 {

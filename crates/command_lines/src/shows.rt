@@ -25,7 +25,7 @@ enum ShownAsked {
     Proof,
 }
 
-/// What is shown of a participant, of the words behind the first: its name alone. The error is want of memory.
+/// What is shown of a participant, of the words after the first: its name alone. The error is: out of memory.
 fn of_log(alloc: Global, asked: ShownAsked, words: &[&[u8]]) -> Result<Option<Shown>, Memory>
     ensures { IfOk result (λ it. it ≡ of_log (shown_asked asked) (map (λ word. word.now) words.now)) }
 {
@@ -44,7 +44,7 @@ fn of_log(alloc: Global, asked: ShownAsked, words: &[&[u8]]) -> Result<Option<Sh
     }))
 }
 
-/// `holds NODE`, of the words behind the first. The error is want of memory.
+/// `holds NODE`, of the words after the first. The error is: out of memory.
 fn holds(alloc: Global, words: &[&[u8]]) -> Result<Option<Shown>, Memory>
     ensures { IfOk result (λ it. it ≡ of_node shown.Holds (map (λ word. word.now) words.now)) }
 {
@@ -54,7 +54,7 @@ fn holds(alloc: Global, words: &[&[u8]]) -> Result<Option<Shown>, Memory>
     Ok(Some(Shown::Holds { node }))
 }
 
-/// What a line shows, if it shows something. The error is want of memory.
+/// What a line shows, if it shows something. The error is: out of memory.
 fn shown(alloc: Global, word: &[u8], words: &[&[u8]]) -> Result<Option<Shown>, Memory>
     ensures { IfOk result (λ it. it ≡ shown_of word.now (map (λ word. word.now) words.now)) }
 {
@@ -73,7 +73,7 @@ fn shown(alloc: Global, word: &[u8], words: &[&[u8]]) -> Result<Option<Shown>, M
     }
 }
 
-/// A command that shows something. The error is want of memory.
+/// A command that shows something. The error is: out of memory.
 pub fn show(alloc: Global, word: &[u8], words: &[&[u8]]) -> Result<Option<Command>, Memory>
     ensures { IfOk result (λ command. command ≡ show_command word.now (map (λ word. word.now) words.now)) }
 {

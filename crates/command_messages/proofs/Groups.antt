@@ -48,7 +48,7 @@ data_has bytes n is = record {
   size = omega (arith, is, length-append (word (length bytes)) (fixed bytes), length-append bytes (padding (length bytes)), length-replicate {A = ℕ});
 }
 
--- a caller by user and group, and by so many groups behind it
+-- a caller by user and group, and by so many groups after it
 abbrev pub caller : ℕ → ℕ → ℕ → Identity
 caller uid gid count = record { uid = uid; gid = gid; groups = numbers_behind gid count }
 
@@ -76,7 +76,7 @@ root_has view = data_has (handle_of view root_number) 44 (omega (arith, length-n
 
 -- ---- bytes
 
--- the body has no zeros behind it
+-- the body has no zeros after it
 no_padding : (n count : ℕ) → n ≡ 20 + 4 * count → padding n ≡ []
 no_padding n count is =
     let none : (4 - n % 4) % 4 ≡ 0 = omega (arith, is) in
@@ -102,7 +102,7 @@ head_is mount procedure who =
 
 -- ---- what is appended one after the other
 
--- one number more behind n
+-- one number more after n
 pub number_more : (before after : List ℕ) (n count i first place : ℕ) → i < count → first ≡ n → place ≡ i → after ≡ before ++ word (first + place + 1)
     → before ++ flat_map word (numbers_behind (n + i) (count - i)) ≡ after ++ flat_map word (numbers_behind (n + (i + 1)) (count - (i + 1)))
 number_more before after n count i first place inside is_first is_place put =

@@ -13,7 +13,7 @@ use view_blocks::View;
 
 /// The message of a call: the bytes of its pieces in a row, under a view, where `replies` has what each reply so far gave.
 /// None where a piece has no bytes, or they have more than 65,536 together: this is told before any memory is taken for them.
-/// The error is want of memory for a message.
+/// The error is: out of memory for a message.
 pub fn message(
     alloc: Global,
     replies: &[ReplyParts],

@@ -12,7 +12,7 @@ use nfs3_replies::read_reply;
 use std::alloc::Global;
 
 /// What the result of a call with these arguments gives, whose bytes these are, from its status on. None where they are no reply
-/// of the call's procedure. The error is want of memory.
+/// of the call's procedure. The error is: out of memory.
 pub fn parts_of(alloc: Global, args: &Args, bytes: &[u8]) -> Result<Option<ReplyParts>, Memory>
     ensures { IfOk result (λ found. MatchOption found (IsNoReply args.now bytes.now) (GivesParts args.now bytes.now)) }
 {
@@ -22,7 +22,7 @@ pub fn parts_of(alloc: Global, args: &Args, bytes: &[u8]) -> Result<Option<Reply
     }
 }
 
-/// The reply of the call's procedure that the bytes are, if they are one. The error is want of memory.
+/// The reply of the call's procedure that the bytes are, if they are one. The error is: out of memory.
 fn reply_of(alloc: Global, args: &Args, bytes: &[u8]) -> Result<Option<Reply>, Memory>
     ensures { IfOk result (λ found. MatchOption found (IsNoReply args.now bytes.now) (IsReadFrom args.now bytes.now)) }
 {
@@ -33,7 +33,7 @@ fn reply_of(alloc: Global, args: &Args, bytes: &[u8]) -> Result<Option<Reply>, M
     }
 }
 
-/// What the reply gives: a handle, or a verifier. The error is want of memory.
+/// What the reply gives: a handle, or a verifier. The error is: out of memory.
 fn left_by(alloc: Global, reply: &Reply) -> Result<ReplyParts, Memory>
     ensures handle { IfOk result (λ given. given.handle ≡ handle_given reply.now) }
     ensures verifier { IfOk result (λ given. given.verifier ≡ verifier_given reply.now) }
@@ -53,7 +53,7 @@ fn verifier_of(reply: &Reply) -> Option<[u8; 8]>
     }
 }
 
-/// A copy of the handle that the reply made or found, if any. The error is want of memory.
+/// A copy of the handle that the reply made or found, if any. The error is: out of memory.
 fn handle_of(alloc: Global, reply: &Reply) -> Result<Option<Bytes>, Memory>
     ensures { IfOk result (λ handle. handle ≡ handle_given reply.now) }
 {

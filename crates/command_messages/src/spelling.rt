@@ -17,7 +17,7 @@ use script_model::Piece;
 use std::alloc::Global;
 use view_blocks::View;
 
-/// The number of every message: a script has one call at a time under way.
+/// The number of every message: a script has one call at a time in progress.
 const TRANSACTION: u64 = 1;
 
 /// That a message is a call, and the version of RPC (RFC 5531, section 9: CALL and rpcvers).
@@ -67,7 +67,7 @@ fn put_words(out: &mut Vec<u8>, numbers: &[u64]) -> Result<(), Memory>
     Ok(())
 }
 
-/// Appends the numbers behind that one as words, so many.
+/// Appends the numbers after that one as words, so many.
 fn put_numbers_behind(out: &mut Vec<u8>, number: u32, count: u32) -> Result<(), Memory>
     ensures { OnOk result (out.new.items ≡ out.old.items ++ flat_map word (numbers_behind number count)) }
 {
@@ -86,7 +86,7 @@ fn put_repeated(out: &mut Vec<u8>, count: usize, byte: u8) -> Result<(), Memory>
     Ok(())
 }
 
-/// Appends the zeros behind opaque data of so many bytes, up to a multiple of four.
+/// Appends the zeros after opaque data of so many bytes, up to a multiple of four.
 fn put_padding(out: &mut Vec<u8>, count: usize) -> Result<(), Memory>
     ensures { OnOk result (out.new.items ≡ out.old.items ++ padding count) }
 {
@@ -111,7 +111,7 @@ fn put_filled(out: &mut Vec<u8>, count: u64, byte: u8) -> Result<(), Memory>
     put_padding(out, count as usize)
 }
 
-/// Appends a credential by user and group, and by so many groups behind it: its stamp is 0, and it has no name of a machine (RFC
+/// Appends a credential by user and group, and by so many groups after it: its stamp is 0, and it has no name of a machine (RFC
 /// 5531, appendix A: authsys_parms).
 fn put_credential(out: &mut Vec<u8>, uid: u32, gid: u32, groups: u32) -> Result<(), Memory>
     ensures { OnOk result (out.new.items ≡ out.old.items ++ auth (record { flavour = 1; body = system_body 0 [] (record { uid = uid; gid = gid; groups = numbers_behind gid groups }) })) }

@@ -53,7 +53,7 @@ run_more rs i run k d found more lt so_far added x c within clash =
 pub run_all : (rs : List kept.Record) (i : ℕ) (run : List Marked) (k : ℕ) (found : List ℕ) → length run ≤ k → AreFound rs i (Contains (take k run)) found → AreFound rs i (Contains run) found
 run_all rs i run k found le so_far x c within clash = so_far x (in_all run k x le c) within clash
 
--- those behind one that knows the record know it too
+-- those after one that knows the record know it too
 pub run_known : (rs : List kept.Record) (of : List ℕ) (i : ℕ) (run : List Marked) (k : ℕ) (d : Marked) (found : List ℕ) (answer : Bool) → i < length rs → Grow rs of (length rs) → All (IsMarkOf (length rs) of) run → IsRun run
     → k < length run → answer ≡ true → KnowsAt rs (get_or run k d).place i answer → AreFound rs i (Contains (take k run)) found → AreFound rs i (Contains run) found
 run_known rs of i run k d found answer lt grow ours is_run inside truly known so_far x c within clash = ⊎_elim before behind (cases_lt c.0 k)

@@ -91,7 +91,7 @@ none_up_to rs i r found k next j stand all up low passed within ahead m s le les
     (λ lower. let e : get_or found c.0 0 ≡ m = at_zero c in omega (arith, lower, e, le))
     (λ outside. let e : get_or found c.0 0 ≡ m = at_zero c in omega (arith, outside, e, less, within))
     (passed c.0 before))
-    (λ behind. let e : get_or found c.0 0 ≡ m = at_zero c in let far : j ≤ get_or found c.0 0 = ahead c.0 behind c.1 in omega (arith, far, e, less))
+    (λ after. let e : get_or found c.0 0 ≡ m = at_zero c in let far : j ≤ get_or found c.0 0 = ahead c.0 after c.1 in omega (arith, far, e, less))
     (cases_lt c.0 k))
   where
     at_zero : (c : Contains found m) → get_or found c.0 0 ≡ m

@@ -13,7 +13,7 @@ seen c = record { first = rank_of c.first; second = rank_of c.second; bytes = c.
 abbrev pub seen_all : List kept.Clash → List Clash
 seen_all cs = map seen cs
 
--- why a list isn't given. Want of memory isn't tied to a cause
+-- why a list isn't given. Running out of memory isn't tied to a cause
 abbrev pub IsTooMany : List Clash → ListFault → Type 0
 IsTooMany cs fault.TooMany = most_clashes < length cs
 IsTooMany cs fault.Memory = Unit {0}

@@ -1,4 +1,4 @@
--- The list with one pair more, or with a row: the pairs of a record with those behind it.
+-- The list with one pair more, or with a row: the pairs of a record with those after it.
 use Rattle.std.specs.Prelude.{◌≡◌, ℕ, ◌+◌, List, ◌++◌, drop}
 use Rattle.std.specs.List.{flat_map}
 use Rattle.log_records.specs.declared.record.Record as kept

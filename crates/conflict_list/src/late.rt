@@ -13,7 +13,7 @@ use ivy_base::{Key, Memory};
 use log_records::Record;
 use std::alloc::Global;
 
-/// Of each record, whether it is late; one that isn't is in conflict with none before it. The error is want of memory.
+/// Of each record, whether it is late; one that isn't is in conflict with none before it. The error is: out of memory.
 pub fn late_of(alloc: Global, records: &[Record], logs: &Logs) -> Result<Vec<bool>, Memory>
     requires logs { AreLogs records.now (length records.now) logs.now.list.items logs.now.of.items }
     requires spelled { AllByRecursion HasSpelling (records_of records.now) }

@@ -18,7 +18,7 @@
 //! - `numbers` has the numbers of marks, and `marked` the records under them, in order. `logs` finds the
 //!   logs, and tests whether each record knows all that the one before it in its log knows.
 //! - `table` finds the later records that may be in conflict with one. In each log it goes on only up to the
-//!   first that knows the record, as those behind know it too. Where some log forgets, it goes through all.
+//!   first that knows the record, as those after know it too. Where some log forgets, it goes through all.
 //! - `list` tests what was found, in order, and makes the list.
 //!
 //! Definitions: `log_model`'s `specs/Touching.antt` (what operations touch) and `specs/Conflicts.antt`

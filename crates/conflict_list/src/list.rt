@@ -41,7 +41,7 @@ pub struct Clash {
 pub enum ListFault {
     /// There are more than 1,000,000 pairs.
     TooMany,
-    /// Want of memory. No clause ties this to a cause.
+    /// Out of memory. No clause ties this to a cause.
     Memory,
 }
 
@@ -53,11 +53,11 @@ impl From<Memory> for ListFault {
     }
 }
 
-/// The pairs of records that are in conflict: of each record, in their order, those with the records behind it.
+/// The pairs of records that are in conflict: of each record, in their order, those with the records after it.
 ///
 /// Of records that ascend by rank these are exactly the pairs in conflict, ascending by their ranks
-/// ([`crate::lists_are_exact`]). `TooMany` comes exactly where there are more than 1,000,000. `Memory` is want of memory; it
-/// also comes where there are 2^32 records or more.
+/// ([`crate::lists_are_exact`]). `TooMany` comes exactly where there are more than 1,000,000. `Memory` means out of memory;
+/// it also comes where there are 2^32 records or more.
 pub fn conflicts(alloc: Global, records: &[Record]) -> Result<Vec<Clash>, ListFault>
     requires { AllByRecursion HasSpelling (records_of records.now) }
     ensures list { IfOk result (λ list. seen_all list.items ≡ clashes (records_of records.now)) }
@@ -76,7 +76,7 @@ pub fn conflicts(alloc: Global, records: &[Record]) -> Result<Vec<Clash>, ListFa
 }
 
 /// Puts the places there, ascending, of all later records that are in conflict with the one at i, maybe with others, and
-/// some more than once. `numbers` is room for the work. The error is want of memory.
+/// some more than once. `numbers` is room for the work. The error is: out of memory.
 fn find(
     records: &[Record],
     i: usize,
@@ -97,7 +97,7 @@ fn find(
     Ok(())
 }
 
-/// Adds the clashes of the record at i with those behind it: these are among those at the places that are found. After an
+/// Adds the clashes of the record at i with those after it: these are among those at the places that are found. After an
 /// error some may be added.
 fn add_clashes(
     list: &mut Vec<Clash>,

@@ -28,7 +28,7 @@ pub struct Logs {
     pub of: Vec<u32>,
 }
 
-/// The logs of the records, in the order in which they first come. The error is want of memory.
+/// The logs of the records, in the order in which they first come. The error is: out of memory.
 pub fn logs_of(alloc: Global, records: &[Record]) -> Result<Logs, Memory>
     requires { length records.now < 2 ^ 32 }
     ensures { IfOk result (λ logs. AreLogs records.now (length records.now) logs.list.items logs.of.items) }
@@ -41,7 +41,7 @@ pub fn logs_of(alloc: Global, records: &[Record]) -> Result<Logs, Memory>
     Ok(Logs { list, of })
 }
 
-/// The place of the owner's log, which is added if it isn't there. The error is want of memory.
+/// The place of the owner's log, which is added if it isn't there. The error is: out of memory.
 fn lane_of(list: &mut Vec<Log>, owner: &PubKey) -> Result<u32, Memory>
     requires few { length list.old.items + 1 < 2 ^ 32 }
     requires keys { All HasItsKey list.old.items }

@@ -24,7 +24,7 @@ pub struct Marked {
     pub place: u32,
 }
 
-/// Each late record under each of its numbers, ascending by number, then by log, then by place. The error is want of memory.
+/// Each late record under each of its numbers, ascending by number, then by log, then by place. The error is: out of memory.
 pub fn marked_of(
     alloc: Global,
     records: &[Record],
@@ -44,7 +44,7 @@ pub fn marked_of(
     Ok(list)
 }
 
-/// Each late record under each of its numbers. The error is want of memory.
+/// Each late record under each of its numbers. The error is: out of memory.
 fn marked_in_turn(
     alloc: Global,
     records: &[Record],
@@ -66,7 +66,7 @@ fn marked_in_turn(
     Ok(list)
 }
 
-/// Adds the record at that place under each of its numbers, if it is late. `numbers` is room for the work. The error is want
+/// Adds the record at that place under each of its numbers, if it is late. `numbers` is room for the work. The error is: out
 /// of memory.
 fn mark_late(
     list: &mut Vec<Marked>,
@@ -93,7 +93,7 @@ fn mark_late(
     Ok(())
 }
 
-/// Adds the record at that place, of the log at that place, under each of the numbers. The error is want of memory.
+/// Adds the record at that place, of the log at that place, under each of the numbers. The error is: out of memory.
 fn mark(list: &mut Vec<Marked>, numbers: &[u64], log: u32, place: u32) -> Result<(), Memory>
     ensures added { OnOk result (list.new.items ≡ list.old.items ++ map (marked log place) numbers.now) }
     ensures log { log < 2 ^ 32 }

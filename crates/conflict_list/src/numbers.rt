@@ -19,7 +19,7 @@ const CUT: u64 = 257;
 
 const FIRST_PAGE: u64 = 258;
 
-/// Puts the numbers there under which the operation's record is found. The error is want of memory.
+/// Puts the numbers there under which the operation's record is found. The error is: out of memory.
 pub fn set_numbers(numbers: &mut Vec<u64>, op: &Op) -> Result<(), Memory>
     requires { OperationFits op.now }
     ensures { OnOk result (numbers.new.items ≡ numbers_of op.now) }
@@ -35,7 +35,7 @@ pub fn set_numbers(numbers: &mut Vec<u64>, op: &Op) -> Result<(), Memory>
     }
 }
 
-/// Puts the numbers there under which the operation's record looks. The error is want of memory.
+/// Puts the numbers there under which the operation's record looks. The error is: out of memory.
 pub fn set_looks(numbers: &mut Vec<u64>, op: &Op) -> Result<(), Memory>
     requires { OperationFits op.now }
     ensures { OnOk result (numbers.new.items ≡ looked_up op.now) }
@@ -51,7 +51,7 @@ pub fn set_looks(numbers: &mut Vec<u64>, op: &Op) -> Result<(), Memory>
     }
 }
 
-/// Adds those of the pieces that a Write begins and ends in. The error is want of memory.
+/// Adds those of the pieces that a Write begins and ends in. The error is: out of memory.
 fn push_pages(numbers: &mut Vec<u64>, file: &Key, offset: u64, bytes: &[u8]) -> Result<(), Memory>
     requires some { 1 ≤ length bytes.now }
     requires within { offset + length bytes.now ≤ longest_file }
@@ -66,7 +66,7 @@ fn push_pages(numbers: &mut Vec<u64>, file: &Key, offset: u64, bytes: &[u8]) -> 
     Ok(())
 }
 
-/// Adds that of the size, if one is given. The error is want of memory.
+/// Adds that of the size, if one is given. The error is: out of memory.
 fn push_cut(numbers: &mut Vec<u64>, file: &Key, size: Option<u64>) -> Result<(), Memory>
     ensures { OnOk result (numbers.new.items ≡ numbers.old.items ++ map number (cut file.now size)) }
 {
@@ -76,7 +76,7 @@ fn push_cut(numbers: &mut Vec<u64>, file: &Key, size: Option<u64>) -> Result<(),
     Ok(())
 }
 
-/// Adds those of the size and of all bytes that are written, if a size is given. The error is want of memory.
+/// Adds those of the size and of all bytes that are written, if a size is given. The error is: out of memory.
 fn push_all_bytes(numbers: &mut Vec<u64>, file: &Key, size: Option<u64>) -> Result<(), Memory>
     ensures { OnOk result (numbers.new.items ≡ numbers.old.items ++ map number (all_bytes file.now size)) }
 {
@@ -87,7 +87,7 @@ fn push_all_bytes(numbers: &mut Vec<u64>, file: &Key, size: Option<u64>) -> Resu
     Ok(())
 }
 
-/// Adds those of the operation's names. The error is want of memory.
+/// Adds those of the operation's names. The error is: out of memory.
 fn push_entries(numbers: &mut Vec<u64>, op: &Op) -> Result<(), Memory>
     ensures { OnOk result (numbers.new.items ≡ numbers.old.items ++ map number (map Entry (places op.now))) }
 {

@@ -28,7 +28,7 @@ pub struct Table {
     pub marks: Vec<Marked>,
 }
 
-/// The table of the records. The error is want of memory; it also comes where there are 2^32 records or more.
+/// The table of the records. The error is: out of memory; it also comes where there are 2^32 records or more.
 pub fn table_of(alloc: Global, records: &[Record]) -> Result<Table, Memory>
     requires { AllByRecursion HasSpelling (records_of records.now) }
     ensures { IfOk result (IsTable records.now) }
@@ -54,7 +54,7 @@ fn are_growing(records: &[Record], of: &[u32], marks: &[Marked]) -> bool
 
 impl Table {
     /// Adds the places of the later records that may be in conflict with the one at i, and are under one of the numbers. The
-    /// error is want of memory.
+    /// error is: out of memory.
     pub fn add_all(
         &self,
         records: &[Record],
@@ -73,7 +73,7 @@ impl Table {
         Ok(())
     }
 
-    /// Adds those under the number. The error is want of memory.
+    /// Adds those under the number. The error is: out of memory.
     fn add_number(
         &self,
         records: &[Record],
@@ -102,7 +102,7 @@ impl Table {
         Ok(())
     }
 
-    /// Adds those of the run, up to the first that knows the record at i where later ones know it too. The error is want of
+    /// Adds those of the run, up to the first that knows the record at i where later ones know it too. The error is: out of
     /// memory.
     fn add_run(
         &self,

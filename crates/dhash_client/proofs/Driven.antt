@@ -1,4 +1,4 @@
--- What a driver of a look-up keeps: what may follow now, behind what it was told so far, may follow from the start.
+-- What a driver of a look-up keeps: what may follow now, after what it was told so far, may follow from the start.
 use Rattle.std.proofs.Common.{◌++◌, List, [], Option, None, subst, sym}
 use Rattle.std.proofs.lemmas.List.{append_assoc, append-nil}
 use Rattle.ivy_base.specs.declared.key.Key.{Key}

@@ -14,18 +14,18 @@ use Rattle.ring_model.specs.Members.{first}
 use Rattle.ring_model.specs.Gets.{Right, Damaged, Missing, AreAsks, nodes, given, judged}
 use Rattle.ring_model.proofs.Gets.{given_none, given_some}
 use Rattle.ring_model.proofs.Lists.{nil_cons}
-use Rattle.dhash_client.specs.Course.{CourseState, asked_of, IsBehind, Hears, Goes}
+use Rattle.dhash_client.specs.Execution.{ExecutionState, asked_of, IsBehind, Hears, Goes}
 use Rattle.dhash_client.specs.GetHead.{Judges, HeadState, IsEnoughHead, SumsHead, HeadIsWanted, HeadHasHeard, TakesJudged, HeadTakes, heads_result}
-use Rattle.dhash_client.specs.declared.course.Step.TheVariants as step
+use Rattle.dhash_client.specs.declared.execution.Step.TheVariants as step
 use Rattle.dhash_model.specs.declared.miss.Miss.TheVariants as miss
-use Rattle.dhash_model.specs.Course.{Told}
+use Rattle.dhash_model.specs.Execution.{Told}
 use Rattle.dhash_model.specs.GetBlock.{is_of_get, block_in}
 use Rattle.dhash_model.specs.GetHead.{EndsHeadGet, IsGetOfHead}
 use Rattle.dhash_model.specs.declared.miss.Miss.{Miss}
 use Rattle.dhash_client.proofs.BlockGets.{giver_more}
-use Rattle.dhash_client.proofs.Courses.{looks_on, hears_route, hears_owner, no_route_at, route_awaited, owner_awaited, owner_on, over_ends}
+use Rattle.dhash_client.proofs.Executions.{looks_on, hears_route, hears_owner, no_route_at, route_awaited, owner_awaited, owner_on, over_ends}
 
--- what the judge says behind one more block
+-- what the judge says after one more block
 judged_more : (judge : List ℕ → Option Judged) (asks : Told) (node : Peer) (heard : Answer) (bytes : List ℕ) → block_in heard ≡ Some bytes
     → judged block_in judge (asks ++ (node, heard) ∷ []) ≡ judged block_in judge asks ++ cons_option (judge bytes) []
 judged_more judge asks node heard bytes e = ap (λ l. filter_map (λ b. judge b.1) l) (given_some block_in asks node heard bytes e) ∙ filter_map-append (λ b. judge b.1) (given block_in asks) ((node, bytes) ∷ [])
@@ -52,21 +52,21 @@ takes_sums judges key old new owner heard None e t asks sums =
     (t.0 ∙ sums.0 ∙ ap (λ l. filter_map (λ b. judges old.judge key b.1) l) (sym same), λ none. t.1 ∙ sums.1 (sym t.0 ∙ none) ∙ ap (λ l. first (nodes l)) (sym same))
 takes_sums judges key old new owner heard (Some bytes) e t asks sums = takes_judged judges key old new owner heard bytes e (judges old.judge key bytes) refl t asks sums
 
-pub head_heard_route : {J : Type 0} (judges : Judges J) (old new : CourseState) (judge : J) (heads : List Judged) (wrong : Option Peer) (heard : Answer) (counts : Bool) → Hears old new heard counts None
-    → HeadHasHeard judges (record { course = old; judge = judge; heads = heads; wrong = wrong }) (record { course = new; judge = judge; heads = heads; wrong = wrong }) heard
+pub head_heard_route : {J : Type 0} (judges : Judges J) (old new : ExecutionState) (judge : J) (heads : List Judged) (wrong : Option Peer) (heard : Answer) (counts : Bool) → Hears old new heard counts None
+    → HeadHasHeard judges (record { execution = old; judge = judge; heads = heads; wrong = wrong }) (record { execution = new; judge = judge; heads = heads; wrong = wrong }) heard
 head_heard_route judges old new judge heads wrong heard counts hears = (
   ((hears.3.key, hears.2), refl),
   λ entries trail node q w h.
       hears_route (λ key. ask.Get key) is_of_get IsEnoughHead (λ key. SumsHead (judges judge key) heads wrong) entries trail old new node q heard counts hears w h,
 )
 
-pub head_heard_owner : {J : Type 0} (judges : Judges J) (old new : CourseState) (judge : J) (heads : List Judged) (wrong : Option Peer) (last : HeadState J) (owner : Peer) (heard answer : Answer) (counts : Bool)
-    → Hears old new heard counts (Some (owner, answer)) → counts ≡ is_of_get heard → last.course ≡ new → last.judge ≡ judge → HeadTakes judges new.look.key (record { course = new; judge = judge; heads = heads; wrong = wrong }) last owner (block_in answer)
-    → HeadHasHeard judges (record { course = old; judge = judge; heads = heads; wrong = wrong }) last heard
+pub head_heard_owner : {J : Type 0} (judges : Judges J) (old new : ExecutionState) (judge : J) (heads : List Judged) (wrong : Option Peer) (last : HeadState J) (owner : Peer) (heard answer : Answer) (counts : Bool)
+    → Hears old new heard counts (Some (owner, answer)) → counts ≡ is_of_get heard → last.execution ≡ new → last.judge ≡ judge → HeadTakes judges new.look.key (record { execution = new; judge = judge; heads = heads; wrong = wrong }) last owner (block_in answer)
+    → HeadHasHeard judges (record { execution = old; judge = judge; heads = heads; wrong = wrong }) last heard
 head_heard_owner {J = J} judges old new judge heads wrong last owner heard answer counts hears count same same_judge takes = (
   ((ap (λ c. c.look.key) same ∙ ap (λ s. s.key) hears.1.look, ap (λ c. c.replicas) same ∙ hears.1.replicas), same_judge),
   λ entries trail node q w h.
-      let before : HeadState J = record { course = new; judge = judge; heads = heads; wrong = wrong } in
+      let before : HeadState J = record { execution = new; judge = judge; heads = heads; wrong = wrong } in
       let takes : HeadTakes judges old.look.key before last owner (block_in heard) =
       subst (λ k. HeadTakes judges k before last owner (block_in heard)) (ap (λ s. s.key) hears.1.look) (subst (λ a. HeadTakes judges new.look.key before last owner (block_in a)) hears.0 takes) in
       subst (λ c. IsBehind (λ key. ask.Get key) is_of_get IsEnoughHead (λ key. SumsHead (judges last.judge key) last.heads last.wrong) entries (trail ++ told node q heard) c.look.key c.replicas c.look c.asking) (sym same)
@@ -75,24 +75,24 @@ head_heard_owner {J = J} judges old new judge heads wrong last owner heard answe
       (λ asks few sums e. absurd (omega (arith, few, e))) (takes_sums judges old.look.key before last owner heard (block_in heard) refl takes) h)),
 )
 
-pub head_wants_route : {J : Type 0} (judges : Judges J) (old new : CourseState) (judge : J) (heads : List Judged) (wrong : Option Peer) (node : Peer) (key : Key) → key ≡ new.look.key → Goes old new (step.Route node)
-    → HeadIsWanted judges (record { course = old; judge = judge; heads = heads; wrong = wrong }) (record { course = new; judge = judge; heads = heads; wrong = wrong }) (want.Ask node (ask.Route key))
+pub head_wants_route : {J : Type 0} (judges : Judges J) (old new : ExecutionState) (judge : J) (heads : List Judged) (wrong : Option Peer) (node : Peer) (key : Key) → key ≡ new.look.key → Goes old new (step.Route node)
+    → HeadIsWanted judges (record { execution = old; judge = judge; heads = heads; wrong = wrong }) (record { execution = new; judge = judge; heads = heads; wrong = wrong }) (want.Ask node (ask.Route key))
 head_wants_route judges old new judge heads wrong node key k l = (
   ((l.key, l.replicas), refl),
   route_awaited (λ key. ask.Get key) is_of_get IsEnoughHead (λ key. SumsHead (judges judge key) heads wrong) [] old new node key k l,
   λ entries trail h. looks_on (λ key. ask.Get key) is_of_get IsEnoughHead (λ key. SumsHead (judges judge key) heads wrong) entries trail old new node l h,
 )
 
-pub head_wants_owner : {J : Type 0} (judges : Judges J) (old new : CourseState) (judge : J) (heads : List Judged) (wrong : Option Peer) (node : Peer) (key : Key) → key ≡ new.look.key → Goes old new (step.Owner node)
-    → HeadIsWanted judges (record { course = old; judge = judge; heads = heads; wrong = wrong }) (record { course = new; judge = judge; heads = heads; wrong = wrong }) (want.Ask node (ask.Get key))
+pub head_wants_owner : {J : Type 0} (judges : Judges J) (old new : ExecutionState) (judge : J) (heads : List Judged) (wrong : Option Peer) (node : Peer) (key : Key) → key ≡ new.look.key → Goes old new (step.Owner node)
+    → HeadIsWanted judges (record { execution = old; judge = judge; heads = heads; wrong = wrong }) (record { execution = new; judge = judge; heads = heads; wrong = wrong }) (want.Ask node (ask.Get key))
 head_wants_owner judges old new judge heads wrong node key k g = (
   ((g.1.key, g.1.replicas), refl),
   owner_awaited (λ key. ask.Get key) is_of_get IsEnoughHead (λ key. SumsHead (judges judge key) heads wrong) [] old new node key k g,
   λ entries trail h. owner_on (λ key. ask.Get key) is_of_get IsEnoughHead (λ key. SumsHead (judges judge key) heads wrong) entries trail old new node g h,
 )
 
-pub head_wants_nothing : {J : Type 0} (judges : Judges J) (old new : CourseState) (judge : J) (heads : List Judged) (wrong : Option Peer) (last : HeadState J) (key : Key) → key ≡ new.look.key → Goes old new step.NoRoute
-    → HeadIsWanted judges (record { course = old; judge = judge; heads = heads; wrong = wrong }) last (want.Done (Err (miss.NoRoute key)))
+pub head_wants_nothing : {J : Type 0} (judges : Judges J) (old new : ExecutionState) (judge : J) (heads : List Judged) (wrong : Option Peer) (last : HeadState J) (key : Key) → key ≡ new.look.key → Goes old new step.NoRoute
+    → HeadIsWanted judges (record { execution = old; judge = judge; heads = heads; wrong = wrong }) last (want.Done (Err (miss.NoRoute key)))
 head_wants_nothing judges old new judge heads wrong last key k g = λ entries trail h.
     subst (λ k. IsGetOfHead (judges judge old.look.key) old.look.key old.replicas entries trail (Err (miss.NoRoute k))) (sym (k ∙ g.4))
     (no_route_at (λ key. ask.Get key) is_of_get IsEnoughHead (λ key. SumsHead (judges judge key) heads wrong) entries (EndsHeadGet (judges judge old.look.key) old.look.key old.replicas) trail old g.1 g.0 g.2 g.3 h)
@@ -103,8 +103,8 @@ heads_end judge key r owners asks asked [] None e sums made = (Missing asked, re
 heads_end judge key r owners asks asked [] (Some node) e sums made = (Damaged node, record { asks = made; ends = (sym sums.0, sym (sums.1 refl)) }, refl)
 heads_end judge key r owners asks asked (head ∷ heads) wrong e sums made = (Right (head ∷ heads), record { asks = made; ends = ((λ none. nil_cons head heads (sym none)), sums.0) }, refl)
 
-pub head_wants_over : {J : Type 0} (judges : Judges J) (old new : CourseState) (judge : J) (heads : List Judged) (wrong : Option Peer) (last : HeadState J) (given : Result (List Judged) Miss) → given ≡ heads_result new.look.key (asked_of new.asking) heads wrong
-    → Goes old new step.Over → HeadIsWanted judges (record { course = old; judge = judge; heads = heads; wrong = wrong }) last (want.Done given)
+pub head_wants_over : {J : Type 0} (judges : Judges J) (old new : ExecutionState) (judge : J) (heads : List Judged) (wrong : Option Peer) (last : HeadState J) (given : Result (List Judged) Miss) → given ≡ heads_result new.look.key (asked_of new.asking) heads wrong
+    → Goes old new step.Over → HeadIsWanted judges (record { execution = old; judge = judge; heads = heads; wrong = wrong }) last (want.Done given)
 head_wants_over judges old new judge heads wrong last given m g = λ entries trail h.
     subst (λ m. IsGetOfHead (judges judge old.look.key) old.look.key old.replicas entries trail m) (sym m)
     (subst (λ key. IsGetOfHead (judges judge old.look.key) old.look.key old.replicas entries trail (heads_result key (asked_of new.asking) heads wrong)) (sym g.1.key)

@@ -10,14 +10,14 @@ use Rattle.dht_ids.specs.declared.ask.Want.TheVariants as want
 use Rattle.dht_ids.specs.declared.peer.Peer.{Peer}
 use Rattle.ring_model.specs.Gets.{AreAsks, IsAcknowledged, nodes, answered_in}
 use Rattle.ring_model.proofs.Gets.{answered_more}
-use Rattle.dhash_client.specs.Course.{Asking, CourseState, IsBehind, Hears, Goes, IsThrough, AreHolders}
+use Rattle.dhash_client.specs.Execution.{Asking, ExecutionState, IsBehind, Hears, Goes, IsThrough, AreHolders}
 use Rattle.dhash_client.specs.Puts.{question_of, IsPutOf, PutState, IsEnoughPut, SumsPut, PutIsWanted, PutHasHeard, one_more}
 use Rattle.dhash_client.specs.declared.put.PutKind.{PutKind}
-use Rattle.dhash_client.specs.declared.course.Step.TheVariants as step
+use Rattle.dhash_client.specs.declared.execution.Step.TheVariants as step
 use Rattle.dhash_model.specs.declared.miss.Miss.TheVariants as miss
-use Rattle.dhash_model.specs.Course.{Told}
+use Rattle.dhash_model.specs.Execution.{Told}
 use Rattle.dhash_model.specs.Puts.{is_of_put, holds, EndsPut}
-use Rattle.dhash_client.proofs.Courses.{looks_on, hears_route, hears_owner, no_route_at, route_awaited, owner_awaited, owner_on, over_ends}
+use Rattle.dhash_client.proofs.Executions.{looks_on, hears_route, hears_owner, no_route_at, route_awaited, owner_awaited, owner_on, over_ends}
 
 takes_sums : (holders holders2 : ℕ) (owner : Peer) (heard : Answer) → holders2 ≡ one_more (holds heard) holders → (asks : Told) → SumsPut holders asks → SumsPut holders2 (asks ++ (owner, heard) ∷ [])
 takes_sums holders holders2 owner heard e asks sums = e ∙ by_test (holds heard) ∙ ap (λ n. min n (2 ^ 32 - 1)) (sym (answered_more holds asks owner heard))
@@ -26,17 +26,17 @@ takes_sums holders holders2 owner heard e asks sums = e ∙ by_test (holds heard
     by_test true = omega (arith, sums)
     by_test false = omega (arith, sums)
 
-pub put_heard_route : (old new : CourseState) (what : PutKind) (bytes : List ℕ) (holders : ℕ) (heard : Answer) (counts : Bool) → Hears old new heard counts None
-    → PutHasHeard (record { what = what; course = old; bytes = bytes; holders = holders }) (record { what = what; course = new; bytes = bytes; holders = holders }) heard
+pub put_heard_route : (old new : ExecutionState) (what : PutKind) (bytes : List ℕ) (holders : ℕ) (heard : Answer) (counts : Bool) → Hears old new heard counts None
+    → PutHasHeard (record { what = what; execution = old; bytes = bytes; holders = holders }) (record { what = what; execution = new; bytes = bytes; holders = holders }) heard
 put_heard_route old new what bytes holders heard counts hears = (
   ((hears.3.key, hears.2), refl, refl),
   λ entries trail node q w h.
       hears_route (question_of what bytes) is_of_put IsEnoughPut (λ key. SumsPut holders) entries trail old new node q heard counts hears w h,
 )
 
-pub put_heard_owner : (old new : CourseState) (what : PutKind) (bytes : List ℕ) (holders : ℕ) (last : PutState) (owner : Peer) (heard answer : Answer) (counts : Bool) → Hears old new heard counts (Some (owner, answer)) → counts ≡ is_of_put heard
-    → last.course ≡ new → last.what ≡ what → last.bytes ≡ bytes → last.holders ≡ one_more (holds answer) holders
-    → PutHasHeard (record { what = what; course = old; bytes = bytes; holders = holders }) last heard
+pub put_heard_owner : (old new : ExecutionState) (what : PutKind) (bytes : List ℕ) (holders : ℕ) (last : PutState) (owner : Peer) (heard answer : Answer) (counts : Bool) → Hears old new heard counts (Some (owner, answer)) → counts ≡ is_of_put heard
+    → last.execution ≡ new → last.what ≡ what → last.bytes ≡ bytes → last.holders ≡ one_more (holds answer) holders
+    → PutHasHeard (record { what = what; execution = old; bytes = bytes; holders = holders }) last heard
 put_heard_owner old new what bytes holders last owner heard answer counts hears count same same_what same_bytes takes = (
   ((ap (λ c. c.look.key) same ∙ ap (λ s. s.key) hears.1.look, ap (λ c. c.replicas) same ∙ hears.1.replicas), same_what, same_bytes),
   λ entries trail node q w h.
@@ -47,24 +47,24 @@ put_heard_owner old new what bytes holders last owner heard answer counts hears 
       (λ asks few sums e. absurd (omega (arith, few, e))) (takes_sums holders last.holders owner heard (takes ∙ ap (λ a. one_more (holds a) holders) hears.0)) h))),
 )
 
-pub put_wants_route : (old new : CourseState) (what : PutKind) (bytes : List ℕ) (holders : ℕ) (node : Peer) (key : Key) → key ≡ new.look.key → Goes old new (step.Route node)
-    → PutIsWanted (record { what = what; course = old; bytes = bytes; holders = holders }) (record { what = what; course = new; bytes = bytes; holders = holders }) (want.Ask node (ask.Route key))
+pub put_wants_route : (old new : ExecutionState) (what : PutKind) (bytes : List ℕ) (holders : ℕ) (node : Peer) (key : Key) → key ≡ new.look.key → Goes old new (step.Route node)
+    → PutIsWanted (record { what = what; execution = old; bytes = bytes; holders = holders }) (record { what = what; execution = new; bytes = bytes; holders = holders }) (want.Ask node (ask.Route key))
 put_wants_route old new what bytes holders node key k l = (
   ((l.key, l.replicas), refl, refl),
   route_awaited (question_of what bytes) is_of_put IsEnoughPut (λ key. SumsPut holders) [] old new node key k l,
   λ entries trail h. looks_on (question_of what bytes) is_of_put IsEnoughPut (λ key. SumsPut holders) entries trail old new node l h,
 )
 
-pub put_wants_owner : (old new : CourseState) (what : PutKind) (bytes : List ℕ) (holders : ℕ) (node : Peer) (key : Key) (asked : Ask) → key ≡ new.look.key → asked ≡ question_of what bytes key → Goes old new (step.Owner node)
-    → PutIsWanted (record { what = what; course = old; bytes = bytes; holders = holders }) (record { what = what; course = new; bytes = bytes; holders = holders }) (want.Ask node asked)
+pub put_wants_owner : (old new : ExecutionState) (what : PutKind) (bytes : List ℕ) (holders : ℕ) (node : Peer) (key : Key) (asked : Ask) → key ≡ new.look.key → asked ≡ question_of what bytes key → Goes old new (step.Owner node)
+    → PutIsWanted (record { what = what; execution = old; bytes = bytes; holders = holders }) (record { what = what; execution = new; bytes = bytes; holders = holders }) (want.Ask node asked)
 put_wants_owner old new what bytes holders node key asked k q g = (
   ((g.1.key, g.1.replicas), refl, refl),
   owner_awaited (question_of what bytes) is_of_put IsEnoughPut (λ key. SumsPut holders) [] old new node key k g ∙ ap (λ a. Some (node, a)) (sym q),
   λ entries trail h. owner_on (question_of what bytes) is_of_put IsEnoughPut (λ key. SumsPut holders) entries trail old new node g h,
 )
 
-pub put_wants_nothing : (old new : CourseState) (what : PutKind) (bytes : List ℕ) (holders : ℕ) (last : PutState) (key : Key) → key ≡ new.look.key → Goes old new step.NoRoute
-    → PutIsWanted (record { what = what; course = old; bytes = bytes; holders = holders }) last (want.Done (Err (miss.NoRoute key)))
+pub put_wants_nothing : (old new : ExecutionState) (what : PutKind) (bytes : List ℕ) (holders : ℕ) (last : PutState) (key : Key) → key ≡ new.look.key → Goes old new step.NoRoute
+    → PutIsWanted (record { what = what; execution = old; bytes = bytes; holders = holders }) last (want.Done (Err (miss.NoRoute key)))
 put_wants_nothing old new what bytes holders last key k g = λ entries trail h.
     subst (λ k. IsPutOf what bytes old.look.key old.replicas entries trail (Err (miss.NoRoute k))) (sym (k ∙ g.4))
     (no_route_at (question_of what bytes) is_of_put IsEnoughPut (λ key. SumsPut holders) entries (EndsPut old.replicas) trail old g.1 g.0 g.2 g.3 h)
@@ -90,8 +90,8 @@ put_end r owners asks a holders b word made once asked sums acks = (b, record { 
     by_test true h = given h
     by_test false h = λ t. h (taken t)
 
-pub put_wants_over : (old new : CourseState) (what : PutKind) (bytes : List ℕ) (holders : ℕ) (last : PutState) (b : Bool) → new.replicas < 2 ^ 32 → MatchBool b (AreHolders new holders) (AreHolders new holders → ⊥) → Goes old new step.Over
-    → PutIsWanted (record { what = what; course = old; bytes = bytes; holders = holders }) last (want.Done (Ok b))
+pub put_wants_over : (old new : ExecutionState) (what : PutKind) (bytes : List ℕ) (holders : ℕ) (last : PutState) (b : Bool) → new.replicas < 2 ^ 32 → MatchBool b (AreHolders new holders) (AreHolders new holders → ⊥) → Goes old new step.Over
+    → PutIsWanted (record { what = what; execution = old; bytes = bytes; holders = holders }) last (want.Done (Ok b))
 put_wants_over old new what bytes holders last b word acks g = λ entries trail h.
     over_ends (question_of what bytes) is_of_put IsEnoughPut (λ key. SumsPut holders) entries (EndsPut old.replicas) trail old new (Ok b) g (λ asks few. few)
     (λ a owners asks made is once asked sums. put_end old.replicas owners asks a holders b (subst (λ r. r < 2 ^ 32) g.1.replicas word) made once asked sums

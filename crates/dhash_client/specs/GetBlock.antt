@@ -11,27 +11,27 @@ use Rattle.dht_ids.specs.declared.ask.Want.{Want}
 use Rattle.dht_ids.specs.declared.ask.Want.TheVariants as want
 use Rattle.dht_ids.specs.declared.peer.Peer.{Peer}
 use Rattle.ring_model.specs.Gets.{answered_in, first_giver, IsGiven, HasBlock}
-use Rattle.dhash_model.specs.Course.{Told}
+use Rattle.dhash_model.specs.Execution.{Told}
 use Rattle.dhash_model.specs.declared.miss.Miss.{Miss}
 use Rattle.dhash_model.specs.GetBlock.{is_of_get, block_in, IsGetOfBlock}
-use Rattle.dhash_client.specs.Course.{CourseState, IsOnCourse, IsSameCourse, begun, awaited}
+use Rattle.dhash_client.specs.Execution.{ExecutionState, IsOnExecution, IsSameExecution, begun, awaited}
 
 -- the machine: the right block, once it was given, and the first node that gave a wrong one
 pub record BlockState : Type 0 where
-  pub course : CourseState
+  pub execution : ExecutionState
   pub found : Option (List ℕ)
   pub wrong : Option Peer
 
 abbrev pub block_begun : Key → ℕ → List Peer → BlockState
-block_begun key r entries = record { course = begun key r entries; found = None; wrong = None }
+block_begun key r entries = record { execution = begun key r entries; found = None; wrong = None }
 
 -- the node to be heard, and what it is asked
-abbrev pub block_awaited_at : Option (List ℕ) → CourseState → Option (Peer × Ask)
+abbrev pub block_awaited_at : Option (List ℕ) → ExecutionState → Option (Peer × Ask)
 block_awaited_at None c = awaited (ask.Get c.look.key) c
 block_awaited_at (Some bytes) c = None
 
 abbrev pub block_awaited : BlockState → Option (Peer × Ask)
-block_awaited s = block_awaited_at s.found s.course
+block_awaited s = block_awaited_at s.found s.execution
 
 abbrev pub IsEnoughBlock : Key → ℕ → Told → Type 0
 IsEnoughBlock key r t = (r ≤ answered_in is_of_get t) ⊎ HasBlock block_in key t
@@ -40,23 +40,23 @@ abbrev pub SumsBlock : Key → Option (List ℕ) → Option Peer → Told → Ty
 SumsBlock key None wrong asks = (HasBlock block_in key asks → ⊥) × (wrong ≡ first_giver block_in asks)
 SumsBlock key (Some bytes) wrong asks = IsGiven block_in key asks bytes
 
--- the machine may be in this state behind this trail
+-- the machine may be in this state after this trail
 abbrev pub BlockIsAfter : List Peer → List Heard → BlockState → Type 0
-BlockIsAfter entries trail s = IsOnCourse (λ key. ask.Get key) is_of_get IsEnoughBlock
-    (λ key. SumsBlock key s.found s.wrong) entries trail s.course
+BlockIsAfter entries trail s = IsOnExecution (λ key. ask.Get key) is_of_get IsEnoughBlock
+    (λ key. SumsBlock key s.found s.wrong) entries trail s.execution
 
 -- what the machine wants: to ask a node, which is then to be heard, or nothing more, since its trail is a whole get
 abbrev pub BlockIsWanted : BlockState → BlockState → Want (Result (List ℕ) Miss) → Type 0
 BlockIsWanted old new (want.Ask node question) =
-    IsSameCourse old.course new.course × (block_awaited new ≡ Some (node, question))
+    IsSameExecution old.execution new.execution × (block_awaited new ≡ Some (node, question))
     × ((entries : List Peer) (trail : List Heard) → BlockIsAfter entries trail old → BlockIsAfter entries trail new)
 BlockIsWanted old new (want.Done result) =
     (entries : List Peer) (trail : List Heard) → BlockIsAfter entries trail old
-    → IsGetOfBlock old.course.look.key old.course.replicas entries trail result
+    → IsGetOfBlock old.execution.look.key old.execution.replicas entries trail result
 
 -- the node that was to be heard was heard: its ask and answer are the next of the trail
 abbrev pub BlockHasHeard : BlockState → BlockState → Answer → Type 0
-BlockHasHeard old new given = IsSameCourse old.course new.course
+BlockHasHeard old new given = IsSameExecution old.execution new.execution
     × ((entries : List Peer) (trail : List Heard) (node : Peer) (question : Ask) → block_awaited old ≡ Some (node, question)
     → BlockIsAfter entries trail old → BlockIsAfter entries (trail ++ told node question given) new)
 

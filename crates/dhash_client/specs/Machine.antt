@@ -11,7 +11,7 @@ use Rattle.ring_model.specs.Members.{IsAmong}
 use Rattle.ring_model.specs.Route.{Route}
 use Rattle.ring_model.specs.Lookup.{IsLookup}
 use Rattle.dhash_model.specs.declared.miss.Miss.{Miss}
-use Rattle.dhash_model.specs.Course.{outcome}
+use Rattle.dhash_model.specs.Execution.{outcome}
 
 -- a look-up of a key: the nodes asked and heard, the newest first, the owners that the last answer named, the nodes
 -- still to ask, and the node that was asked and not yet heard
@@ -43,7 +43,7 @@ Trail = List (Peer × Option (Route Peer))
 abbrev pub Follow : State → Trail → Option (List Peer) → Type 0
 Follow s trail found = IsLookup s.asked s.last (to_ask s.waiting s.rest) trail found
 
--- what may follow from the new state may follow from the old one behind those asks
+-- what may follow from the new state may follow from the old one after those asks
 abbrev pub FollowsAfter : Trail → State → State → Type 0
 FollowsAfter first old new = (trail : Trail) (found : Option (List Peer)) → Follow new trail found → Follow old (first ++ trail) found
 

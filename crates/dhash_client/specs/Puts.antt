@@ -12,10 +12,10 @@ use Rattle.dht_ids.specs.declared.peer.Peer.{Peer}
 use Rattle.dht_ids.specs.declared.post.PostKind.{PostKind}
 use Rattle.dht_ids.specs.declared.post.PostKind.TheVariants as post
 use Rattle.ring_model.specs.Gets.{answered_in}
-use Rattle.dhash_model.specs.Course.{Told, IsCourse}
+use Rattle.dhash_model.specs.Execution.{Told, IsExecution}
 use Rattle.dhash_model.specs.declared.miss.Miss.{Miss}
 use Rattle.dhash_model.specs.Puts.{is_of_put, holds, EndsPut}
-use Rattle.dhash_client.specs.Course.{CourseState, IsOnCourse, IsSameCourse, begun, awaited}
+use Rattle.dhash_client.specs.Execution.{ExecutionState, IsOnExecution, IsSameExecution, begun, awaited}
 use Rattle.dhash_client.specs.declared.put.PutKind.{PutKind}
 use Rattle.dhash_client.specs.declared.put.PutKind.TheVariants as kind
 
@@ -32,25 +32,25 @@ question_of kind.Head bytes key = ask.PutHead key bytes
 
 -- A put of these bytes under that key, over a whole trail.
 abbrev pub IsPutOf : PutKind → List ℕ → Key → ℕ → List Peer → List Heard → Result Bool Miss → Type 0
-IsPutOf what bytes key r entries = IsCourse key (question_of what bytes key) entries (EndsPut r)
+IsPutOf what bytes key r entries = IsExecution key (question_of what bytes key) entries (EndsPut r)
 
 -- the machine: what is put, and how many owners hold it so far
 pub record PutState : Type 0 where
   pub what : PutKind
-  pub course : CourseState
+  pub execution : ExecutionState
   pub bytes : List ℕ
   pub holders : ℕ
 
 abbrev pub put_begun : PutKind → List ℕ → Key → ℕ → List Peer → PutState
-put_begun what bytes key r entries = record { what = what; course = begun key r entries; bytes = bytes; holders = 0 }
+put_begun what bytes key r entries = record { what = what; execution = begun key r entries; bytes = bytes; holders = 0 }
 
 -- what is put, under which key, and the number of answers are the same
 abbrev pub IsSamePut : PutState → PutState → Type 0
-IsSamePut old new = IsSameCourse old.course new.course × (new.what ≡ old.what) × (new.bytes ≡ old.bytes)
+IsSamePut old new = IsSameExecution old.execution new.execution × (new.what ≡ old.what) × (new.bytes ≡ old.bytes)
 
 -- the node to be heard, and what it is asked
 abbrev pub put_awaited : PutState → Option (Peer × Ask)
-put_awaited s = awaited (question_of s.what s.bytes s.course.look.key) s.course
+put_awaited s = awaited (question_of s.what s.bytes s.execution.look.key) s.execution
 
 abbrev pub IsEnoughPut : Key → ℕ → Told → Type 0
 IsEnoughPut key r t = r ≤ answered_in is_of_put t
@@ -59,9 +59,10 @@ IsEnoughPut key r t = r ≤ answered_in is_of_put t
 abbrev pub SumsPut : ℕ → Told → Type 0
 SumsPut holders asks = holders ≡ min (answered_in holds asks) (2 ^ 32 - 1)
 
--- the machine may be in this state behind this trail
+-- the machine may be in this state after this trail
 abbrev pub PutIsAfter : List Peer → List Heard → PutState → Type 0
-PutIsAfter entries trail s = IsOnCourse (question_of s.what s.bytes) is_of_put IsEnoughPut (λ key. SumsPut s.holders) entries trail s.course
+PutIsAfter entries trail s = IsOnExecution (question_of s.what s.bytes) is_of_put IsEnoughPut
+    (λ key. SumsPut s.holders) entries trail s.execution
 
 -- what the machine wants: to ask a node, which is then to be heard, or nothing more, since its trail is a whole put
 abbrev pub PutIsWanted : PutState → PutState → Want (Result Bool Miss) → Type 0
@@ -70,7 +71,7 @@ PutIsWanted old new (want.Ask node question) =
     × ((entries : List Peer) (trail : List Heard) → PutIsAfter entries trail old → PutIsAfter entries trail new)
 PutIsWanted old new (want.Done result) =
     (entries : List Peer) (trail : List Heard) → PutIsAfter entries trail old
-    → IsPutOf old.what old.bytes old.course.look.key old.course.replicas entries trail result
+    → IsPutOf old.what old.bytes old.execution.look.key old.execution.replicas entries trail result
 
 -- the node that was to be heard was heard: its ask and answer are the next of the trail
 abbrev pub PutHasHeard : PutState → PutState → Answer → Type 0

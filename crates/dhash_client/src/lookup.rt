@@ -2,7 +2,7 @@
 
 ghost use Rattle.std.specs.Prelude.{◌≡◌, ◌≢◌, ◌<◌, ◌≤◌, [], ◌∷◌, length, reverse, None, IfOk, MatchBool, MatchOption};
 ghost use Rattle.ring_model.specs.Members.{IsAmong};
-ghost use Rattle.dhash_model.specs.Course.{outcome};
+ghost use Rattle.dhash_model.specs.Execution.{outcome};
 ghost use Rattle.dhash_client.specs.Machine.{fresh, looks_left, to_ask, IsRest, IsWanted, Follow, FollowsAfter, HasHeard};
 
 use dhash_model::Miss;
@@ -83,7 +83,7 @@ fn result_of(alloc: Global, key: Key, last: &Option<Peers>) -> Result<Result<Pee
 
 impl Lookup {
     /// A look-up of the key that begins at these nodes. All machines of a client are started so; a look-up makes
-    /// nothing of the number of replicas. The error is want of memory.
+    /// nothing of the number of replicas. The error is: out of memory.
     pub fn start(alloc: Global, key: Key, _replicas: u32, entries: &Peers) -> Result<Lookup, Memory>
         ensures { IfOk result (λ lookup. lookup ≡ fresh key entries.now) }
     {
@@ -110,7 +110,7 @@ impl Lookup {
 
     /// What the look-up wants next: an ask for the route to the key, of a node that it didn't ask before, or nothing
     /// more. Its result is then the owners that the last answer named, or NoRoute of the key where no node answered
-    /// or the last answer named no owner. An ask that was not yet heard is wanted again. The error is want of memory;
+    /// or the last answer named no owner. An ask that was not yet heard is wanted again. The error is: out of memory;
     /// the machine isn't used after it.
     pub fn next(&mut self) -> Result<Want<Result<Peers, Miss>>, Memory>
         ensures key { self.new.key ≡ self.old.key }
@@ -140,7 +140,7 @@ impl Lookup {
     }
 
     /// Hears what the node answered that was asked last. Any answer but a route is silence. It is called once after
-    /// each ask. The error is want of memory; the machine isn't used after it.
+    /// each ask. The error is: out of memory; the machine isn't used after it.
     pub fn heard(&mut self, answer: Answer) -> Result<(), Memory>
         requires { self.old.waiting ≢ None }
         ensures heard { IfOk result (λ _. HasHeard self.old self.new answer) }

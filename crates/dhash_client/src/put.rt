@@ -2,11 +2,11 @@
 
 ghost use Rattle.std.specs.Prelude.{◌≡◌, ◌≢◌, ◌<◌, ◌≤◌, IfOk};
 ghost use Rattle.std.specs.declared.option.Option.{Option};
-ghost use Rattle.dhash_client.specs.Course.{asks_left};
+ghost use Rattle.dhash_client.specs.Execution.{asks_left};
 ghost use Rattle.dhash_model.specs.Puts.{is_of_put, holds};
 ghost use Rattle.dhash_client.specs.Puts.{put_kind, question_of, put_begun, put_awaited, one_more, PutIsWanted, PutHasHeard};
 
-use crate::course::{Course, Step};
+use crate::execution::{Execution, Step};
 use dhash_model::Miss;
 use dht_ids::{Answer, Ask, Peers, Post, PostKind, StoreFault, Want};
 use ivy_base::{Bytes, Key, Memory};
@@ -22,11 +22,11 @@ pub(crate) enum PutKind {
     Head,
 }
 
-/// A put of a post at the owners of its key: of a head as a head (Ivy, OSDI 2002, section 3.2), of any other block as a
-/// content block (DHash; CFS, SOSP 2001, section 5.1). It has its course, and how many owners hold the block now, or a newer head.
+/// A put of a post at the owners of its key: of a head as a head (Ivy, OSDI 2002, section 3.2), of any other block as a content
+/// block (DHash; CFS, SOSP 2001, section 5.1). It has its execution, and how many owners hold the block now, or a newer head.
 pub struct PutPost {
     what: PutKind,
-    course: Course,
+    execution: Execution,
     bytes: Bytes,
     holders: u32,
 }
@@ -36,7 +36,7 @@ impl Drop for PutPost {
     fn drop(self) {
         let PutPost {
             what: _,
-            course: _,
+            execution: _,
             bytes: _,
             holders: _,
         } = self;
@@ -48,7 +48,7 @@ impl Model for PutPost {
 
     ghost Value = { PutState };
 
-    ghost view = { λ p. record { what = p.what; course = p.course; bytes = p.bytes; holders = p.holders } };
+    ghost view = { λ p. record { what = p.what; execution = p.execution; bytes = p.bytes; holders = p.holders } };
 }
 
 /// How a post of this kind is put.
@@ -79,8 +79,8 @@ fn is_held(answer: &Answer) -> bool
 }
 
 impl PutPost {
-    /// A put of the post that begins its look-up at these nodes and is content with that many answers. The error is
-    /// want of memory.
+    /// A put of the post that begins its look-up at these nodes and is content with that many answers. The error
+    /// is: out of memory.
     pub fn start(
         alloc: Global,
         post: Post,
@@ -92,17 +92,17 @@ impl PutPost {
         let (what, key) = (put_kind(post.kind), post.key);
         Ok(PutPost {
             what,
-            course: Course::start(alloc, key, replicas, entries)?,
+            execution: Execution::start(alloc, key, replicas, entries)?,
             bytes: post.into_bytes(),
             holders: 0,
         })
     }
 
-    /// What an owner is asked. The error is want of memory.
+    /// What an owner is asked. The error is: out of memory.
     fn question(&self, key: Key) -> Result<Ask, Memory>
         ensures { IfOk result (λ question. question ≡ question_of self.now.what self.now.bytes key) }
     {
-        let bytes = self.bytes.copy(self.course.allocator())?;
+        let bytes = self.bytes.copy(self.execution.allocator())?;
         Ok(match self.what {
             PutKind::Block => Ask::PutBlock(key, bytes),
             PutKind::Head => Ask::PutHead(key, bytes),
@@ -110,31 +110,31 @@ impl PutPost {
     }
 
     /// What the put wants next: an ask, to which the bytes are copied, or nothing more, since it has its result:
-    /// whether it was acknowledged, or NoRoute. An ask that was not yet heard is wanted again. The error is want of
+    /// whether it was acknowledged, or NoRoute. An ask that was not yet heard is wanted again. The error is: out of
     /// memory; the machine isn't used after it.
     pub fn next(&mut self) -> Result<Want<Result<bool, Miss>>, Memory>
         ensures wanted { IfOk result (λ want. PutIsWanted self.old self.new want) }
-        ensures left { IfOk result (λ _. asks_left self.new.course ≤ asks_left self.old.course) }
+        ensures left { IfOk result (λ _. asks_left self.new.execution ≤ asks_left self.old.execution) }
     {
-        let step = self.course.next()?;
-        let key = self.course.key();
+        let step = self.execution.next()?;
+        let key = self.execution.key();
         Ok(match step {
             Step::Route(node) => Want::Ask(node, Ask::Route(key)),
             Step::Owner(node) => Want::Ask(node, self.question(key)?),
             Step::NoRoute => Want::Done(Err(Miss::NoRoute(key))),
-            Step::Over => Want::Done(Ok(self.course.are_holders(self.holders))),
+            Step::Over => Want::Done(Ok(self.execution.are_holders(self.holders))),
         })
     }
 
     /// Hears what the node answered that was asked last. An owner's answer that is none to a put is silence. It is
-    /// called once after each ask. The error is want of memory; the machine isn't used after it.
+    /// called once after each ask. The error is: out of memory; the machine isn't used after it.
     pub fn heard(&mut self, answer: Answer) -> Result<(), Memory>
         requires { put_awaited self.old ≢ Option.None }
         ensures heard { IfOk result (λ _. PutHasHeard self.old self.new answer) }
-        ensures left { IfOk result (λ _. asks_left self.new.course < asks_left self.old.course) }
+        ensures left { IfOk result (λ _. asks_left self.new.execution < asks_left self.old.execution) }
     {
         let counts = answers_put(&answer);
-        if let Some((_, answer)) = self.course.heard(answer, counts)? {
+        if let Some((_, answer)) = self.execution.heard(answer, counts)? {
             self.take(answer);
         }
         Ok(())
@@ -142,7 +142,7 @@ impl PutPost {
 
     /// Takes what an owner answered.
     fn take(&mut self, answer: Answer)
-        ensures course { self.new.course ≡ self.old.course }
+        ensures execution { self.new.execution ≡ self.old.execution }
         ensures what { self.new.what ≡ self.old.what }
         ensures bytes { self.new.bytes ≡ self.old.bytes }
         ensures holders { self.new.holders ≡ one_more (holds answer) self.old.holders }

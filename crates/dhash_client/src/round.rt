@@ -2,7 +2,7 @@
 
 ghost use Rattle.std.specs.Prelude.{◌≡◌, ◌≢◌, ◌+◌, ◌<◌, ◌^◌, length, [], ◌∷◌, ◌++◌, if◌then◌else◌, IfOk, MatchBool};
 ghost use Rattle.ring_model.specs.Gets.{AreFirsts};
-ghost use Rattle.dhash_client.specs.Course.{next_owner};
+ghost use Rattle.dhash_client.specs.Execution.{next_owner};
 
 use crate::lookup::was_asked;
 use dht_ids::{Peer, Peers};
@@ -20,7 +20,7 @@ pub(crate) struct Round {
 
 impl Model for Round {
     ghost use Rattle.std.specs.Prelude.{◌≤◌, length, take, drop};
-    ghost use Rattle.dhash_client.specs.Course.{Asking};
+    ghost use Rattle.dhash_client.specs.Execution.{Asking};
 
     ghost Value = { Asking };
 
@@ -43,7 +43,7 @@ fn once(alloc: Global, peers: &[Peer]) -> Result<Vec<Peer>, Memory>
 }
 
 impl Round {
-    /// The owners, of whom nobody was asked yet. The error is want of memory.
+    /// The owners, of whom nobody was asked yet. The error is: out of memory.
     pub(crate) fn over(alloc: Global, owners: &Peers) -> Result<Round, Memory>
         ensures firsts { IfOk result (λ round. AreFirsts [] owners.now round.rest) }
         ensures asked { IfOk result (λ round. round.asked ≡ []) }
@@ -90,7 +90,7 @@ impl Round {
         self.at == self.owners.len()
     }
 
-    /// A copy of the owners that were asked, in order. The error is want of memory.
+    /// A copy of the owners that were asked, in order. The error is: out of memory.
     pub(crate) fn asked(&self, alloc: Global) -> Result<Peers, Memory>
         ensures { IfOk result (λ asked. asked ≡ self.now.asked) }
     {

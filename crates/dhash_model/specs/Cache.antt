@@ -6,16 +6,16 @@ use Rattle.std.specs.Str.{bytes_eq}
 use Rattle.ivy_base.specs.declared.key.Key.{Key}
 
 -- whether two keys are equal
-abbrev pub same_key : Key → Key → Bool
-same_key a b = bytes_eq a.0 b.0
+abbrev pub keys_equal : Key → Key → Bool
+keys_equal a b = bytes_eq a.0 b.0
 
 -- the bytes that are held under the key
 abbrev pub block_of : Key → List (Key × List ℕ) → Option (List ℕ)
-block_of key = lookup (same_key key)
+block_of key = lookup (keys_equal key)
 
 -- the pairs of other keys
 abbrev pub others : Key → List (Key × List ℕ) → List (Key × List ℕ)
-others key = filter (λ pair. not (same_key key pair.0))
+others key = filter (λ pair. not (keys_equal key pair.0))
 
 -- after a look-up: the pair that it found is the first
 abbrev pub moved_to_front : Key → List (Key × List ℕ) → List (Key × List ℕ)

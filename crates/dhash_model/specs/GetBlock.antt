@@ -7,7 +7,7 @@ use Rattle.dht_ids.specs.declared.ask.Ask.TheVariants as ask
 use Rattle.dht_ids.specs.declared.ask.Heard.{Heard}
 use Rattle.dht_ids.specs.declared.peer.Peer.{Peer}
 use Rattle.ring_model.specs.Gets.{Got, IsBlockGet}
-use Rattle.dhash_model.specs.Course.{Told, IsCourse, result_of}
+use Rattle.dhash_model.specs.Execution.{Told, IsExecution, result_of}
 use Rattle.dhash_model.specs.declared.miss.Miss.{Miss}
 
 -- a get is answered by a block or by the word that there is none; anything else is silence
@@ -39,4 +39,4 @@ EndsGet key r owners asks result =
 
 -- A get of the content block of that name, over a whole trail.
 abbrev pub IsGetOfBlock : Key → ℕ → List Peer → List Heard → Result (List ℕ) Miss → Type 0
-IsGetOfBlock key r entries = IsCourse key (ask.Get key) entries (EndsGet key r)
+IsGetOfBlock key r entries = IsExecution key (ask.Get key) entries (EndsGet key r)

@@ -6,7 +6,7 @@ use Rattle.dht_ids.specs.declared.ask.Heard.{Heard}
 use Rattle.dht_ids.specs.declared.judge.Judged.{Judged}
 use Rattle.dht_ids.specs.declared.peer.Peer.{Peer}
 use Rattle.ring_model.specs.Gets.{Got, IsHeadGet}
-use Rattle.dhash_model.specs.Course.{Told, IsCourse, result_of}
+use Rattle.dhash_model.specs.Execution.{Told, IsExecution, result_of}
 use Rattle.dhash_model.specs.GetBlock.{is_of_get, block_in}
 use Rattle.dhash_model.specs.declared.miss.Miss.{Miss}
 
@@ -17,4 +17,4 @@ EndsHeadGet judge key r owners asks result =
 
 -- A get of the head under that key, over a whole trail.
 abbrev pub IsGetOfHead : (List ℕ → Option Judged) → Key → ℕ → List Peer → List Heard → Result (List Judged) Miss → Type 0
-IsGetOfHead judge key r entries = IsCourse key (ask.Get key) entries (EndsHeadGet judge key r)
+IsGetOfHead judge key r entries = IsExecution key (ask.Get key) entries (EndsHeadGet judge key r)

@@ -2,7 +2,7 @@ pub mod State
 pub mod Settled
 pub mod Stores
 pub mod Signed
-pub mod Course
+pub mod Execution
 pub mod GetBlock
 pub mod GetHead
 pub mod Puts

@@ -5,8 +5,8 @@ use Rattle.dht_ids.specs.declared.ask.Answer.TheVariants as answer
 use Rattle.dht_ids.specs.declared.ask.StoreFault.{StoreFault}
 use Rattle.dht_ids.specs.declared.ask.StoreFault.TheVariants as fault
 use Rattle.dht_ids.specs.declared.peer.Peer.{Peer}
-use Rattle.ring_model.specs.Gets.{IsPut}
-use Rattle.dhash_model.specs.Course.{Told}
+use Rattle.ring_model.specs.Gets.{IsPutTrail}
+use Rattle.dhash_model.specs.Execution.{Told}
 use Rattle.dhash_model.specs.declared.miss.Miss.{Miss}
 
 -- a put is answered by the word that the block is held, or by a refusal; anything else is silence
@@ -40,4 +40,4 @@ holds answer.Silent = false
 
 -- the asks of the owners are a put, which ends with this result
 abbrev pub EndsPut : ℕ → List Peer → Told → Result Bool Miss → Type 0
-EndsPut r owners asks result = (acknowledged : Bool) × IsPut is_of_put holds r owners asks acknowledged × (result ≡ Ok acknowledged)
+EndsPut r owners asks result = (acknowledged : Bool) × IsPutTrail is_of_put holds r owners asks acknowledged × (result ≡ Ok acknowledged)

@@ -8,7 +8,7 @@ use Rattle.ivy_base.specs.declared.key.Key.{Key}
 use Rattle.ivy_base.specs.declared.key.PubKey.{PubKey}
 use Rattle.ivy_base.specs.Naming.{head_key_of}
 use Rattle.log_model.specs.Spelling.{most_records, head_message, head_block}
-use Rattle.log_model.specs.Heads.{stamp, owner_in, seq_in, name_in, is_block}
+use Rattle.log_model.specs.Heads.{stamp, owner_in, seq_in, name_in, is_of_length}
 use Rattle.dht_ids.specs.declared.judge.Judged.{Judged}
 use Rattle.hash_signature_model.specs.declared.set.LmsFault.{LmsFault}
 use Rattle.hash_signature_model.specs.Levels.{hss_verdict}
@@ -22,9 +22,9 @@ abbrev pub signature_in : List ℕ → List ℕ
 signature_in bytes = take (from_be_bytes w32 (take 4 (drop 88 bytes))) (drop 92 bytes)
 
 -- the bytes are a head with that owner, number, name and signature
-abbrev pub is_head : List ℕ → PubKey → ℕ → Key → List ℕ → Bool
-is_head bytes owner seq name signature =
-    is_block 60 owner.0 && nat_le 1 seq && nat_le seq most_records && is_block 20 name.0 && nat_le (length signature) 16000
+abbrev pub is_head_with : List ℕ → PubKey → ℕ → Key → List ℕ → Bool
+is_head_with bytes owner seq name signature =
+    is_of_length 60 owner.0 && nat_le 1 seq && nat_le seq most_records && is_of_length 20 name.0 && nat_le (length signature) 16000
     && are_bytes bytes
     && bytes_eq bytes (head_block owner (stamp seq name) signature)
 
@@ -36,7 +36,7 @@ is_yes (Err fault) = false
 -- and it is under the key, and signed
 abbrev pub is_signed : Key → List ℕ → PubKey → ℕ → Key → List ℕ → Bool
 is_signed key bytes owner seq name signature =
-    is_head bytes owner seq name signature && bytes_eq key.0 (head_key_of owner).0
+    is_head_with bytes owner seq name signature && bytes_eq key.0 (head_key_of owner).0
     && is_yes (hss_verdict owner.0 (head_message owner (stamp seq name)) signature)
 
 -- the bytes are a signed head under the key, by what stands in their places

@@ -11,14 +11,14 @@ use Rattle.ivy_base.specs.Naming.{name, key_cmp}
 use Rattle.dht_ids.specs.declared.ask.StoreFault.{StoreFault}
 use Rattle.dht_ids.specs.declared.ask.StoreFault.TheVariants.{WrongName, NotJudged, Older, Full}
 use Rattle.dht_ids.specs.declared.judge.Judged.{Judged}
-use Rattle.dhash_model.specs.declared.kind.Kind.{Kind}
-use Rattle.dhash_model.specs.declared.kind.Kind.TheVariants.{Content, Head}
+use Rattle.dhash_model.specs.declared.kind.BlockKind.{BlockKind}
+use Rattle.dhash_model.specs.declared.kind.BlockKind.TheVariants.{Content, Head}
 
 -- ---- what is held
 
 -- a block as it is held: how it was put, and its bytes
 pub record Block : Type 0 where
-  pub kind : Kind
+  pub kind : BlockKind
   pub bytes : List ℕ
 
 -- blocks by their keys
@@ -38,8 +38,8 @@ abbrev pub bytes_held : Blocks → ℕ
 bytes_held blocks = sum_by (λ block. length block.bytes) (values_of blocks)
 
 -- the most bytes that a store holds: 2^28
-abbrev pub capacity : ℕ
-capacity = 268435456
+abbrev pub store_capacity : ℕ
+store_capacity = 268435456
 
 -- the bytes that are held under the key
 abbrev pub bytes_at : Key → Blocks → Option (List ℕ)
@@ -67,13 +67,13 @@ older _ _ = None
 
 -- Full: with the block in place of what the key holds, there would be more bytes than the capacity
 abbrev pub full : Key → Block → Blocks → Option StoreFault
-full key block blocks = if nat_lt capacity (bytes_held (put key_cmp key block blocks)) then Some Full else None
+full key block blocks = if nat_lt store_capacity (bytes_held (put key_cmp key block blocks)) then Some Full else None
 
 -- the number that a block has by its judge: None where it was put as content, or the judge doesn't take it for a head
 abbrev pub number_of : (List ℕ → Option Judged) → Block → Option ℕ
 number_of judges block = number_as block.kind (judges block.bytes)
   where
-    number_as : Kind → Option Judged → Option ℕ
+    number_as : BlockKind → Option Judged → Option ℕ
     number_as Content judged = None
     number_as Head judged = option_map (λ j. j.seq) judged
 

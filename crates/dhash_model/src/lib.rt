@@ -8,9 +8,9 @@
 //!
 //! Definitions, in reading order:
 //! - a node: `specs/State.antt` (what it knows of others), `specs/Settled.antt` (in a settled ring),
-//!   `specs/Stores.antt` (the blocks that it holds, each of its [`Kind`]);
+//!   `specs/Stores.antt` (the blocks that it holds, each of its [`BlockKind`]);
 //! - `specs/Signed.antt`: which heads are judged good;
-//! - gets and puts: `specs/Course.antt` (what they share), `specs/GetBlock.antt`, `specs/GetHead.antt`,
+//! - gets and puts: `specs/Execution.antt` (what they share), `specs/GetBlock.antt`, `specs/GetHead.antt`,
 //!   `specs/Puts.antt`;
 //! - `specs/Cache.antt`: the blocks that a participant keeps.
 #![tactic(auto)]
@@ -18,5 +18,5 @@
 mod kind;
 mod miss;
 
-pub use kind::Kind;
+pub use kind::BlockKind;
 pub use miss::Miss;

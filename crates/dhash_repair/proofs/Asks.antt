@@ -18,7 +18,7 @@ use Rattle.dht_ids.specs.declared.peer.Peer.{Peer}
 use Rattle.dht_ids.specs.declared.post.Post.{Post}
 use Rattle.dht_ids.specs.declared.post.PostKind.{PostKind}
 use Rattle.dht_ids.specs.declared.post.PostKind.TheVariants as kind
-use Rattle.dhash_model.specs.Course.{Told, told_all}
+use Rattle.dhash_model.specs.Execution.{Told, told_all}
 use Rattle.dhash_client.specs.Puts.{put_kind, question_of}
 use Rattle.dhash_repair.specs.Putting.{is_own, is_own_of, is_put, made_of, told_of}
 use Rattle.dhash_repair.specs.Repairs.{Asked, OwnIsStored, asking, is_node, of_others, put_question}

@@ -13,4 +13,4 @@ asks_for_data s node question = by s.put
   where
     by : (put : Option Putting) → awaited_in put ≡ Some (node, question) → IsForData question
     by None awaited = absurd (none_some (node, question) awaited)
-    by (Some p) awaited = put_for_data p.put.what p.put.bytes p.put.course node question awaited
+    by (Some p) awaited = put_for_data p.put.what p.put.bytes p.put.execution node question awaited

@@ -16,8 +16,8 @@ use Rattle.dht_ids.specs.declared.ask.Want.{Want}
 use Rattle.dht_ids.specs.declared.ask.Want.TheVariants as want
 use Rattle.dht_ids.specs.declared.peer.Peer.{Peer}
 use Rattle.dht_ids.specs.declared.post.Post.{Post}
-use Rattle.dhash_model.specs.Course.{IsCourse, told_all}
-use Rattle.dhash_model.specs.Course.IsCourse.{no_route as nobody_found, of_owners as owners_found}
+use Rattle.dhash_model.specs.Execution.{IsExecution, told_all}
+use Rattle.dhash_model.specs.Execution.IsExecution.{no_route as nobody_found, of_owners as owners_found}
 use Rattle.dhash_model.specs.Puts.{EndsPut}
 use Rattle.dhash_model.specs.declared.miss.Miss.{Miss}
 use Rattle.dhash_client.specs.Puts.{IsPutOf, PutHasHeard, PutIsAfter, PutIsWanted, put_awaited, put_kind}
@@ -28,7 +28,7 @@ use Rattle.dhash_repair.specs.Repairs.{Asked, IsPutFrom, ack_of, asking, put_que
 use Rattle.dhash_repair.specs.Repairs.IsPutFrom.{no_route, of_owners}
 use Rattle.dhash_repair.proofs.Asks.{IsOurs, any_puts, any_routes, made_puts, made_routes, own_puts, told_apart, told_more}
 
--- behind no ask it begins
+-- after no ask it begins
 pub putting_begins : (node : Peer) (p : Post) (r : ℕ) → PuttingIsAfter r [] (putting node p r)
 putting_begins node p r = record {
   what = refl;
@@ -48,7 +48,7 @@ same_post old new same = λ i. record { key = same.3.0.0 i; bytes = same.3.2 i; 
 -- ---- steps
 
 module _ (r : ℕ) (trail longer : List Asked) (old new : Putting) (same : IsSamePutting old new) (behind : PuttingIsAfter r trail old) where
-  -- behind these asks, its own among them
+  -- after these asks, its own among them
   renewed : (asks : List Asked) → longer ≡ made_of old.node asks → AllByRecursion (λ a. is_own_of old.node a ≡ true → a.1.1 ≡ answer.Stored) asks → AllByRecursion (IsOurs (post_of old)) asks
       → new.counts ≡ list_any (is_own_of old.node) asks → PutIsAfter (old.node ∷ []) (told_of asks) new.put → PuttingIsAfter r longer new
   renewed asks made own ours counts after = record {
@@ -129,19 +129,19 @@ putting_hears old new given (Ok u) node_is kind_is ack_is counts h =
 
 -- ---- the end
 
-whole_of_post : (r : ℕ) (trail : List Asked) (s : Putting) (came : Result Bool Miss) → (behind : PuttingIsAfter r trail s) → IsPutOf s.put.what s.put.bytes s.put.course.look.key s.put.course.replicas (s.node ∷ []) (told_of behind.asks) came
-    → IsCourse (post_of s).key (put_question (post_of s)) (s.node ∷ []) (EndsPut r) (told_of behind.asks) came
+whole_of_post : (r : ℕ) (trail : List Asked) (s : Putting) (came : Result Bool Miss) → (behind : PuttingIsAfter r trail s) → IsPutOf s.put.what s.put.bytes s.put.execution.look.key s.put.execution.replicas (s.node ∷ []) (told_of behind.asks) came
+    → IsExecution (post_of s).key (put_question (post_of s)) (s.node ∷ []) (EndsPut r) (told_of behind.asks) came
 whole_of_post r trail s came behind whole =
-    let key : Key = s.put.course.look.key in
+    let key : Key = s.put.execution.look.key in
     subst (λ (k : PutKind). IsPutOf k s.put.bytes key r (s.node ∷ []) (told_of behind.asks) came) behind.what
     (subst (λ (n : ℕ). IsPutOf s.put.what s.put.bytes key n (s.node ∷ []) (told_of behind.asks) came) behind.replicas whole)
 
 -- the asks are a whole put
-pub put_ends : (r : ℕ) (trail : List Asked) (s : Putting) (came : Result Bool Miss) → (behind : PuttingIsAfter r trail s) → IsPutOf s.put.what s.put.bytes s.put.course.look.key s.put.course.replicas (s.node ∷ []) (told_of behind.asks) came
+pub put_ends : (r : ℕ) (trail : List Asked) (s : Putting) (came : Result Bool Miss) → (behind : PuttingIsAfter r trail s) → IsPutOf s.put.what s.put.bytes s.put.execution.look.key s.put.execution.replicas (s.node ∷ []) (told_of behind.asks) came
     → (goes : Bool) → goes ≡ (acknowledged came && not s.counts) → IsPutFrom s.node r (post_of s) trail goes
 put_ends r trail s came behind whole goes goes_is = by (whole_of_post r trail s came behind whole)
   where
-    by : IsCourse (post_of s).key (put_question (post_of s)) (s.node ∷ []) (EndsPut r) (told_of behind.asks) came → IsPutFrom s.node r (post_of s) trail goes
+    by : IsExecution (post_of s).key (put_question (post_of s)) (s.node ∷ []) (EndsPut r) (told_of behind.asks) came → IsPutFrom s.node r (post_of s) trail goes
     by (nobody_found looks found told_is looked nobody came_is) =
         let key : Key = (post_of s).key in
         let are : behind.asks ≡ asking (ask.Route key) looks ++ [] = told_apart (post_of s) behind.asks looks [] behind.ours (told_is ∙ sym (append-nil (told_all (ask.Route key) looks))) in

@@ -30,7 +30,7 @@ repair_more {node = node} {r = r} (drops_one {p = q} {posts = posts} {asks = fir
     by true = refl
     by false = refl
 
--- behind no ask it begins
+-- after no ask it begins
 repair_begins : (node : Peer) (held : List Post) (r : ℕ) → RepairIsAfter held [] (repair_begun node held r)
 repair_begins node held r = record { before = []; made = []; on_way = []; posts_are = refl; trail_is = refl; repaired = all_put; behind = refl }
 
@@ -135,7 +135,7 @@ module _ (node : Peer) (r : ℕ) (left : List Post) (dropped : List Ack) where
   goes_over p q goes w ack ack_is now now_is =
       subst (λ (s : RepairState). RepairSteps (on_way p) s None) (sym (now_is ∙ ap (λ (a : Ack). record free { dropped = concluded a goes dropped }) ack_is)) (put_over p goes w, omega arith)
 
-  -- a put begins, which fewer asks are left behind
+  -- a put begins, which fewer asks are left after
   begins_put : (p : Post) → RepairSteps (record free { left = p ∷ left }) (on_way (putting node p r)) None
   begins_put p = (put_first p, omega arith)
 

@@ -15,7 +15,7 @@ use Rattle.dht_ids.specs.declared.post.Ack.{Ack}
 use Rattle.dht_ids.specs.declared.post.Post.{Post}
 use Rattle.dht_ids.specs.declared.post.PostKind.{PostKind}
 use Rattle.dhash_model.specs.declared.miss.Miss.{Miss}
-use Rattle.dhash_client.specs.Course.{asks_left}
+use Rattle.dhash_client.specs.Execution.{asks_left}
 use Rattle.dhash_client.specs.Puts.{PutState, PutHasHeard, PutIsAfter, IsSamePut, put_begun, put_awaited, put_kind}
 use Rattle.dhash_repair.specs.Repairs.{Asked, IsPutFrom, ack_of, is_node, put_question}
 
@@ -29,7 +29,7 @@ pub record Putting : Type 0 where
   pub counts : Bool
 
 abbrev pub post_of : Putting → Post
-post_of s = record { key = s.put.course.look.key; bytes = s.put.bytes; kind = s.kind }
+post_of s = record { key = s.put.execution.look.key; bytes = s.put.bytes; kind = s.kind }
 
 -- one that begins
 abbrev pub putting : Peer → Post → ℕ → Putting
@@ -67,15 +67,15 @@ told_of asks = flat_map (λ a. told a.0 a.1.0 a.1.1) asks
 
 -- ---- how far it has come
 
--- it puts its block, and may be in this state behind these asks that were made: so the put may, behind these and the node's own
+-- it puts its block, and may be in this state after these asks that were made: so the put may, after these and the node's own
 pub record PuttingIsAfter (r : ℕ) (trail : List Asked) (s : Putting) : Type 0 where
   pub what : s.put.what ≡ put_kind s.kind
   pub named : s.ack ≡ ack_of (post_of s)
-  pub replicas : s.put.course.replicas ≡ r
+  pub replicas : s.put.execution.replicas ≡ r
   pub asks : List Asked
   pub made : trail ≡ made_of s.node asks
   pub own : AllByRecursion (λ a. is_own_of s.node a ≡ true → a.1.1 ≡ answer.Stored) asks
-  pub ours : AllByRecursion (λ a. (a.1.0 ≡ ask.Route s.put.course.look.key) ⊎ (a.1.0 ≡ put_question (post_of s))) asks
+  pub ours : AllByRecursion (λ a. (a.1.0 ≡ ask.Route s.put.execution.look.key) ⊎ (a.1.0 ≡ put_question (post_of s))) asks
   pub counts : s.counts ≡ list_any (is_own_of s.node) asks
   pub after : PutIsAfter (s.node ∷ []) (told_of asks) s.put
 
@@ -106,7 +106,7 @@ PuttingHasHeard old new given =
 -- ---- steps
 
 abbrev pub left_of : Putting → ℕ
-left_of s = asks_left s.put.course
+left_of s = asks_left s.put.execution
 
 -- the put was acknowledged
 abbrev pub acknowledged : Result Bool Miss → Bool

@@ -11,7 +11,7 @@ use Rattle.dhash_client.specs.Puts.{put_awaited}
 use Rattle.dhash_repair.specs.Putting.{Putting, PuttingIsAfter, is_own, left_of, post_of}
 use Rattle.dhash_repair.specs.Repairs.{Asked, IsRepair}
 
--- whose blocks are put, with how many answers each put is content, the put on its way, the blocks behind it, and what is said of those so
+-- whose blocks are put, with how many answers each put is content, the put on its way, the blocks after it, and what is said of those so
 -- far that may go
 pub record RepairState : Type 0 where
   pub node : Peer
@@ -36,7 +36,7 @@ abbrev pub PutIsBehind : Peer → ℕ → List Asked → Option Putting → Type
 PutIsBehind node r trail None = trail ≡ []
 PutIsBehind node r trail (Some p) = (p.node ≡ node) × PuttingIsAfter r trail p
 
--- a repair of these blocks may be in this state behind these asks: the first blocks were repaired, and the rest are to be
+-- a repair of these blocks may be in this state after these asks: the first blocks were repaired, and the rest are to be
 pub record RepairIsAfter (posts : List Post) (trail : List Asked) (s : RepairState) : Type 0 where
   pub before : List Post
   pub made : List Asked
@@ -92,7 +92,7 @@ left_in (Some p) = left_of p + 1
 abbrev pub most_asks : ℕ
 most_asks = 2 ^ 64 + 514
 
--- those of the put on its way, and of a put of each block behind it
+-- those of the put on its way, and of a put of each block after it
 abbrev pub repair_left : RepairState → ℕ
 repair_left s = left_in s.put + most_asks * length s.left
 

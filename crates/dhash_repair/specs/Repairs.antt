@@ -5,7 +5,7 @@ use Rattle.std.specs.Prelude.{◌≡◌, ℕ, Bool, true, false, ◌&&◌, not, 
 use Rattle.std.specs.List.{AllByRecursion, list_any}
 use Rattle.std.specs.Ordering.{eq_by_cmp}
 use Rattle.ivy_base.specs.Naming.{name, key_cmp}
-use Rattle.ring_model.specs.Gets.{IsPut}
+use Rattle.ring_model.specs.Gets.{IsPutTrail}
 use Rattle.ring_model.specs.Lookup.{IsLookup}
 use Rattle.dht_ids.specs.Asked.{routes}
 use Rattle.dht_ids.specs.declared.ask.Answer.{Answer}
@@ -17,7 +17,7 @@ use Rattle.dht_ids.specs.declared.post.Ack.{Ack}
 use Rattle.dht_ids.specs.declared.post.Post.{Post}
 use Rattle.dhash_client.specs.Puts.{put_kind, question_of}
 use Rattle.dhash_model.specs.declared.miss.Miss.TheVariants as miss
-use Rattle.dhash_model.specs.Course.{Told, outcome}
+use Rattle.dhash_model.specs.Execution.{Told, outcome}
 use Rattle.dhash_model.specs.Puts.{is_of_put, holds}
 
 -- ---- asks
@@ -61,7 +61,7 @@ pub data IsPutFrom (node : Peer) (r : ℕ) (p : Post) (trail : List Asked) (goes
   of_owners : (looks asks : Told) (found : Option (List Peer)) (owners : List Peer) (acknowledged : Bool)
       → trail ≡ asking (ask.Route p.key) looks ++ asking (put_question p) (of_others node asks)
       → IsLookup [] None (node ∷ []) (routes looks) found → outcome p.key found ≡ Ok owners
-      → IsPut is_of_put holds r owners asks acknowledged → OwnIsStored node asks → goes ≡ may_go node asks acknowledged
+      → IsPutTrail is_of_put holds r owners asks acknowledged → OwnIsStored node asks → goes ≡ may_go node asks acknowledged
       → IsPutFrom node r p trail goes
 
 -- ---- all blocks

@@ -51,7 +51,7 @@ fn ack_of(post: &Post) -> Ack
     }
 }
 
-/// The node alone, as what a look-up begins with. The error is want of memory.
+/// The node alone, as what a look-up begins with. The error is: out of memory.
 fn alone(alloc: Global, node: Peer) -> Result<Peers, Memory>
     ensures { IfOk result (λ peers. peers ≡ node ∷ []) }
 {
@@ -80,7 +80,7 @@ fn is_acknowledged(came: &Result<bool, Miss>) -> bool
 }
 
 impl Put {
-    /// A put of the block by that node that is content with that many answers. The error is want of memory.
+    /// A put of the block by that node that is content with that many answers. The error is: out of memory.
     pub(crate) fn start(alloc: Global, node: Peer, post: Post, replicas: u32) -> Result<Put, Memory>
         ensures { IfOk result (λ put. put ≡ putting node post replicas) }
     {
@@ -102,7 +102,7 @@ impl Put {
     }
 
     /// What the put wants next: an ask of another node, or of the node itself for the route; or nothing more, since it is
-    /// over: whether the block may go. The error is want of memory; the put isn't used after it, nor after its result.
+    /// over: whether the block may go. The error is: out of memory; the put isn't used after it, nor after its result.
     pub(crate) fn next(&mut self) -> Result<Want<bool>, Memory>
         ensures wanted { IfOk result (λ want. PuttingIsWanted self.old self.new want) }
         ensures left { IfOk result (λ _. left_of self.new ≤ left_of self.old) }
@@ -115,7 +115,7 @@ impl Put {
         }
     }
 
-    /// Hears what the node answered that was asked last. It is called once after each ask. The error is want of memory;
+    /// Hears what the node answered that was asked last. It is called once after each ask. The error is: out of memory;
     /// the put isn't used after it.
     pub(crate) fn heard(&mut self, answer: Answer) -> Result<(), Memory>
         requires { put_awaited self.old.put ≢ None }
@@ -125,7 +125,7 @@ impl Put {
         self.machine.heard(answer)
     }
 
-    /// One step: what is wanted, or the node counts at its place. The error is want of memory.
+    /// One step: what is wanted, or the node counts at its place. The error is: out of memory.
     fn step(&mut self) -> Result<Option<Want<bool>>, Memory>
         ensures steps { IfOk result (λ want. PuttingSteps self.old self.new want) }
         ensures ack { self.new.ack ≡ self.old.ack }
@@ -143,7 +143,7 @@ impl Put {
         is_acknowledged(came) && !self.counts
     }
 
-    /// The ask, unless it is the node's own put, which counts as answered. The error is want of memory.
+    /// The ask, unless it is the node's own put, which counts as answered. The error is: out of memory.
     fn asks(&mut self, node: Peer, question: Ask) -> Result<Option<Want<bool>>, Memory>
         requires { put_awaited self.old.put ≡ Some (node, question) }
         ensures asks { IfOk result (λ want. PuttingAsks self.old self.new node question want) }
@@ -156,7 +156,7 @@ impl Put {
         Ok(Some(Want::Ask(node, question)))
     }
 
-    /// The node counts as having answered that it holds the block. The error is want of memory.
+    /// The node counts as having answered that it holds the block. The error is: out of memory.
     fn count(&mut self) -> Result<(), Memory>
         requires { put_awaited self.old.put ≢ None }
         ensures counts { IfOk result (λ _. PuttingCounts self.old self.new) }

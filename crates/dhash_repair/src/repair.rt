@@ -62,7 +62,7 @@ impl Repair {
 
     /// What is wanted next: an ask, for the first block that isn't put yet, or nothing more, since all were put: the keys of
     /// the blocks that may go, in the order of the blocks, and the names of their bytes. The node itself is asked for routes
-    /// alone. An ask that was not yet heard is wanted again. The error is want of memory; nothing is put after it, nor after
+    /// alone. An ask that was not yet heard is wanted again. The error is: out of memory; nothing is put after it, nor after
     /// the end.
     pub fn next(&mut self) -> Result<Want<Acks>, Memory>
         ensures wanted { IfOk result (λ want. RepairIsWanted self.old self.new want) }
@@ -75,7 +75,7 @@ impl Repair {
         }
     }
 
-    /// Hears what the node answered that was asked last. It is called once after each ask. The error is want of memory;
+    /// Hears what the node answered that was asked last. It is called once after each ask. The error is: out of memory;
     /// nothing is put after it.
     pub fn heard(&mut self, answer: Answer) -> Result<(), Memory>
         requires { repair_awaited self.old ≢ None }
@@ -88,7 +88,7 @@ impl Repair {
         }
     }
 
-    /// One step: what is wanted, or a put begins or is over. The error is want of memory.
+    /// One step: what is wanted, or a put begins or is over. The error is: out of memory.
     fn step(&mut self) -> Result<Option<Want<Acks>>, Memory>
         ensures { IfOk result (λ want. RepairSteps self.old self.new want) }
     {
@@ -98,7 +98,7 @@ impl Repair {
         }
     }
 
-    /// The put on its way, which was taken out, goes on and asks a node, or it is over. The error is want of memory.
+    /// The put on its way, which was taken out, goes on and asks a node, or it is over. The error is: out of memory.
     fn go_on(&mut self, mut put: Put) -> Result<Option<Want<Acks>>, Memory>
         requires { self.old.put ≡ None }
         ensures { IfOk result (λ want. RepairSteps (record self.old { put = Some put }) self.new want) }
@@ -115,7 +115,7 @@ impl Repair {
         }
     }
 
-    /// Notes a block whose put is over, where it may go. The error is want of memory.
+    /// Notes a block whose put is over, where it may go. The error is: out of memory.
     fn conclude(&mut self, ack: Ack, goes: bool) -> Result<(), Memory>
         ensures { OnOk result (self.new ≡ record self.old { dropped = concluded ack goes self.old.dropped }) }
     {
@@ -125,7 +125,7 @@ impl Repair {
         Ok(())
     }
 
-    /// The put of the first block that is left begins, or there is none. The error is want of memory.
+    /// The put of the first block that is left begins, or there is none. The error is: out of memory.
     fn begin(&mut self) -> Result<Option<Want<Acks>>, Memory>
         requires { self.old.put ≡ None }
         ensures { IfOk result (λ want. RepairSteps self.old self.new want) }

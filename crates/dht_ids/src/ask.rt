@@ -26,7 +26,7 @@ pub enum Ask {
 }
 
 impl Ask {
-    /// A copy of this question and of what it has. The error is want of memory.
+    /// A copy of this question and of what it has. The error is: out of memory.
     pub fn copy(&self, alloc: Global) -> Result<Ask, Memory>
         ensures { IfOk result (λ copy. copy ≡ self.now) }
     {
@@ -63,7 +63,7 @@ pub enum Answer {
 }
 
 impl Answer {
-    /// A copy of this answer and of what it has. The error is want of memory.
+    /// A copy of this answer and of what it has. The error is: out of memory.
     pub fn copy(&self, alloc: Global) -> Result<Answer, Memory>
         ensures { IfOk result (λ copy. copy ≡ self.now) }
     {

@@ -2,7 +2,7 @@
 
 ghost use Rattle.std.specs.Prelude.{◌≡◌, ◌+◌, ◌-◌, ◌*◌, ◌%◌, ◌^◌, ◌<◌, ◌≤◌, drop, nat_eq};
 ghost use Rattle.std.specs.Ordering.{nat_cmp};
-ghost use Rattle.ring_model.specs.Arc.{is_inside};
+ghost use Rattle.ring_model.specs.Arc.{is_strictly_between};
 ghost use Rattle.ring_model.specs.Circle.{be_number, number, identifier_bits, circle_size, clockwise, is_between};
 
 use ivy_base::Key;
@@ -11,7 +11,7 @@ use std::cmp::Ordering;
 /// How many bytes an identifier has.
 const ID_BYTES: usize = 20;
 
-/// How far `to` is behind `from`, clockwise, modulo 2^160.
+/// How far `to` is after `from`, clockwise, modulo 2^160.
 pub fn distance(from: &Key, to: &Key) -> Key
     ensures { number result ≡ clockwise (number from.now) (number to.now) }
 {
@@ -27,7 +27,7 @@ pub fn distance(from: &Key, to: &Key) -> Key
     Key(gap)
 }
 
-/// The place that is `by` clockwise behind `from`, modulo 2^160.
+/// The place that is `by` clockwise after `from`, modulo 2^160.
 fn moved(from: &Key, by: &Key) -> Key
     ensures { number result ≡ (number from.now + number by.now) % circle_size }
 {
@@ -43,7 +43,7 @@ fn moved(from: &Key, by: &Key) -> Key
     Key(place)
 }
 
-/// The place at which the node's finger k begins: 2^(k-1) clockwise behind the node, modulo 2^160. k is 1 to 160
+/// The place at which the node's finger k begins: 2^(k-1) clockwise after the node, modulo 2^160. k is 1 to 160
 /// (Chord, SIGCOMM 2001, section 4.3).
 pub fn finger_start(n: &Key, k: u32) -> Key
     requires { (1 ≤ k) × (k ≤ identifier_bits) }
@@ -119,7 +119,7 @@ pub fn between(a: &Key, x: &Key, b: &Key) -> bool
 
 /// Whether x lies strictly between a and b, clockwise. Where a is b, all but a does.
 pub fn inside(a: &Key, x: &Key, b: &Key) -> bool
-    ensures { result ≡ is_inside (number a.now) (number x.now) (number b.now) }
+    ensures { result ≡ is_strictly_between (number a.now) (number x.now) (number b.now) }
 {
     let behind = order(a, x) == Ordering::Less;
     let before = order(x, b) == Ordering::Less;

@@ -46,7 +46,7 @@ impl Peers {
         self.peers.as_slice()
     }
 
-    /// A copy of these peers. The error is want of memory.
+    /// A copy of these peers. The error is: out of memory.
     pub fn copy(&self, alloc: Global) -> Result<Peers, Memory>
         ensures { IfOk result (λ copy. copy ≡ self.now) }
     {
@@ -93,7 +93,7 @@ impl Acks {
         self.acks.as_slice()
     }
 
-    /// A copy of these acknowledgements. The error is want of memory.
+    /// A copy of these acknowledgements. The error is: out of memory.
     pub fn copy(&self, alloc: Global) -> Result<Acks, Memory>
         ensures { IfOk result (λ copy. copy ≡ self.now) }
     {
@@ -140,7 +140,7 @@ impl Heads {
         self.heads.as_slice()
     }
 
-    /// A copy of these heads. The error is want of memory.
+    /// A copy of these heads. The error is: out of memory.
     pub fn copy(&self, alloc: Global) -> Result<Heads, Memory>
         ensures { IfOk result (λ copy. copy ≡ self.now) }
     {
@@ -187,7 +187,7 @@ impl Posts {
         self.posts.as_slice()
     }
 
-    /// A copy of these posts and of their bytes. The error is want of memory.
+    /// A copy of these posts and of their bytes. The error is: out of memory.
     pub fn copy(&self, alloc: Global) -> Result<Posts, Memory>
         ensures { IfOk result (λ copy. copy ≡ self.now) }
     {

@@ -30,7 +30,7 @@ pub trait Mesh {
     ghost made: { Self → List Peer };
 
     /// Asks a node, and gives its answer, which is of the ask's form. Silent comes only where the count of silences
-    /// rose. Where the trail is told, the ask and its answer are its newest entry. The error is want of memory, and the
+    /// rose. Where the trail is told, the ask and its answer are its newest entry. The error is: out of memory, and the
     /// trail and the count of silences are as before then.
     fn ask(&mut self, alloc: Global, node: &Peer, ask: &Ask) -> Result<Answer, Memory>
         requires { IsForData ask.now }
@@ -48,7 +48,7 @@ pub trait Mesh {
         ensures owners { result ≡ owners_of_a_key self.now }
         ensures few { (1 ≤ result) × (result ≤ 8) };
 
-    /// The nodes ever made, ascending by number, each once: those that a look-up may begin with. The error is want of
+    /// The nodes ever made, ascending by number, each once: those that a look-up may begin with. The error is: out of
     /// memory.
     fn entries(&self, alloc: Global) -> Result<Peers, Memory>
         ensures made { IfOk result (λ entries. entries ≡ made self.now) }

@@ -50,7 +50,7 @@ impl Post {
         bytes
     }
 
-    /// A copy of this post and of its bytes. The error is want of memory.
+    /// A copy of this post and of its bytes. The error is: out of memory.
     pub fn copy(&self, alloc: Global) -> Result<Post, Memory>
         ensures { IfOk result (λ copy. copy ≡ self.now) }
     {

@@ -47,7 +47,7 @@ pub enum SignFault {
     /// Each leaf of the key has signed.
     #[error("each leaf of the key has signed")]
     Spent,
-    /// Want of memory. No clause ties this to a cause.
+    /// Out of memory. No clause ties this to a cause.
     #[error("out of memory")]
     Memory,
 }
@@ -58,7 +58,7 @@ pub enum LoadFault {
     /// The bytes are not those of a saved signer.
     #[error("the bytes are not those of a saved signer")]
     Malformed,
-    /// Want of memory. No clause ties this to a cause.
+    /// Out of memory. No clause ties this to a cause.
     #[error("out of memory")]
     Memory,
 }

@@ -72,7 +72,7 @@ put_here k name ino nodes below (n ∷ ns) =
     by Equal rest = refl
     by Greater rest = ap (λ l. ((k, n.0), n.1) ∷ l) rest
 
--- a name behind those of a directory that comes before
+-- a name after those of a directory that comes before
 put_past : (d k : Key) (name : List ℕ) (ino : Key) (rest : List (Place × Key)) → key_cmp d k ≡ Greater → (ns : List (List ℕ × Key)) → put place_cmp (d, name) ino (names_in k ns ++ rest) ≡ names_in k ns ++ put place_cmp (d, name) ino rest
 put_past d k name ino rest more [] = refl
 put_past d k name ino rest more (n ∷ ns) =

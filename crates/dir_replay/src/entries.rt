@@ -78,7 +78,7 @@ impl Entries {
         })
     }
 
-    /// Lets the name lead to the inode. The error is want of memory, and then nothing has changed.
+    /// Lets the name lead to the inode. The error is: out of memory, and then nothing has changed.
     pub fn insert(&mut self, alloc: Global, name: &[u8], ino: Key) -> Result<(), Memory>
         ensures ok { OnOk result (self.new ≡ put name_cmp name.now ino self.old) }
         ensures err { OnErr result (self.new ≡ self.old) }
@@ -88,7 +88,7 @@ impl Entries {
         Ok(())
     }
 
-    /// Takes the name out, where it is there. The error is want of memory, and then nothing has changed.
+    /// Takes the name out, where it is there. The error is: out of memory, and then nothing has changed.
     pub fn remove(&mut self, alloc: Global, name: &[u8]) -> Result<(), Memory>
         ensures ok { OnOk result (self.new ≡ where_key name_cmp (λ n. not (eq_by_cmp name_cmp n name.now)) self.old) }
         ensures err { OnErr result (self.new ≡ self.old) }
@@ -97,7 +97,7 @@ impl Entries {
         Ok(())
     }
 
-    /// The names with the inodes that they lead to, in the names' order. The error is want of memory.
+    /// The names with the inodes that they lead to, in the names' order. The error is: out of memory.
     pub fn list(&self, alloc: Global) -> Result<Vec<(Bytes, Key)>, Memory>
         ensures { IfOk result (λ pairs. pairs.items ≡ self.now) }
     {

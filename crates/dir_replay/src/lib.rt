@@ -17,11 +17,11 @@
 //! Costs: a copy of the names takes constant time and no memory. All else is counted in comparisons: a question or an
 //! operation takes the logarithm of the number of inodes and of the names in its directories. Whether one directory lies
 //! inside another takes that for each step of the way up, and whether anything else does, a look at every name. An
-//! operation changes the nodes on the way to each inode and name in place where they have one owner, and makes them anew
-//! where copies share them: a new inode is one such way among the inodes; a Link and an Unlink are two there, and one among
-//! the directory's names; a Rename is two and two, one more where it takes the place of another name, and one more where a
-//! directory gets another parent. A Rename changes a copy of the inodes, so that its ways are made anew, but for what they
-//! have in common; a name is taken out by a way that is made anew.
+//! operation changes the nodes on the way to each inode and name in place where they have one owner, and copies them where
+//! copies share them: a new inode is one such way among the inodes; a Link and an Unlink are two there, and one among the
+//! directory's names; a Rename is two and two, one more where it takes the place of another name, and one more where a
+//! directory gets another parent. A Rename changes a copy of the inodes, so that its ways are copied, but for what they
+//! have in common; a name is taken out by a way that is copied.
 #![tactic(auto)]
 
 mod entries;

@@ -41,7 +41,7 @@ impl Listing {
         self.pairs.as_slice()
     }
 
-    /// A copy of these pairs and of their names. The error is want of memory.
+    /// A copy of these pairs and of their names. The error is: out of memory.
     pub fn copy(&self, alloc: Global) -> Result<Listing, Memory>
         ensures { IfOk result (λ copy. copy ≡ self.now) }
     {

@@ -24,7 +24,7 @@ impl Model for Name {
 }
 
 impl Name {
-    /// A name of these bytes, which are copied. The error is want of memory.
+    /// A name of these bytes, which are copied. The error is: out of memory.
     pub fn of(alloc: Global, bytes: &[u8]) -> Result<Name, Memory>
         ensures { IfOk result (λ name. name ≡ bytes.now) }
     {

@@ -51,7 +51,7 @@ impl Model for Names {
 }
 
 impl Names {
-    /// The root alone, a directory without entries. The error is want of memory.
+    /// The root alone, a directory without entries. The error is: out of memory.
     pub fn fresh(alloc: Global) -> Result<Names, Memory>
         ensures { IfOk result (λ t. t ≡ bare empty_tree) }
     {
@@ -61,7 +61,7 @@ impl Names {
     }
 
     /// Does to the names what the operation does, whenever that is, and says which directories' entries changed.
-    /// An operation that may not be done changes nothing, and is no error. The error is want of memory, and then
+    /// An operation that may not be done changes nothing, and is no error. The error is: out of memory, and then
     /// the names are as they were.
     pub fn apply_names(&mut self, alloc: Global, op: &Op) -> Result<Touched, Memory>
         ensures ok { OnOk result ((now : Moment) → self.new ≡ bare (apply self.old now op.now)) }
@@ -166,8 +166,8 @@ impl Names {
         Ok(Touched::both(*dir, *to_dir))
     }
 
-    // What is noted with a name of the inode in the directory, where it may have that. A count that a word can't hold is
-    // want of memory.
+    // What is noted with a name of the inode in the directory, where it may have that. A count that a word can't hold
+    // counts as out of memory.
     fn link_counts(&self, dir: &Key, name: &[u8], ino: &Key) -> Result<Option<Linked>, Memory>
         ensures may { IfOk result (λ counts. is_some counts ≡ may_link self.now dir.now name.now ino.now) }
         ensures counts { IfOk result (λ counts. IfSome counts (IsLinked self.now dir.now ino.now)) }
@@ -300,7 +300,7 @@ impl Names {
     }
 
     /// The names in the directory with the inodes that they lead to, ascending by the names' bytes; of what is no
-    /// directory, none. The error is want of memory.
+    /// directory, none. The error is: out of memory.
     pub fn listing(&self, alloc: Global, dir: &Key) -> Result<Listing, Memory>
         ensures { IfOk result (λ pairs. pairs ≡ listing self.now dir.now) }
     {
@@ -422,7 +422,7 @@ fn is_new(directory: bool, target: Option<Key>) -> bool
     directory && target.is_none()
 }
 
-// One more, where that is so. A count that a word can't hold is want of memory.
+// One more, where that is so. A count that a word can't hold counts as out of memory.
 fn one_more_if(count: u64, more: bool) -> Result<u64, Memory>
     ensures { IfOk result (λ sum. sum ≡ one_more_if count more) }
 {

@@ -119,7 +119,7 @@ impl Nodes {
         })
     }
 
-    /// Lets the number stand for that inode. The error is want of memory, and then nothing has changed.
+    /// Lets the number stand for that inode. The error is: out of memory, and then nothing has changed.
     pub fn insert(&mut self, alloc: Global, ino: &Key, node: Node) -> Result<(), Memory>
         ensures ok { OnOk result (self.new ≡ put key_cmp ino.now node self.old) }
         ensures err { OnErr result (self.new ≡ self.old) }
@@ -128,7 +128,7 @@ impl Nodes {
         Ok(())
     }
 
-    // Changes the inode of that number, where there is one. The error is want of memory, and then nothing has changed.
+    // Changes the inode of that number, where there is one. The error is: out of memory, and then nothing has changed.
     fn change(&mut self, alloc: Global, ino: &Key, mut change: Change<'_>) -> Result<(), Memory>
         ensures ok { OnOk result (self.new ≡ at_node self.old ino.now (changed change.entry)) }
         ensures err { OnErr result (self.new ≡ self.old) }
@@ -138,7 +138,7 @@ impl Nodes {
     }
 
     /// Puts a name for the inode into the directory, which then has so many subdirectories, and notes that so many names
-    /// lead to the inode, and which directory has the name of a directory. The error is want of memory, and then nothing
+    /// lead to the inode, and which directory has the name of a directory. The error is: out of memory, and then nothing
     /// has changed.
     pub fn link(
         &mut self,
@@ -157,7 +157,7 @@ impl Nodes {
     }
 
     /// Takes a name for the inode out of the directory, and a subdirectory where the name led to one, and notes that a
-    /// name less leads to the inode. The error is want of memory, and then nothing has changed.
+    /// name less leads to the inode. The error is: out of memory, and then nothing has changed.
     pub fn unlink(
         &mut self,
         alloc: Global,
@@ -175,7 +175,7 @@ impl Nodes {
     }
 
     /// Puts a name for the inode into the directory, which then has so many subdirectories; without such a
-    /// directory nothing changes. The error is want of memory, and then nothing has changed.
+    /// directory nothing changes. The error is: out of memory, and then nothing has changed.
     pub fn enter(
         &mut self,
         alloc: Global,
@@ -190,7 +190,7 @@ impl Nodes {
         self.change(alloc, dir, Change::Enter(name, ino, subdirs))
     }
 
-    /// Takes a name out of the directory, and a subdirectory where the name led to one. The error is want of memory,
+    /// Takes a name out of the directory, and a subdirectory where the name led to one. The error is: out of memory,
     /// and then nothing has changed.
     pub fn leave(
         &mut self,
@@ -205,7 +205,7 @@ impl Nodes {
         self.change(alloc, dir, Change::Leave(name, directory))
     }
 
-    /// Notes that a name less leads to the inode: to a directory none. The error is want of memory, and then nothing
+    /// Notes that a name less leads to the inode: to a directory none. The error is: out of memory, and then nothing
     /// has changed.
     pub fn unname(&mut self, alloc: Global, ino: &Key) -> Result<(), Memory>
         ensures ok { OnOk result (self.new ≡ at_node self.old ino.now unnamed) }
@@ -214,7 +214,7 @@ impl Nodes {
         self.change(alloc, ino, Change::Count(Count::Less))
     }
 
-    /// Notes that a name less leads to the inode, where one is given. The error is want of memory, and then nothing
+    /// Notes that a name less leads to the inode, where one is given. The error is: out of memory, and then nothing
     /// has changed.
     pub fn unname_any(&mut self, alloc: Global, ino: Option<Key>) -> Result<(), Memory>
         ensures ok { OnOk result (self.new ≡ any_unnamed self.old ino) }
@@ -227,7 +227,7 @@ impl Nodes {
     }
 
     /// Notes which directory has the name of a directory, which takes no memory where that is noted already. The error
-    /// is want of memory, and then nothing has changed.
+    /// is: out of memory, and then nothing has changed.
     pub fn set_parent(
         &mut self,
         alloc: Global,

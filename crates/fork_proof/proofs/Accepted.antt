@@ -1,4 +1,4 @@
--- A proof of what is shown is refused only for want of memory.
+-- A proof of what is shown is refused only because memory ran out.
 use Rattle.std.proofs.Common.{◌≡◌, ℕ, suc, ◌+◌, List, [], ◌∷◌, ◌++◌, length, refl, sym, ap, ◌∙◌, subst, arith}
 use Rattle.ivy_base.specs.declared.key.Key.{Key}
 use Rattle.ivy_base.specs.declared.key.PubKey.{PubKey}
@@ -9,7 +9,7 @@ use Rattle.fork_proof.specs.declared.fault.ProofFault.TheVariants.{Malformed, He
 use Rattle.fork_proof.specs.Forms.{IsLink, IsProof, IsProofOf, LeadsDown, here as at_end, down, ForkProof, proof_bytes}
 use Rattle.fork_proof.specs.Checks.{AreSigned, BreaksAt, FailsAt, low, high, IsShown, Fails}
 use Rattle.fork_proof.specs.Laws.{ShownIsNotRefused}
-use Rattle.fork_proof.proofs.OneProof.{proofs_are_one}
+use Rattle.fork_proof.proofs.OneProof.{proofs_are_unambiguous}
 
 module _ (owner : PubKey) where
   -- one block is one record
@@ -37,7 +37,7 @@ itself : (p : ForkProof) → IsProof p → IsProofOf (proof_bytes p) p
 itself p fits = record { fits = fits; spelled = refl }
 
 is_that : (p q : ForkProof) → IsProof p → IsProofOf (proof_bytes p) q → q ≡ p
-is_that p q fits is = proofs_are_one (proof_bytes p) q p is (itself p fits)
+is_that p q fits is = proofs_are_unambiguous (proof_bytes p) q p is (itself p fits)
 
 never_breaks : (p : ForkProof) (place : ℕ) → IsShown p → BreaksAt p place → ⊥
 never_breaks p place shown b =

@@ -1,4 +1,4 @@
--- Where names tell the blocks apart, the proof is found of the first two heads that are shown as forked.
+-- Where no names collide, the proof is found of the first two heads that are shown as forked.
 use Rattle.std.proofs.Common.{◌≡◌, ◌⊎◌, ℕ, zero, suc, ◌+◌, ◌-◌, ◌<◌, ◌≤◌, Bool, true, false, cond, ◌&&◌, List, [], ◌∷◌, ◌++◌, length, Option, Some, None, option_map, inl, inr, refl, sym, ap, ◌∙◌, subst, arith, append_assoc, Contains}
 use Rattle.std.specs.Prelude.{MatchOption, IsTrue, nat_lt, nat_le}
 use Rattle.std.specs.List.{AllByRecursion, slice_get}
@@ -7,7 +7,7 @@ use Rattle.std.proofs.lemmas.Bool.{le-leb, lt-ltb, ltb-true}
 use Rattle.std.proofs.lemmas.List.{append-nil}
 use Rattle.ivy_base.specs.declared.key.Key.{Key}
 use Rattle.ivy_base.specs.declared.key.PubKey.{PubKey}
-use Rattle.ivy_base.specs.Naming.{name, head_key_of, owner_cmp, NamesTellApart}
+use Rattle.ivy_base.specs.Naming.{name, head_key_of, owner_cmp, IsCollisionFree}
 use Rattle.tree_model.specs.Tree.{same_key}
 use Rattle.tree_model.proofs.Keys.{same_key_is, same_key_itself}
 use Rattle.log_model.proofs.Lists.{here as first_in, there, in_cons, in_nothing}
@@ -44,7 +44,7 @@ some_named k (x ∷ xs) b within e = by (same_key (name x) k) refl (λ later. so
       | inr later ↦ let w = rest later in (w.0, there x xs w.0 w.1, w.2)
     ]
 
-module _ (before : Before) (tells : TellsRecords before) (blocks : List (List ℕ)) (apart : NamesTellApart blocks) where
+module _ (before : Before) (tells : TellsRecords before) (blocks : List (List ℕ)) (apart : IsCollisionFree blocks) where
   -- ---- the way down
 
   stepped : (owner : PubKey) (seq : ℕ) (k : Key) (block : List ℕ) (r : Record) → Contains blocks block → IsLink owner seq k block r → Some (block, r.prev) ≡ step_down before blocks owner seq k

@@ -1,4 +1,4 @@
--- So many items are read one by one, and an array behind its count, by readers that keep in mind that a part was missed.
+-- So many items are read one by one, and an array after its count, by readers that keep in mind that a part was missed.
 use Rattle.std.proofs.Common.{◌≡◌, ℕ, zero, suc, ◌+◌, ◌<◌, ◌^◌, List, [], ◌∷◌, ◌++◌, length, Option, Some, None, refl, ap, ◌∙◌, arith, append_assoc, length-append}
 use Rattle.std.specs.List.{AllByRecursion, flat_map}
 use Rattle.std.proofs.lemmas.Grind.{flat_map-append}
@@ -9,7 +9,7 @@ use Rattle.wire_model.specs.Parts.{Told, Reads}
 use Rattle.wire_model.proofs.Arrays.{AreFew, more_items, no_next, no_counted, counted}
 use Rattle.block_parts.specs.Parts.{IsAtMost}
 
--- where a part was missed before, nothing is left behind the next one
+-- where a part was missed before, nothing is left after the next one
 stays : {B : Type 0} (Fits : B → Type 0) (spell : B → List ℕ) (b c : Option (List ℕ)) (y : B) → b ≡ None → Told Fits spell b y c → c ≡ None
 stays Fits spell None c y e g = g
 stays Fits spell (Some b) c y e g = absurd (cc e)
@@ -67,7 +67,7 @@ module _ {A : Type 0} {Fits : A → Type 0} {item : A → List ℕ} (reads : Rea
           let m = more_items reads {done = xs} {x = x} (record { fits = p.fits.each; spelled = p.spelled }) q in
           record { fits = record { each = m.fits; size = omega (arith, length-append xs (x ∷ []), p.fits.size) }; spelled = m.spelled }
 
-  -- ---- behind a count of at most so many
+  -- ---- after a count of at most so many
 
   module _ (most : ℕ) (few : most < 2 ^ 32) where
     word_front : {bytes rest : List ℕ} {n : ℕ} → IsFront (IsAtMost most) word bytes n rest → IsFront IsWord word bytes n rest

@@ -6,7 +6,7 @@ use Rattle.ivy_base.specs.declared.key.PubKey.{PubKey}
 use Rattle.log_model.specs.Record.{Record}
 use Rattle.fork_model.specs.Before.{Before, TellsRecords, IsNumbered}
 use Rattle.fork_model.specs.Finding.{find_fork}
-use Rattle.fork_proof.specs.Laws.{FoundIsOne}
+use Rattle.fork_proof.specs.Laws.{FoundIsUnique}
 use Rattle.fork_proof.proofs.Walks.{one_read}
 use Rattle.fork_proof.proofs.WaysDown.{read_of}
 
@@ -20,5 +20,5 @@ agree owner seq block (Some q) (Some p) f g = ap Some (f.2 ∙ ap (λ (r : Recor
 one_before : (before other : Before) → TellsRecords before → TellsRecords other → before ≡ other
 one_before before other f g = λ i owner seq block. agree owner seq block (before owner seq block) (other owner seq block) (f owner seq block) (g owner seq block) i
 
-pub found_is_one : FoundIsOne
-found_is_one before other heads blocks f g = ap (λ (b : Before). find_fork b heads blocks) (one_before before other f g)
+pub found_is_unique : FoundIsUnique
+found_is_unique before other heads blocks f g = ap (λ (b : Before). find_fork b heads blocks) (one_before before other f g)

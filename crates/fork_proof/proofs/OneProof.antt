@@ -11,7 +11,7 @@ use Rattle.log_records.proofs.OneHead.{one_head}
 use Rattle.fork_model.specs.Bytes.{proof_tag}
 use Rattle.fork_proof.specs.Forms.{Head, IsHead, ForkProof, bytes_of_head}
 use Rattle.fork_proof.specs.Reading.{longest_head}
-use Rattle.fork_proof.specs.Laws.{ProofsAreOne}
+use Rattle.fork_proof.specs.Laws.{ProofsAreUnambiguous}
 use Rattle.fork_proof.proofs.Claims.{message_length}
 
 -- a head has 92 bytes and its signature, with zeros up to a multiple of four
@@ -34,8 +34,8 @@ same_head owner other h g f k e =
 proof_is : (p q : ForkProof) → p.owner ≡ q.owner → p.low ≡ q.low → p.high ≡ q.high → p.blocks ≡ q.blocks → p ≡ q
 proof_is p q a b c d = λ i. record { owner = a i; low = b i; high = c i; blocks = d i }
 
-pub proofs_are_one : ProofsAreOne
-proofs_are_one bytes p q f g =
+pub proofs_are_unambiguous : ProofsAreUnambiguous
+proofs_are_unambiguous bytes p q f g =
     let chain = always proof_tag ▷ one_opaque ▷ one_opaque ▷ one_array one_opaque in
     let few : length p.blocks < 2 ^ 32 = omega (arith, f.fits.few) in
     let few_too : length q.blocks < 2 ^ 32 = omega (arith, g.fits.few) in

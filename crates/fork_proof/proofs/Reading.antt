@@ -1,4 +1,4 @@
--- Which proof the bytes are, by the parts that were read one behind the other.
+-- Which proof the bytes are, by the parts that were read one after the other.
 use Rattle.std.proofs.Common.{◌≡◌, ℕ, ◌+◌, ◌≤◌, List, [], ◌∷◌, ◌++◌, length, map, Option, Some, None, refl, sym, ap, ◌∙◌, subst, arith}
 use Rattle.std.specs.Prelude.{◌≢◌}
 use Rattle.std.specs.List.{flat_map}
@@ -131,9 +131,9 @@ proof_from bytes low high blocks owner one other f h = record {
 }
 
 module _ {bytes low high : List ℕ} {a b c : Option (List ℕ)} {blocks : List (List ℕ)} (all : a ≡ Some bytes) (front : Reads IsFrontOfProof front_bytes a ((tt, low), high) b)
-    (behind : Reads AreBlocks (array opaque) b blocks c) where
+    (after : Reads AreBlocks (array opaque) b blocks c) where
   reads : Reads AreParts parts_bytes a (((tt, low), high), blocks) c
-  reads = (part one_front front ▸ part one_blocks behind).reads
+  reads = (part one_front front ▸ part one_blocks after).reads
 
   pub is_proof : c ≡ Some [] → (owner : PubKey) (one other : Head) → AreHeads low high (length blocks) owner one other → IsProofOf bytes (record { owner = owner; low = one; high = other; blocks = blocks })
   is_proof ends owner one other h = proof_from bytes low high blocks owner one other (is_whole all reads ends) h

@@ -18,7 +18,7 @@ use Rattle.fork_model.specs.Finding.{Tip, tip_of, tip_with}
 use Rattle.fork_proof.specs.declared.tips.Tip as kept
 use Rattle.fork_proof.specs.Found.{tip_seen}
 
--- the owner stands behind the tag
+-- the owner stands after the tag
 pub owner_read : (bytes : List ℕ) (owner : PubKey) (newest : Stamp) (signature : List ℕ) → IsHeadOf owner bytes newest signature → owner_in bytes ≡ owner
 owner_read bytes owner newest signature f =
     let rest = opaque signature in

@@ -46,7 +46,7 @@ pub record IsShown (p : ForkProof) : Type 0 where
 abbrev pub forked_of : ForkProof → Forked
 forked_of p = record { log = head_key_of p.owner; low = p.low.newest.seq; high = p.high.newest.seq }
 
--- why a proof shows no fork: the first test that fails. Want of memory isn't tied to a cause
+-- why a proof shows no fork: the first test that fails. Running out of memory isn't tied to a cause
 abbrev pub Fails : ForkProof → ProofFault → Type 0
 Fails p Malformed = ⊥
 Fails p (HeadWrong place) = FailsAt p place

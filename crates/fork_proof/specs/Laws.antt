@@ -1,9 +1,9 @@
 -- What a fork proof says of a log, and of which bytes it is one.
 use Rattle.std.specs.Prelude.{◌≡◌, ◌⊎◌, List, ℕ, ◌++◌, Some, IsTrue, Contains}
-use Rattle.ivy_base.specs.Naming.{HasClash, NamesTellApart}
+use Rattle.ivy_base.specs.Naming.{HasClash, IsCollisionFree}
 use Rattle.log_model.specs.Record.{Record}
 use Rattle.log_model.specs.Chain.{LinkedFrom}
-use Rattle.log_model.specs.Fetched.{EndsAt}
+use Rattle.log_model.specs.Fetched.{EndsAtStamp}
 use Rattle.log_model.specs.Spelling.{no_name}
 use Rattle.log_model.specs.Standing.{blocks_of}
 use Rattle.dhash_model.specs.Signed.{are_bytes}
@@ -23,8 +23,8 @@ IsPrefixOf xs ys = (rest : List Record) × (xs ++ rest ≡ ys)
 pub record AreHistories (p : ForkProof) (low high : List Record) : Type 0 where
   pub low_linked : LinkedFrom p.owner 1 no_name low
   pub high_linked : LinkedFrom p.owner 1 no_name high
-  pub low_ends : EndsAt p.low.newest low
-  pub high_ends : EndsAt p.high.newest high
+  pub low_ends : EndsAtStamp p.low.newest low
+  pub high_ends : EndsAtStamp p.high.newest high
 
 -- Of what is shown: of any two histories of the log up to these heads neither begins the other, or two different blocks share a name.
 abbrev pub ForksAreForks : Type 0
@@ -32,12 +32,12 @@ ForksAreForks = (p : ForkProof) (low high : List Record) → IsProof p → IsSho
     → HasClash (blocks_of low ++ (blocks_of high ++ p.blocks)) ⊎ ((IsPrefixOf low high → ⊥) × (IsPrefixOf high low → ⊥))
 
 -- the bytes are one proof
-abbrev pub ProofsAreOne : Type 0
-ProofsAreOne = (bytes : List ℕ) (p q : ForkProof) → IsProofOf bytes p → IsProofOf bytes q → p ≡ q
+abbrev pub ProofsAreUnambiguous : Type 0
+ProofsAreUnambiguous = (bytes : List ℕ) (p q : ForkProof) → IsProofOf bytes p → IsProofOf bytes q → p ≡ q
 
 -- By whatever function the records are told, one thing is found.
-abbrev pub FoundIsOne : Type 0
-FoundIsOne = (before other : Before) (heads blocks : List (List ℕ)) → TellsRecords before → TellsRecords other
+abbrev pub FoundIsUnique : Type 0
+FoundIsUnique = (before other : Before) (heads blocks : List (List ℕ)) → TellsRecords before → TellsRecords other
     → find_fork before heads blocks ≡ find_fork other heads blocks
 
 -- What is found is a proof that shows a fork.
@@ -45,18 +45,18 @@ abbrev pub FoundIsShown : Type 0
 FoundIsShown = (before : Before) (heads blocks : List (List ℕ)) (bytes : List ℕ) → TellsRecords before
     → find_fork before heads blocks ≡ Some bytes → (f : Forked) × ShowsFork bytes f
 
--- So it isn't refused but for want of memory.
+-- So it isn't refused except when out of memory.
 abbrev pub FoundIsNotRefused : Type 0
 FoundIsNotRefused = (before : Before) (heads blocks : List (List ℕ)) (bytes : List ℕ) (fault : ProofFault) → TellsRecords before
     → find_fork before heads blocks ≡ Some bytes → ShowsNone bytes fault → fault ≡ Memory
 
--- Of heads that are bytes, where names tell the blocks apart: it is the proof of the first two heads that are shown as forked, and nothing
--- is found only where no two are.
+-- Of heads that are bytes, where no names collide: it is the proof of the first two heads that are shown as forked, and nothing is found
+-- only where no two are.
 abbrev pub FoundIsFirst : Type 0
 FoundIsFirst = (before : Before) (heads blocks : List (List ℕ)) → TellsRecords before
-    → ((head : List ℕ) → Contains heads head → IsTrue (are_bytes head)) → NamesTellApart blocks
+    → ((head : List ℕ) → Contains heads head → IsTrue (are_bytes head)) → IsCollisionFree blocks
     → IsFirst heads blocks (find_fork before heads blocks)
 
--- A proof that shows a fork isn't refused but for want of memory.
+-- A proof that shows a fork isn't refused except when out of memory.
 abbrev pub ShownIsNotRefused : Type 0
 ShownIsNotRefused = (p : ForkProof) (fault : ProofFault) → IsProof p → IsShown p → ShowsNone (proof_bytes p) fault → fault ≡ Memory

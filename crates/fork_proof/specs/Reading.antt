@@ -29,7 +29,7 @@ IsFrontOfProof f = (IsAny f.0.0 × IsUpTo longest_head f.0.1) × IsUpTo longest_
 abbrev pub front_bytes : Front → List ℕ
 front_bytes f = constant_bytes proof_tag f.0.0 ++ opaque f.0.1 ++ opaque f.1
 
--- the blocks behind them
+-- the blocks after them
 abbrev pub AreBlocks : List (List ℕ) → Type 0
 AreBlocks blocks = (length blocks ≤ most_blocks) × AllByRecursion IsShort blocks
 

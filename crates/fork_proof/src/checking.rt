@@ -29,7 +29,7 @@ pub struct Forked {
 /// # Errors
 ///
 /// The first test that fails: `Malformed`, `HeadWrong`, `Unlinked`, `NoFork`, each exactly where its test fails. `Memory`
-/// is want of memory.
+/// means out of memory.
 #[tactic(auto, using(crate::proofs::Walks::shows_none, crate::proofs::Walks::no_proof_shows))]
 pub fn check(alloc: Global, bytes: &[u8]) -> Result<Forked, ProofFault>
     ensures ok { IfOk result (ShowsFork bytes.now) }
@@ -103,7 +103,7 @@ fn lead_down(alloc: Global, proof: &Proof<'_>) -> Result<Key, ProofFault>
     Ok(name)
 }
 
-/// The name of the record before it, where the block is the owner's record of that number and that name. The error is want
+/// The name of the record before it, where the block is the owner's record of that number and that name. The error is: out
 /// of memory.
 fn before(
     alloc: Global,
@@ -120,7 +120,7 @@ fn before(
     prev_of(alloc, owner, seq, block)
 }
 
-/// The name of the record before it, where the block is the owner's record of that number. The error is want of memory.
+/// The name of the record before it, where the block is the owner's record of that number. The error is: out of memory.
 pub(crate) fn prev_of(
     alloc: Global,
     owner: &PubKey,
@@ -146,7 +146,7 @@ fn prev_at(read: &Record, seq: u32) -> Option<Key>
     }
 }
 
-/// No name, where the bytes are no record. The error is want of memory.
+/// No name, where the bytes are no record. The error is: out of memory.
 fn unread(fault: RecordFault) -> Result<Option<Key>, Memory>
     ensures none { IfOk result (λ found. found ≡ None) }
     ensures other { OnOk result (fault ≢ RecordFault.Memory) }

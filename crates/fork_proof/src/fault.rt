@@ -18,7 +18,7 @@ pub enum ProofFault {
     /// The second head leads to what the first one names.
     #[error("the heads are of one history")]
     NoFork,
-    /// Want of memory. No clause ties this to a cause.
+    /// Out of memory. No clause ties this to a cause.
     #[error("out of memory")]
     Memory,
 }

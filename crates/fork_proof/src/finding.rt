@@ -27,7 +27,7 @@ use std::alloc::Global;
 ///
 /// # Errors
 ///
-/// Want of memory. No clause ties it to a cause.
+/// Out of memory. No clause ties it to a cause.
 pub fn find(alloc: Global, heads: &[Bytes], blocks: &[Bytes]) -> Result<Option<Bytes>, Memory>
     ensures { IfOk result (λ found. (before : Before) → TellsRecords before → found ≡ model.find_fork before heads.now blocks.now) }
 {
@@ -39,7 +39,7 @@ pub fn find(alloc: Global, heads: &[Bytes], blocks: &[Bytes]) -> Result<Option<B
     first_fork(alloc, &named, walks.as_slice())
 }
 
-/// The proof of the first two of these heads that the blocks show as forked. The error is want of memory.
+/// The proof of the first two of these heads that the blocks show as forked. The error is: out of memory.
 fn first_fork(
     alloc: Global,
     blocks: &NamedBlocks<'_>,
@@ -56,7 +56,7 @@ fn first_fork(
     Ok(None)
 }
 
-/// The proof of the head and of the first of the others with which it is shown as forked. The error is want of memory.
+/// The proof of the head and of the first of the others with which it is shown as forked. The error is: out of memory.
 fn fork_with(
     alloc: Global,
     blocks: &NamedBlocks<'_>,
@@ -75,7 +75,7 @@ fn fork_with(
     Ok(None)
 }
 
-/// The proof of two heads in their order, where the blocks show them as forked. The error is want of memory.
+/// The proof of two heads in their order, where the blocks show them as forked. The error is: out of memory.
 fn fork_of(
     alloc: Global,
     blocks: &NamedBlocks<'_>,
@@ -94,7 +94,7 @@ fn fork_of(
 }
 
 /// The proof of a head and one whose number isn't smaller, where the blocks show them as forked. The way is gone down once more
-/// only where they do. The error is want of memory.
+/// only where they do. The error is: out of memory.
 fn proof_of_fork(
     alloc: Global,
     blocks: &NamedBlocks<'_>,
@@ -111,7 +111,7 @@ fn proof_of_fork(
     proof_of_two(alloc, blocks, &low.tip, &high.tip)
 }
 
-/// The proof of two heads of one log that lie near each other, where the blocks show them as forked. The error is want of memory.
+/// The proof of two heads of one log that lie near each other, where the blocks show them as forked. The error is: out of memory.
 fn proof_of_two(
     alloc: Global,
     blocks: &NamedBlocks<'_>,
@@ -154,7 +154,7 @@ fn is_same_owner(a: &PubKey, b: &PubKey) -> bool
     a == b
 }
 
-/// The proof, where the way leads elsewhere than to the record that the lower head names. The error is want of memory.
+/// The proof, where the way leads elsewhere than to the record that the lower head names. The error is: out of memory.
 fn proof_by(
     alloc: Global,
     low: &Tip<'_>,

@@ -75,7 +75,7 @@ fn read_tag(parts: &mut Parts)
     }
 }
 
-/// The blocks, behind their count. The error is want of memory.
+/// The blocks, after their count. The error is: out of memory.
 fn read_blocks<'a>(alloc: Global, parts: &mut Parts<'a>) -> Result<Vec<&'a [u8]>, Memory>
     ensures ok { IfOk result (λ blocks. Reads AreBlocks (array opaque) parts.old (map (λ b. b.now) blocks.items) parts.new) }
     ensures few { IfOk result (λ blocks. vec_len blocks ≤ most_blocks) }
@@ -98,7 +98,7 @@ fn read_count(parts: &mut Parts) -> u32
     }
 }
 
-/// So many blocks. The error is want of memory.
+/// So many blocks. The error is: out of memory.
 fn read_so_many<'a>(
     alloc: Global,
     parts: &mut Parts<'a>,

@@ -6,11 +6,11 @@
 //! For the layers above:
 //! - [`check`] says which fork the bytes show, or which test fails first (`specs/Checks.antt`).
 //! - [`find`] gives the proof of the first two heads that some blocks show as forked (`find_fork` of `fork_model`).
-//! - [`forks_are_forks`] has the laws (`specs/Laws.antt`). Of what is shown: no history of the log up to one of
-//!   the heads begins a history up to the other, unless two different blocks share a name. Bytes are of one
-//!   proof. And a proof of what is shown is refused only for want of memory.
-//! - [`found_forks_are_shown`] has those of what is found: it shows a fork, and its check fails only for want of memory. Where
-//!   names tell the blocks apart, it is the proof of the first two heads that are shown as forked (`specs/Firsts.antt`), and
+//! - [`forks_are_forks`] has the laws (`specs/Laws.antt`). Of what is shown: no history of the log up to one of the heads
+//!   begins a history up to the other, unless two different blocks share a name. Bytes are of one proof. And a proof of what
+//!   is shown is refused only because memory ran out.
+//! - [`found_forks_are_shown`] has those of what is found: it shows a fork, and its check fails only because memory ran out.
+//!   Where no names collide, it is the proof of the first two heads that are shown as forked (`specs/Firsts.antt`), and
 //!   nothing is found only where no two are.
 //!
 //! A citation of a log by somebody else is no part of a proof: it says nothing about the log's owner.

@@ -33,7 +33,7 @@ impl<'a> Model for NamedBlocks<'a> {
 }
 
 impl<'a> NamedBlocks<'a> {
-    /// These blocks. Each is hashed once. The error is want of memory.
+    /// These blocks. Each is hashed once. The error is: out of memory.
     pub fn of(alloc: Global, blocks: &'a [Bytes]) -> Result<NamedBlocks<'a>, Memory>
         ensures { IfOk result (λ named. named ≡ blocks.now) }
     {
@@ -51,7 +51,7 @@ impl<'a> NamedBlocks<'a> {
     }
 }
 
-/// Where the first block of each name stands. The error is want of memory.
+/// Where the first block of each name stands. The error is: out of memory.
 fn places_of(alloc: Global, blocks: &[Bytes]) -> Result<BTreeMap<Key, usize>, Memory>
     ensures { IfOk result (λ places. ArePlaced blocks.now places.entries) }
 {
@@ -62,7 +62,7 @@ fn places_of(alloc: Global, blocks: &[Bytes]) -> Result<BTreeMap<Key, usize>, Me
     Ok(places)
 }
 
-/// Notes the place of a block of that name, where none was noted. The error is want of memory.
+/// Notes the place of a block of that name, where none was noted. The error is: out of memory.
 fn note(places: &mut BTreeMap<Key, usize>, name: Key, place: usize) -> Result<(), Memory>
     ensures { OnOk result ((k : Key) → lookup (same_key k) places.new.entries ≡ had_first (lookup (same_key k) places.old.entries) (same_key name k) place) }
 {

@@ -40,7 +40,7 @@ impl<'a> Tip<'a> {
     }
 }
 
-/// The signed heads among these, in their order. Each is verified once. The error is want of memory.
+/// The signed heads among these, in their order. Each is verified once. The error is: out of memory.
 pub fn signed_heads<'a>(alloc: Global, heads: &'a [Bytes]) -> Result<Vec<Tip<'a>>, Memory>
     ensures { IfOk result (λ tips. map tip_seen tips.items ≡ filter_map tip_of heads.now) }
 {

@@ -20,7 +20,7 @@ pub struct Trunk {
     ends: u32,
 }
 
-/// The trunk of these heads. The error is want of memory.
+/// The trunk of these heads. The error is: out of memory.
 ///
 /// From each head it goes down as far as a proof may go. Where it comes to the record of a head from which it went down
 /// already, it goes no further. The heads may be of several logs, whose names of one number are two, then.
@@ -40,7 +40,7 @@ pub fn trunk_of(alloc: Global, blocks: &NamedBlocks<'_>, tips: &[Tip<'_>]) -> Re
 }
 
 /// Notes the names to which the head leads, where those of earlier ones are noted, of which `places` has the last one of each
-/// name. The error is want of memory.
+/// name. The error is: out of memory.
 fn note_down(
     alloc: Global,
     blocks: &NamedBlocks<'_>,
@@ -88,7 +88,7 @@ fn tip_from<'t, 'a>(
     }
 }
 
-/// Notes that a head leads to that name of that number. The error is want of memory.
+/// Notes that a head leads to that name of that number. The error is: out of memory.
 fn note(trunk: &mut Trunk, seq: u32, name: &Key) -> Result<(), Memory>
     ensures has { OnOk result (HasName trunk.new seq name.now) }
     ensures keeps { OnOk result (Keeps trunk.old trunk.new) }

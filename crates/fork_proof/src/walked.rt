@@ -20,7 +20,7 @@ pub struct Walk<'a> {
     pub names: Vec<Key>,
 }
 
-/// The walks down from these heads. The error is want of memory.
+/// The walks down from these heads. The error is: out of memory.
 pub fn walks_down<'a>(
     alloc: Global,
     blocks: &NamedBlocks<'_>,
@@ -39,8 +39,8 @@ pub fn walks_down<'a>(
     Ok(walks)
 }
 
-/// The walk down from that head, where some were gone already, of which `places` has the last one of each name. The error is
-/// want of memory.
+/// The walk down from that head, where some were gone already, of which `places` has the last one of each name. The error
+/// is: out of memory.
 fn walk_down<'a>(
     alloc: Global,
     blocks: &NamedBlocks<'_>,
@@ -56,8 +56,8 @@ fn walk_down<'a>(
     Ok(Walk { tip: *tip, names })
 }
 
-/// The names to which the head leads. From the first record on at which an earlier walk began, that one is gone. The error is
-/// want of memory.
+/// The names to which the head leads. From the first record on at which an earlier walk began, that one is gone. The error
+/// is: out of memory.
 fn names_down(
     alloc: Global,
     blocks: &NamedBlocks<'_>,
@@ -109,7 +109,7 @@ fn walk_from<'w, 'a>(
     }
 }
 
-/// At most so many names behind the first one.
+/// At most so many names after the first one.
 fn below_first(names: &[Key], most: usize) -> &[Key]
     ensures { result.now ≡ take most (drop 1 names.now) }
 {

@@ -32,7 +32,7 @@ pub struct Way<'a> {
 /// The most blocks of a proof.
 pub const MOST_BLOCKS: u32 = 1_024;
 
-/// The owner's record of that name and number, where its block is among the blocks. The error is want of memory.
+/// The owner's record of that name and number, where its block is among the blocks. The error is: out of memory.
 pub fn step_down<'a>(
     alloc: Global,
     blocks: &NamedBlocks<'a>,
@@ -48,7 +48,7 @@ pub fn step_down<'a>(
     }
 }
 
-/// The step by that block, where it is the owner's record of that number. The error is want of memory.
+/// The step by that block, where it is the owner's record of that number. The error is: out of memory.
 fn step_by<'a>(
     alloc: Global,
     owner: &PubKey,
@@ -63,7 +63,7 @@ fn step_by<'a>(
     }
 }
 
-/// So many records down from the one that the head names, where they are all among the blocks. The error is want of memory.
+/// So many records down from the one that the head names, where they are all among the blocks. The error is: out of memory.
 pub fn way_down<'a>(
     alloc: Global,
     blocks: &NamedBlocks<'a>,

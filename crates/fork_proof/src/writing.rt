@@ -13,7 +13,7 @@ use xdr_codec::XdrWrite;
 /// What a proof's bytes begin with.
 const TAG: [u8; 4] = *b"IVF1";
 
-/// The bytes of the proof of these heads and blocks. The error is want of memory; it also comes where a word can't count the
+/// The bytes of the proof of these heads and blocks. The error is: out of memory; it also comes where a word can't count the
 /// blocks or the bytes of a part.
 pub fn write_proof(
     alloc: Global,
@@ -47,7 +47,7 @@ fn put_parts(out: &mut XdrWrite, parts: &[&[u8]]) -> Result<(), Memory>
     Ok(())
 }
 
-/// Appends the bytes of a part, behind their count. The error is that of [`write_proof`].
+/// Appends the bytes of a part, after their count. The error is that of [`write_proof`].
 fn put_part(out: &mut XdrWrite, part: &[u8]) -> Result<(), Memory>
     ensures { OnOk result (out.new.written ≡ out.old.written ++ opaque part.now) }
 {

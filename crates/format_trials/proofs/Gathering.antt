@@ -13,7 +13,7 @@ use Rattle.log_records.specs.declared.record.Record as kept
 use Rattle.log_records.specs.Records.{record_of, records_of}
 use Rattle.log_model.specs.Fetched.{IsSound, owner_of}
 use Rattle.log_records.specs.Batches.{AreOfOneOwner, Batch}
-use Rattle.causal_order.specs.AtHand.{IsFetched}
+use Rattle.causal_order.specs.Available.{IsFetched}
 use Rattle.causal_order.specs.Over.{IsClosed}
 use Rattle.causal_order.proofs.Fetching.{sound_is_fetched}
 use Rattle.format_trials.specs.Gathered.{IsGathered}

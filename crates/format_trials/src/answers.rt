@@ -49,7 +49,7 @@ fn cuts(line: &mut Line<'_>) {
     put_cuts(&mut line.text, ask, &bytes);
 }
 
-/// Tells where the answer to the question with its bytes cut isn't what was told.
+/// Tells where the answer to the question with its bytes cut isn't what was reported.
 fn put_cuts(told: &mut Text, ask: &str, bytes: &[u8]) {
     for len in 1..bytes.len() {
         if !is_told(told, ask, &bytes[..len]) {

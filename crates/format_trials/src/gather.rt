@@ -5,7 +5,7 @@ ghost use Rattle.std.specs.List.{All, AllByRecursion};
 ghost use Rattle.log_records.specs.Records.{records_of};
 ghost use Rattle.log_model.specs.Fetched.{owner_of};
 ghost use Rattle.log_records.specs.Batches.{AreOfOneOwner};
-ghost use Rattle.causal_order.specs.AtHand.{IsFetched};
+ghost use Rattle.causal_order.specs.Available.{IsFetched};
 ghost use Rattle.format_trials.specs.Gathered.{IsGathered};
 
 use crate::logs::Log;
@@ -84,7 +84,7 @@ pub fn batch_of(alloc: Global, view: &View, logs: Vec<Log>) -> Option<Batch>
     Some(batch)
 }
 
-/// The largest closed part of the batch's chains, where nothing is held. The error is want of memory.
+/// The largest closed part of the batch's chains, where nothing is held. The error is: out of memory.
 pub fn part_of(alloc: Global, view: &View, batch: Batch) -> Result<Vec<Record>, Memory>
     requires { AllByRecursion (λ c. IsFetched view.now [] [] c.1) batch.chains }
 {

@@ -1,4 +1,4 @@
-//! Values that are let go by a call.
+//! Values that are dropped by a call.
 
 /// A value of many parts. Who holds one lets it go by a call, and not part by part.
 pub struct Held<T: Drop> {

@@ -64,7 +64,7 @@ fn read_item(line: &mut Line<'_>, reader: &mut XdrRead<'_>, item: &str) {
     }
 }
 
-/// Tells what reading the items one behind the other gives.
+/// Tells what reading the items one after the other gives.
 pub fn read(line: &mut Line<'_>, bytes: &[u8]) {
     let mut reader = XdrRead::new(bytes);
     for item in line.word().split(',') {
@@ -103,7 +103,7 @@ fn write_bytes(line: &mut Line<'_>, written: &mut XdrWrite, word: &str, is_count
     put_item(&mut line.text, written, &bytes, is_counted);
 }
 
-/// Writes bytes, at most 1,000, behind their count or without it.
+/// Writes bytes, at most 1,000, after their count or without it.
 fn put_item(out: &mut Text, written: &mut XdrWrite, bytes: &[u8], is_counted: bool) {
     if bytes.len() > 1000 || written.reserve(1004).is_err() {
         out.lack();
@@ -114,7 +114,7 @@ fn put_item(out: &mut Text, written: &mut XdrWrite, bytes: &[u8], is_counted: bo
     }
 }
 
-/// Tells the bytes of the items one behind the other.
+/// Tells the bytes of the items one after the other.
 pub fn write(line: &mut Line<'_>) {
     let mut written = XdrWrite::new(line.text.alloc);
     for _n in 0..line.words_left() {

@@ -5,10 +5,10 @@ use ivy_base::{Key, PubKey};
 use std::alloc::Global;
 
 /// A line, whose words are taken from the front, or the last one first. A word that isn't of the kind that is asked for
-/// fails the line, and so does want of memory: it has no answer then, whatever was told. So who takes words need not look
-/// for that, and goes on with a word that is harmless.
+/// fails the line, and so does running out of memory: it has no answer then, whatever was reported. So who takes words
+/// need not look for that, and goes on with a word that is harmless.
 pub struct Line<'a> {
-    /// What was told.
+    /// What was reported.
     pub text: Text,
     /// The words that were not taken.
     pub rest: &'a str,

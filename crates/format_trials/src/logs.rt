@@ -44,7 +44,7 @@ fn owners(out: &mut Text, letters: &str) -> Vec<PubKey> {
     owners
 }
 
-/// The view of the members before the dash and the former members behind it, where there is one.
+/// The view of the members before the dash and the former members after it, where there is one.
 pub fn view_of(out: &mut Text, letters: &str) -> Result<View, ViewFault> {
     let (members, former) = letters.split_once('-').unwrap_or((letters, ""));
     let members = owners(out, members);

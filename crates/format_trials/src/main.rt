@@ -1,6 +1,6 @@
-//! Puts formats and signatures to trial: each line of the standard input asks for one answer. A line `== FAMILY` begins
-//! a family, and the lines behind it are of that; at first it is `formats`. Such a line is its own answer, and so is one
-//! that begins with `#`. `no answer` stands for a line that asks for nothing of its family, and for want of memory.
+//! Puts formats and signatures to trial: each line of the standard input asks for one answer. A line `== FAMILY` begins a family,
+//! and the lines after it are of that; at first it is `formats`. Such a line is its own answer, and so is one that begins with
+//! `#`. `no answer` stands for a line that asks for nothing of its family, and when out of memory.
 //!
 //! Bytes are hexadecimal, `-` for none; a part `HH*N` stands for those bytes N times, and `.` joins parts.
 //!

@@ -85,7 +85,7 @@ fn place_of(out: &mut Text, logs: &mut Vec<Log>, letter: u8) -> usize {
     place
 }
 
-/// The place of the owner's log, or behind the last where there is none.
+/// The place of the owner's log, or after the last where there is none.
 fn place_in(logs: &[Log], owner: &PubKey) -> usize {
     for place in 0..logs.len() {
         if logs[place].owner == *owner {
@@ -95,7 +95,7 @@ fn place_in(logs: &[Log], owner: &PubKey) -> usize {
     logs.len()
 }
 
-/// What the words behind a colon cite.
+/// What the words after a colon cite.
 fn cited(line: &mut Line<'_>, logs: &[Log], words: &str) -> Vector {
     let mut vector = Vector::empty(line.text.alloc);
     if let Some(words) = words.strip_prefix(':') {

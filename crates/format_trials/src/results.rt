@@ -206,7 +206,7 @@ fn put_reply(out: &mut Text, reply: &Reply) {
     }
 }
 
-/// Adds the values of a page, its entries each behind a blank.
+/// Adds the values of a page, its entries each after a blank.
 fn put_page(
     out: &mut Text,
     dir: &Option<Fattr>,

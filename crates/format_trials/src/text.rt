@@ -77,7 +77,7 @@ impl Text {
         array
     }
 
-    /// The vector that was made, or an empty one for want of memory.
+    /// The vector that was made, or an empty one when out of memory.
     pub fn vector(&mut self, made: Result<Vector, Memory>) -> Vector {
         match made {
             Ok(vector) => vector,
@@ -94,7 +94,7 @@ impl Text {
         self.note(added.is_ok());
     }
 
-    /// Adds a blank behind what was put together, where it is something.
+    /// Adds a blank after what was put together, where it is something.
     pub fn part(&mut self) {
         if !self.text.is_empty() {
             self.add(" ");

@@ -50,7 +50,7 @@ fn compare_block(out: &mut Text, view: &View, name: &Key, bytes: &[u8]) {
     out.compare(view.write(out.alloc), bytes);
 }
 
-/// The public keys that the bytes are, one behind the other.
+/// The public keys that the bytes are, one after the other.
 fn keys_of(out: &mut Text, bytes: &[u8]) -> Vec<PubKey> {
     let mut keys = Vec::new(out.alloc);
     let (chunks, _) = bytes.as_chunks::<60>();

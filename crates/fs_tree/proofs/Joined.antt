@@ -153,7 +153,7 @@ module _ (names : Tree) (contents : List (Key × Inode)) (tied : IsTied names co
         let touch : e.1.inode ≡ cond (is_some (touched_by names o).first) (touched_inode now i) i = ap (λ (k : Kept). k.inode) m.1 ∙ inode_touched now e.0 (is_some (touched_by names o).first) ∙ ap (λ x. cond (is_some (touched_by names o).first) (touched_inode now x) x) e.2 in
         names_changed_in dir now o within i e.1.inode found touch new m.0 left e.4
 
-    -- both are changed, or neither is for want of memory
+    -- both are changed, or neither is when out of memory
     pub directory_left : {A E : Type 0} (r : Result A E) → OnOk r (IsContentEdited makes dir edit after contents left) → OnErr r ((after ≡ edit) × (left ≡ contents)) → OnOk r (tree_of new left ≡ apply whole now o) × IsTied new left
     directory_left (Ok x) ok err = edited_at (value_at key_cmp dir contents) refl ok
     directory_left (Err e) ok err = (tt, subst (λ (u : Tree). IsTied u left) (sym (same err.0)) (subst (λ l. IsTied names l) (sym err.1) tied))
@@ -179,7 +179,7 @@ module _ (names : Tree) (contents : List (Key × Inode)) (tied : IsTied names co
         ∙ ap (λ (p : Op). (apply whole now p).inodes) (sym same)
         )
 
-    -- both halves have it, or neither for want of memory
+    -- both halves have it, or neither when out of memory
     pub inode_left : (k : Kept) → made_kept now o ≡ Some k → value_at key_cmp number contents ≡ None → (new : Tree) (left : List (Key × Inode)) {Made Same : Type 0} → (Made → new ≡ bare (apply names now o)) → (Same → new ≡ names)
         → {A E : Type 0} (r : Result A E) → OnOk r ((left ≡ put key_cmp number k.inode contents) × Made) → OnErr r ((left ≡ contents) × Same) → OnOk r (tree_of new left ≡ apply whole now o) × IsTied new left
     inode_left k makes free new left made_so same_so (Ok x) ok err = inode_added k makes free new (made_so ok.1) left ok.0
@@ -206,7 +206,7 @@ onto : {A E : Type 0} {P Q : Type 0} (r : Result A E) → (P → Q) → OnOk r P
 onto (Ok x) f h = f h
 onto (Err e) f h = h
 
--- a content that was changed, or none for want of memory
+-- a content that was changed, or none when out of memory
 pub content_left : (names : Tree) (contents : List (Key × Inode)) → IsTied names contents → (number : Key) (f : Inode → Inode) → ((i : Inode) → (f i).kind ≡ i.kind) → {A E : Type 0} (r : Result A E) (left : List (Key × Inode)) → OnOk r (left ≡ at_content contents number f) → OnErr r (left ≡ contents) → OnOk r (tree_of names left ≡ at_inode (tree_of names contents) number f) × IsTied names left
 content_left names contents tied number f kept (Ok x) left ok err = content_changed names contents tied number f kept left ok
 content_left names contents tied number f kept (Err e) left ok err = (tt, subst (λ l. IsTied names l) (sym err) tied)

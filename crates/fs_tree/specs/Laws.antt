@@ -22,7 +22,7 @@ is_on n _ = false
 abbrev pub own_of : Key → List (Moment × Op) → List (Moment × Op)
 own_of n ops = filter (λ o. is_on n o.1) ops
 
--- what these make of it, one after the other: the first one that makes an inode makes it, and each behind it changes it
+-- what these make of it, one after the other: the first one that makes an inode makes it, and each after it changes it
 abbrev pub content_after : Option Inode → List (Moment × Op) → Option Inode
 content_after i [] = i
 content_after None (o ∷ ops) = content_after (made o.0 o.1) ops

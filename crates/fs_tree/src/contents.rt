@@ -58,7 +58,7 @@ impl Contents {
         self.map.get(ino)
     }
 
-    /// Lets the number stand for that inode. The error is want of memory, and then nothing has changed.
+    /// Lets the number stand for that inode. The error is: out of memory, and then nothing has changed.
     pub fn insert(&mut self, alloc: Global, ino: Key, content: Content) -> Result<(), Memory>
         ensures ok { OnOk result (self.new ≡ put key_cmp ino content.inode self.old) }
         ensures err { OnErr result (self.new ≡ self.old) }
@@ -82,7 +82,7 @@ impl Contents {
         Ok(())
     }
 
-    /// Changes the inode of that number where it stands, if there is one. The error is want of memory, and then nothing
+    /// Changes the inode of that number where it stands, if there is one. The error is: out of memory, and then nothing
     /// has changed.
     pub fn update<E: Edit<Content>>(
         &mut self,
@@ -107,7 +107,7 @@ impl Contents {
         })
     }
 
-    /// The numbers of all inodes, ascending. The error is want of memory.
+    /// The numbers of all inodes, ascending. The error is: out of memory.
     pub fn numbers(&self, alloc: Global) -> Result<Vec<Key>, Memory>
         ensures { IfOk result (λ numbers. numbers.items ≡ map (λ e. e.0) self.now) }
     {
@@ -119,7 +119,7 @@ impl Contents {
         Ok(numbers)
     }
 
-    /// Does what a Write or a SetAttrs does to the inode of that number, where there is one. The error is want of
+    /// Does what a Write or a SetAttrs does to the inode of that number, where there is one. The error is: out of
     /// memory, and then nothing has changed.
     pub fn change(
         &mut self,
@@ -140,7 +140,7 @@ impl Contents {
         self.insert(alloc, *ino, content)
     }
 
-    /// Sets the times of the directory whose entries changed at that moment, where one is given. The error is want of
+    /// Sets the times of the directory whose entries changed at that moment, where one is given. The error is: out of
     /// memory, and then nothing has changed.
     pub fn touch_any(
         &mut self,

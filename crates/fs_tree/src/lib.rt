@@ -16,10 +16,10 @@
 //! `specs/Contents.antt` which inodes contents are, `specs/Applicable.antt` what an operation must meet, which each
 //! record's does.
 //!
-//! Costs, counted in comparisons: a question or an operation takes the logarithm of the number of inodes and of the
-//! names in its directories. A Link or a Rename of a directory that has entries also climbs from its place to the top, and
-//! a Write takes the time of the bytes that it changes. Inodes and the nodes of the maps above them are changed in place
-//! where they have one owner, and made anew where copies share them, as they do in a Rename. A copy of the tree takes
+//! Costs, counted in comparisons: a question or an operation takes the logarithm of the number of inodes and of the names
+//! in its directories. A Link or a Rename of a directory that has entries also climbs from its place to the top, and a
+//! Write takes the time of the bytes that it changes. Inodes and the nodes of the maps above them are changed in place
+//! where they have one owner, and copied where copies share them, as they do in a Rename. A copy of the tree takes
 //! constant time and no memory: it shares all of that until one of the two is changed.
 #![tactic(auto)]
 

@@ -49,7 +49,7 @@ impl Model for Tree {
 }
 
 impl Tree {
-    /// The root alone: a directory of mode 0777 that is owned by 0:0 and whose times are 0. The error is want of memory.
+    /// The root alone: a directory of mode 0777 that is owned by 0:0 and whose times are 0. The error is: out of memory.
     pub fn empty(alloc: Global) -> Result<Tree, Memory>
         ensures { IfOk result (λ t. t ≡ empty_tree) }
     {
@@ -74,7 +74,7 @@ impl Tree {
     }
 
     /// Does what the operation does at that moment; one that may not be done changes nothing, and is no error.
-    /// A file's bytes end at 16,777,216 at most. The error is want of memory, and then the tree is as it was.
+    /// A file's bytes end at 16,777,216 at most. The error is: out of memory, and then the tree is as it was.
     pub fn apply(&mut self, alloc: Global, moment: Moment, op: &Op) -> Result<(), Memory>
         requires { IsApplicable op.now }
         ensures ok { OnOk result (self.new ≡ apply self.old moment op.now) }
@@ -91,7 +91,7 @@ impl Tree {
         }
     }
 
-    /// An equal tree, which later changes of this one don't reach. The error is want of memory.
+    /// An equal tree, which later changes of this one don't reach. The error is: out of memory.
     pub fn copy(&self, alloc: Global) -> Result<Tree, Memory>
         ensures { IfOk result (λ copy. copy ≡ self.now) }
     {
@@ -181,7 +181,7 @@ impl Tree {
         &self.names
     }
 
-    /// The numbers of all inodes, ascending. The error is want of memory.
+    /// The numbers of all inodes, ascending. The error is: out of memory.
     pub fn numbers(&self, alloc: Global) -> Result<Vec<Key>, Memory>
         ensures numbers { IfOk result (λ numbers. numbers.items ≡ map (λ e. e.0) self.now.inodes) }
         ensures order { IsInOrder self.now }

@@ -15,10 +15,10 @@ use Rattle.hash_signature_model.specs.declared.set.Set.{Set}
 use Rattle.hash_signature_model.specs.declared.set.LmsFault.{LmsFault}
 use Rattle.hash_signature_model.specs.declared.set.LmsFault.TheVariants.{Unsupported, Malformed, Wrong}
 use Rattle.hash_signature_model.specs.Parameters.{chains, levels, leaves, ots_type, lms_type}
-use Rattle.hash_signature_model.specs.OneTime.{word}
+use Rattle.hash_signature_model.specs.OneTime.{u32_string as word}
 use Rattle.hash_signature_model.specs.declared.keys.PublicKey.{PublicKey}
 use Rattle.hash_signature_model.specs.Signatures.{IsPublicKey, public_key, Signature, IsSignature, signature, root_from, Accepts}
-use Rattle.hash_signature_model.specs.Reading.{◌>>=◌, part_at, number_at, width_of, height_of, same_width, same_height, height_at, width_at, key_at, leaf_at, same_width_at, same_height_at, signature_at, all_read, whole_key, whole_signature, verdict}
+use Rattle.hash_signature_model.specs.Reading.{◌>>=◌, part_at, read_word, width_of, height_of, same_width, same_height, height_at, width_at, key_at, leaf_at, same_width_at, same_height_at, signature_at, all_read, whole_key, whole_signature, verdict}
 
 abbrev pub IsBytes : List ℕ → Type 0
 IsBytes bytes = (i : ℕ) → get_or bytes i 0 < 256
@@ -67,8 +67,8 @@ part_takes n bytes part rest fits e =
     let g = guard_ok (ltb (length bytes) n) Malformed (take n bytes, drop n bytes) (part, rest) e in
     let long : n ≤ length bytes = ltb-false _ _ g.0 in
     let front : take n bytes ≡ part = ap (λ (p : List ℕ × List ℕ). p.0) g.1 in
-    let behind : drop n bytes ≡ rest = ap (λ (p : List ℕ × List ℕ). p.1) g.1 in
-    (record { parts = rw (← front, ← behind) (sym (take-append-drop n bytes)); rest_fits = rw (← behind) (IsBytes-drop n bytes fits) }, rw (← front) (omega (arith, length-take n bytes)))
+    let after : drop n bytes ≡ rest = ap (λ (p : List ℕ × List ℕ). p.1) g.1 in
+    (record { parts = rw (← front, ← after) (sym (take-append-drop n bytes)); rest_fits = rw (← after) (IsBytes-drop n bytes fits) }, rw (← front) (omega (arith, length-take n bytes)))
 
 pub part_again : (n : ℕ) (part rest : List ℕ) → length part ≡ n → part_at n (part ++ rest) ≡ Ok (part, rest)
 unfolding part_at
@@ -76,8 +76,8 @@ part_again n part rest len =
     let long : ltb (length (part ++ rest)) n ≡ false = le-ltb _ _ (omega (arith, length-append part rest, len)) in
     rw (long, take_at part rest n len, drop_at part rest n len) refl
 
-pub number_takes : (bytes : List ℕ) (n : ℕ) (rest : List ℕ) → IsBytes bytes → number_at bytes ≡ Ok (n, rest) → Takes bytes (word n) rest
-unfolding number_at
+pub number_takes : (bytes : List ℕ) (n : ℕ) (rest : List ℕ) → IsBytes bytes → read_word bytes ≡ Ok (n, rest) → Takes bytes (word n) rest
+unfolding read_word
 number_takes bytes n rest fits e =
     let g = guard_ok (ltb (length bytes) 4) Malformed (from_be_bytes w32 (take 4 bytes), drop 4 bytes) (n, rest) e in
     let long : 4 ≤ length bytes = ltb-false _ _ g.0 in
@@ -86,13 +86,13 @@ number_takes bytes n rest fits e =
     let front : word n ≡ take 4 bytes = be_bytes_4 (take 4 bytes) n (omega (arith, length-take 4 bytes)) (IsBytes-take 4 bytes fits) (sym n-is) in
     record { parts = sym (take-append-drop 4 bytes) ∙ (ap (λ (t : List ℕ). t ++ drop 4 bytes) (sym front) ∙ ap (λ (t : List ℕ). word n ++ t) rest-is); rest_fits = rw (← rest-is) (IsBytes-drop 4 bytes fits) }
 
-number_front : (front rest : List ℕ) (n : ℕ) → length front ≡ 4 → from_be_bytes w32 front ≡ n → number_at (front ++ rest) ≡ Ok (n, rest)
-unfolding number_at
+number_front : (front rest : List ℕ) (n : ℕ) → length front ≡ 4 → from_be_bytes w32 front ≡ n → read_word (front ++ rest) ≡ Ok (n, rest)
+unfolding read_word
 number_front front rest n len same =
     let long : ltb (length (front ++ rest)) 4 ≡ false = le-ltb _ _ (omega (arith, length-append front rest, len)) in
     rw (long, take_at front rest 4 len, drop_at front rest 4 len, same) refl
 
-pub number_again : (n : ℕ) (rest : List ℕ) → n < 2 ^ 32 → number_at (word n ++ rest) ≡ Ok (n, rest)
+pub number_again : (n : ℕ) (rest : List ℕ) → n < 2 ^ 32 → read_word (word n ++ rest) ≡ Ok (n, rest)
 number_again n rest lt = number_front (word n) rest n refl (from_be_bytes-to_be_bytes_4 n lt)
 
 -- ---- types
@@ -157,7 +157,7 @@ height_small H10 = omega arith
 pub width_takes : (bytes : List ℕ) (w : Width) (rest : List ℕ) → IsBytes bytes → width_at bytes ≡ Ok (w, rest) → Takes bytes (word (ots_type w)) rest
 unfolding width_at
 width_takes bytes w rest fits e =
-    let n = bind_ok (number_at bytes) (λ n. width_of n.0 >>= λ v. Ok (v, n.1)) (w, rest) e in
+    let n = bind_ok (read_word bytes) (λ n. width_of n.0 >>= λ v. Ok (v, n.1)) (w, rest) e in
     let v = bind_ok (width_of n.0.0) (λ v. Ok (v, n.0.1)) (w, rest) n.2 in
     let pair : (v.0, n.0.1) ≡ (w, rest) = ok_is (v.0, n.0.1) (w, rest) v.2 in
     let number = number_takes bytes n.0.0 n.0.1 fits n.1 in
@@ -167,7 +167,7 @@ width_takes bytes w rest fits e =
 pub height_takes : (bytes : List ℕ) (h : Height) (rest : List ℕ) → IsBytes bytes → height_at bytes ≡ Ok (h, rest) → Takes bytes (word (lms_type h)) rest
 unfolding height_at
 height_takes bytes h rest fits e =
-    let n = bind_ok (number_at bytes) (λ n. height_of n.0 >>= λ v. Ok (v, n.1)) (h, rest) e in
+    let n = bind_ok (read_word bytes) (λ n. height_of n.0 >>= λ v. Ok (v, n.1)) (h, rest) e in
     let v = bind_ok (height_of n.0.0) (λ v. Ok (v, n.0.1)) (h, rest) n.2 in
     let pair : (v.0, n.0.1) ≡ (h, rest) = ok_is (v.0, n.0.1) (h, rest) v.2 in
     let number = number_takes bytes n.0.0 n.0.1 fits n.1 in
@@ -253,7 +253,7 @@ whole_key_again k fits =
 pub leaf_takes : (h : Height) (bytes : List ℕ) (leaf : ℕ) (rest : List ℕ) → IsBytes bytes → leaf_at h bytes ≡ Ok (leaf, rest) → Takes bytes (word leaf) rest × (leaf < leaves h)
 unfolding leaf_at
 leaf_takes h bytes leaf rest fits e =
-    let n = bind_ok (number_at bytes) (λ n. cond (ltb n.0 (leaves h)) (Ok (n.0, n.1)) (Err Malformed)) (leaf, rest) e in
+    let n = bind_ok (read_word bytes) (λ n. cond (ltb n.0 (leaves h)) (Ok (n.0, n.1)) (Err Malformed)) (leaf, rest) e in
     let p = passed_ok (ltb n.0.0 (leaves h)) Malformed (n.0.0, n.0.1) (leaf, rest) n.2 in
     let P : ℕ × List ℕ → Type 0 = λ q. Takes bytes (word q.0) q.1 × (q.0 < leaves h) in
     subst P p.1 (number_takes bytes n.0.0 n.0.1 fits n.1, ltb-true _ _ p.0)
@@ -264,7 +264,7 @@ leaf_small H10 leaf lt = omega arith
 
 pub leaf_again : (h : Height) (leaf : ℕ) (rest : List ℕ) → leaf < leaves h → leaf_at h (word leaf ++ rest) ≡ Ok (leaf, rest)
 unfolding leaf_at
-leaf_again h leaf rest lt = bind_again (number_at (word leaf ++ rest)) (λ n. cond (ltb n.0 (leaves h)) (Ok (n.0, n.1)) (Err Malformed)) (leaf, rest) (Ok (leaf, rest)) (number_again leaf rest (leaf_small h leaf lt))
+leaf_again h leaf rest lt = bind_again (read_word (word leaf ++ rest)) (λ n. cond (ltb n.0 (leaves h)) (Ok (n.0, n.1)) (Err Malformed)) (leaf, rest) (Ok (leaf, rest)) (number_again leaf rest (leaf_small h leaf lt))
     (ap (λ (b : Bool). cond b (Ok (leaf, rest)) (Err Malformed)) (lt-ltb leaf (leaves h) lt))
 
 same_width_is : (a b : Width) → same_width a b ≡ true → a ≡ b

@@ -7,7 +7,7 @@ use Rattle.hash_signature_model.specs.declared.set.LmsFault.{LmsFault}
 use Rattle.hash_signature_model.specs.declared.set.LmsFault.TheVariants.{Malformed, Wrong}
 use Rattle.hash_signature_model.specs.declared.keys.PublicKey.{PublicKey}
 use Rattle.hash_signature_model.specs.Signatures.{Signature, root_from}
-use Rattle.hash_signature_model.specs.Reading.{◌>>=◌, number_at, key_at, whole_key, signature_at, whole_signature}
+use Rattle.hash_signature_model.specs.Reading.{◌>>=◌, read_word, key_at, whole_key, signature_at, whole_signature}
 
 -- what was read of a level: its public key, and a signature under it with the bytes that this signs
 pub record Level : Type 0 where
@@ -26,7 +26,7 @@ between_of n = if n == 1 then Ok 0 else if n == 2 then Ok 1 else if n == 3 then 
 -- a public key that is all of the bytes: L - 1 for its L, and the top key (6.1)
 unfoldable pub whole_hss_key : List ℕ → Result (ℕ × PublicKey) LmsFault
 whole_hss_key bytes = do
-  count ← number_at bytes
+  count ← read_word bytes
   between ← between_of count.0
   top ← whole_key count.1
   Ok (between, top)
@@ -46,7 +46,7 @@ whole_levels (suc between) key message bytes = do
 -- a signature under a key that is all of the bytes: L - 1, which is the key's, and the levels (6.2)
 unfoldable pub whole_hss_signature : ℕ → PublicKey → List ℕ → List ℕ → Result (List Level) LmsFault
 whole_hss_signature between top message bytes = do
-  n ← number_at bytes
+  n ← read_word bytes
   if n.0 == between then whole_levels between top message n.1 else Err Malformed
 
 -- the answer about a public key, a message and a signature: the key is read before the signature, and `Wrong` comes

@@ -24,8 +24,8 @@ unfoldable pub part_at : ℕ → List ℕ → Result (List ℕ × List ℕ) LmsF
 part_at n bytes = if nat_lt (length bytes) n then Err Malformed else Ok (take n bytes, drop n bytes)
 
 -- a number of four bytes, and the bytes after it
-unfoldable pub number_at : List ℕ → Result (ℕ × List ℕ) LmsFault
-number_at bytes = if nat_lt (length bytes) 4 then Err Malformed else Ok (from_be_bytes w32 (take 4 bytes), drop 4 bytes)
+unfoldable pub read_word : List ℕ → Result (ℕ × List ℕ) LmsFault
+read_word bytes = if nat_lt (length bytes) 4 then Err Malformed else Ok (from_be_bytes w32 (take 4 bytes), drop 4 bytes)
 
 -- the one-time types: 3 and 4 are of the profile, 1 and 2 of RFC 8554
 unfoldable pub width_of : ℕ → Result Width LmsFault
@@ -52,13 +52,13 @@ same_height H10 H10 = true
 -- a tree type or a one-time type, and the bytes after it
 unfoldable pub height_at : List ℕ → Result (Height × List ℕ) LmsFault
 height_at bytes = do
-  n ← number_at bytes
+  n ← read_word bytes
   h ← height_of n.0
   Ok (h, n.1)
 
 unfoldable pub width_at : List ℕ → Result (Width × List ℕ) LmsFault
 width_at bytes = do
-  n ← number_at bytes
+  n ← read_word bytes
   w ← width_of n.0
   Ok (w, n.1)
 
@@ -84,7 +84,7 @@ whole_key bytes = do
 -- the leaf's number, which is one of the tree
 unfoldable pub leaf_at : Height → List ℕ → Result (ℕ × List ℕ) LmsFault
 leaf_at h bytes = do
-  leaf ← number_at bytes
+  leaf ← read_word bytes
   if nat_lt leaf.0 (leaves h) then Ok (leaf.0, leaf.1) else Err Malformed
 
 -- the key's one-time type, and the key's tree type

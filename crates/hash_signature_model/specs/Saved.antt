@@ -6,7 +6,7 @@ use Rattle.hash_signature_model.specs.declared.set.Width.{Width}
 use Rattle.hash_signature_model.specs.declared.set.Width.TheVariants.{W4, W8}
 use Rattle.hash_signature_model.specs.declared.set.Set.{Set}
 use Rattle.hash_signature_model.specs.Parameters.{levels}
-use Rattle.hash_signature_model.specs.Signer.{Signer, capacity, left_of, next_signature, one_more_made, owner_of}
+use Rattle.hash_signature_model.specs.Signer.{Signer, capacity, left_of, next_signature, one_more_made, public_key_of}
 use Rattle.log_model.specs.Signing.{Signing}
 
 -- w, the bits of a digest that one chain signs
@@ -40,4 +40,4 @@ pub record IsSigner (signer : Signer) : Type 0 where
 
 -- what a signer of hierarchical signatures has and does
 abbrev pub hss : Signing Signer
-hss = record { key = owner_of; remaining = left_of; signature = next_signature; next = one_more_made; saved = saved_bytes }
+hss = record { key = public_key_of; remaining = left_of; signature = next_signature; next = one_more_made; saved = saved_bytes }

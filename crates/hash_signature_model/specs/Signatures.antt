@@ -4,19 +4,19 @@ use Rattle.hash_signature_model.specs.declared.set.Set.{Set}
 use Rattle.hash_signature_model.specs.declared.keys.PublicKey.{PublicKey}
 use Rattle.hash_signature_model.specs.declared.keys.PrivateKey.{PrivateKey}
 use Rattle.hash_signature_model.specs.Parameters.{ots_type, lms_type, chains, levels, leaves}
-use Rattle.hash_signature_model.specs.OneTime.{word, joined, checked, digest_of, candidate_key, randomizer_of, signed_value}
-use Rattle.hash_signature_model.specs.Nodes.{above, beside, root_by_path, node, root}
+use Rattle.hash_signature_model.specs.OneTime.{u32_string, joined_values, checked, digest_of, candidate_key, randomizer_of, signed_value}
+use Rattle.hash_signature_model.specs.Nodes.{above, sibling_of, root_by_path, node, root}
 
 -- u32str(type) || u32str(otstype) || I || T[1] (5.3)
 abbrev pub public_key : PublicKey → List ℕ
-public_key k = word (lms_type k.set.h) ++ word (ots_type k.set.w) ++ k.id ++ k.root
+public_key k = u32_string (lms_type k.set.h) ++ u32_string (ots_type k.set.w) ++ k.id ++ k.root
 
 -- the parts of a public key have their lengths
 pub record IsPublicKey (k : PublicKey) : Type 0 where
   pub id_length : length k.id ≡ 16
   pub root_length : length k.root ≡ 32
 
--- the fields of a signature: q, C, the values y of the one-time signature one behind the other, and so the path
+-- the fields of a signature: q, C, the values y of the one-time signature one after the other, and so the path
 pub record Signature : Type 0 where
   pub leaf : ℕ
   pub randomizer : List ℕ
@@ -25,7 +25,7 @@ pub record Signature : Type 0 where
 
 -- u32str(q) || u32str(otstype) || C || y[0] || .. || y[p-1] || u32str(type) || path[0] || .. || path[h-1] (4.5 and 5.4)
 abbrev pub signature : Set → Signature → List ℕ
-signature set s = word s.leaf ++ word (ots_type set.w) ++ s.randomizer ++ s.values ++ word (lms_type set.h) ++ s.path
+signature set s = u32_string s.leaf ++ u32_string (ots_type set.w) ++ s.randomizer ++ s.values ++ u32_string (lms_type set.h) ++ s.path
 
 -- the leaf is one of the tree, and the fields have their lengths
 pub record IsSignature (set : Set) (s : Signature) : Type 0 where
@@ -57,7 +57,7 @@ public_of key = record { set = key.set; id = key.id; root = root key.set key.id 
 
 -- the nodes beside those on the way up from a leaf
 abbrev pub path_of : PrivateKey → ℕ → List ℕ
-path_of key leaf = joined (λ n. node key.set key.id key.seed n (beside (above (leaves key.set.h + leaf) n))) (levels key.set.h)
+path_of key leaf = joined_values (λ n. node key.set key.id key.seed n (sibling_of (above (leaves key.set.h + leaf) n))) (levels key.set.h)
 
 -- the code of a message at a leaf: its digest and the checksum
 abbrev pub code_of : PrivateKey → ℕ → List ℕ → List ℕ
@@ -68,6 +68,6 @@ abbrev pub signature_of : PrivateKey → ℕ → List ℕ → Signature
 signature_of key leaf message = record {
   leaf = leaf;
   randomizer = randomizer_of key.id key.seed leaf;
-  values = joined (signed_value key.set.w key.id key.seed leaf (code_of key leaf message)) (chains key.set.w);
+  values = joined_values (signed_value key.set.w key.id key.seed leaf (code_of key leaf message)) (chains key.set.w);
   path = path_of key leaf;
 }

@@ -4,7 +4,7 @@ use Rattle.std.specs.Prelude.{ℕ, ◌+◌, ◌*◌, ◌-◌, ◌/◌, ◌%◌, 
 use Rattle.hash_signature_model.specs.declared.set.Set.{Set}
 use Rattle.hash_signature_model.specs.declared.keys.PrivateKey.{PrivateKey}
 use Rattle.hash_signature_model.specs.Parameters.{leaves}
-use Rattle.hash_signature_model.specs.OneTime.{word, lower_id_of, lower_seed_of}
+use Rattle.hash_signature_model.specs.OneTime.{u32_string, lower_id_of, lower_seed_of}
 use Rattle.hash_signature_model.specs.Signatures.{public_key, public_of, signature, signature_of}
 
 -- what a signer was made from, its levels' sets from the top down, and how many signatures it made
@@ -55,17 +55,17 @@ signed_by key (set ∷ lower) n message =
 -- the public key: L, and the top tree's (6.1)
 abbrev pub hss_key_of : List ℕ → List ℕ → List Set → List ℕ
 hss_key_of id seed [] = []
-hss_key_of id seed (set ∷ lower) = word (length lower + 1) ++ tree_public (record { set = set; id = id; seed = seed })
+hss_key_of id seed (set ∷ lower) = u32_string (length lower + 1) ++ tree_public (record { set = set; id = id; seed = seed })
 
 -- signature n: L - 1, and what the levels sign (6.2)
 abbrev pub hss_signature_of : List ℕ → List ℕ → List Set → ℕ → List ℕ → List ℕ
 hss_signature_of id seed [] n message = []
 hss_signature_of id seed (set ∷ lower) n message =
-    word (length lower) ++ signed_by (record { set = set; id = id; seed = seed }) lower n message
+    u32_string (length lower) ++ signed_by (record { set = set; id = id; seed = seed }) lower n message
 
 -- a signer's public key
-abbrev pub owner_of : Signer → List ℕ
-owner_of signer = hss_key_of signer.id signer.seed signer.sets
+abbrev pub public_key_of : Signer → List ℕ
+public_key_of signer = hss_key_of signer.id signer.seed signer.sets
 
 -- its next signature of a message
 abbrev pub next_signature : Signer → List ℕ → List ℕ

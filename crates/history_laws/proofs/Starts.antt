@@ -19,7 +19,7 @@ use Rattle.agent_model.specs.Views.{entering, entering_with, is_own_member, not_
 use Rattle.agent_model.specs.Views.Entering.{NotMember}
 use Rattle.ivy_agent.specs.Entering.{agent_after, answer_of}
 use Rattle.ivy_agent.specs.declared.fault.EnterFault.{EnterFault}
-use Rattle.agent_gate.specs.Folding.{Course, StandsAt, start_of}
+use Rattle.agent_gate.specs.Folding.{Execution, StandsAt, start_of}
 use Rattle.agent_gate.specs.Taking.{AgentKind, SignsOn}
 use Rattle.agent_gate.proofs.Folds.{holds_what_is_known}
 use Rattle.history_laws.specs.Starting.{NewHistoriesFold, NewStandsAtStart}
@@ -61,7 +61,7 @@ module _ {K S : Type 0} (kind : AgentKind K S) where
     same_key : own signs there ≡ own_key signs signer
     same_key = ap (λ (bytes : List ℕ). record { 0 = bytes }) (on.key signer left)
 
-    starts : (keeper : K) (c : Course) → c.view ≡ view → c.own ≡ own signs there → Contains view.members (own signs there)
+    starts : (keeper : K) (c : Execution) → c.view ≡ view → c.own ≡ own signs there → Contains view.members (own signs there)
         → StandsAt signs c (start_of signs (record { agent = there; keeper = keeper }) (opening c.own now ∷ [])) (record { agent = there; keeper = keeper })
     starts keeper c viewed owned member =
         let first : c.own ≡ own_key signs signer = owned ∙ same_key in

@@ -16,9 +16,9 @@ pub fn new_stands_at_start<K: Keeper, S: Signs>()
     ensures { NewStandsAtStart (kind_of S.signing S.is_whole K.saves) }
 {}
 
-/// A law and no code: where names tell the blocks apart and each refresh is grounded, the turns of an agent that was just made
-/// and entered a view are a legal history, which folds from the first record of its log. From the first entry on it holds
-/// all that is known.
+/// A law and no code: where no names collide and each refresh is grounded, the turns of an agent that was just made and
+/// entered a view are a legal history, which folds from the first record of its log. From the first entry on it holds all that
+/// is known.
 pub fn new_histories_fold<K: Keeper, S: Signs>()
     ensures { NewHistoriesFold (kind_of S.signing S.is_whole K.saves) }
 {}

@@ -8,9 +8,9 @@ use Rattle.hash_signature_model.specs.declared.set.LmsFault.{LmsFault}
 use Rattle.hash_signature_model.specs.declared.set.LmsFault.TheVariants.{Malformed, Wrong}
 use Rattle.hash_signature_model.specs.declared.keys.PublicKey.{PublicKey}
 use Rattle.hash_signature_model.specs.Parameters.{ots_type, lms_type}
-use Rattle.hash_signature_model.specs.OneTime.{word}
+use Rattle.hash_signature_model.specs.OneTime.{u32_string}
 use Rattle.hash_signature_model.specs.Signatures.{IsPublicKey, public_key, Signature, signature, root_from, Accepts}
-use Rattle.hash_signature_model.specs.Reading.{◌>>=◌, number_at, key_at, whole_key, signature_at, whole_signature}
+use Rattle.hash_signature_model.specs.Reading.{◌>>=◌, read_word, key_at, whole_key, signature_at, whole_signature}
 use Rattle.hash_signature_model.proofs.Readings.{IsBytes, number_takes, number_again, key_takes, key_again, whole_key_takes, whole_key_again, signature_takes, signature_again, whole_signature_takes, whole_signature_again}
 use Rattle.hss_keys.specs.Hss.{IsSigned, HssAccepts}
 use Rattle.hash_signature_model.specs.Levels.{Level, is_right, between_of, whole_hss_key, whole_levels, whole_hss_signature, hss_verdict}
@@ -54,8 +54,8 @@ root_right k signed s e = (bytes_eq-Decides (root_from k.set k.id signed s) k.ro
 
 key_length : (k : PublicKey) → IsPublicKey k → length (public_key k) ≡ 56
 key_length k fits =
-    let h = word (lms_type k.set.h) in
-    let w = word (ots_type k.set.w) in
+    let h = u32_string (lms_type k.set.h) in
+    let w = u32_string (ots_type k.set.w) in
     let four : length h ≡ 4 = refl in
     let four_more : length w ≡ 4 = refl in
     omega (arith, length-append (h ++ w ++ k.id) k.root, length-append (h ++ w) k.id, length-append h w, four, four_more, fits.id_length, fits.root_length)
@@ -120,20 +120,20 @@ levels_again zero key message bytes a =
 levels_again (suc n) key message bytes p =
     let a = p.4 in
     let k = a.k in
-    let behind = p.1 ++ p.2 in
+    let after = p.1 ++ p.2 in
     let below = levels_again n p.1 message p.2 p.5 in
     let next = below.0 in
     let end : (Signature × List ℕ) → List Level → Result (List Level) LmsFault = λ s below. Ok (level_of k (take 56 s.1) s.0 ∷ below) in
-    let parts : bytes ≡ signature k.set a.s ++ behind = p.3 ∙ append_assoc p.0 p.1 p.2 ∙ ap (λ (t : List ℕ). t ++ behind) a.signature_is in
-    let signature-read : signature_at k.set bytes ≡ Ok (a.s, behind) = ap (signature_at k.set) parts ∙ signature_again k.set a.s behind a.signature_fits in
-    let key-read : key_at behind ≡ Ok (next, p.2) = ap (λ (t : List ℕ). key_at (t ++ p.2)) below.3 ∙ key_again next p.2 below.2 in
-    let signed : take 56 behind ≡ p.1 = ap (λ (t : List ℕ). take 56 (t ++ p.2)) below.3 ∙ take_at (public_key next) p.2 56 (key_length next below.2) ∙ sym below.3 in
-    let level = level_of k (take 56 behind) a.s in
-    let right : is_right level ≡ true = root_right k (take 56 behind) a.s (ap (λ (m : List ℕ). root_from k.set k.id m a.s) signed ∙ a.same_root) in
+    let parts : bytes ≡ signature k.set a.s ++ after = p.3 ∙ append_assoc p.0 p.1 p.2 ∙ ap (λ (t : List ℕ). t ++ after) a.signature_is in
+    let signature-read : signature_at k.set bytes ≡ Ok (a.s, after) = ap (signature_at k.set) parts ∙ signature_again k.set a.s after a.signature_fits in
+    let key-read : key_at after ≡ Ok (next, p.2) = ap (λ (t : List ℕ). key_at (t ++ p.2)) below.3 ∙ key_again next p.2 below.2 in
+    let signed : take 56 after ≡ p.1 = ap (λ (t : List ℕ). take 56 (t ++ p.2)) below.3 ∙ take_at (public_key next) p.2 56 (key_length next below.2) ∙ sym below.3 in
+    let level = level_of k (take 56 after) a.s in
+    let right : is_right level ≡ true = root_right k (take 56 after) a.s (ap (λ (m : List ℕ). root_from k.set k.id m a.s) signed ∙ a.same_root) in
     let read : whole_levels (suc n) k message bytes ≡ Ok (level ∷ below.1) =
-    bind_again (signature_at k.set bytes) (λ s. key_at s.1 >>= λ next. whole_levels n next.0 message next.1 >>= λ below. end s below) (a.s, behind) (Ok (level ∷ below.1)) signature-read
-    (bind_again (key_at behind) (λ next. whole_levels n next.0 message next.1 >>= λ below. end (a.s, behind) below) (next, p.2) (Ok (level ∷ below.1)) key-read
-    (bind_again (whole_levels n next message p.2) (λ below. end (a.s, behind) below) below.1 (Ok (level ∷ below.1)) below.4 refl)) in
+    bind_again (signature_at k.set bytes) (λ s. key_at s.1 >>= λ next. whole_levels n next.0 message next.1 >>= λ below. end s below) (a.s, after) (Ok (level ∷ below.1)) signature-read
+    (bind_again (key_at after) (λ next. whole_levels n next.0 message next.1 >>= λ below. end (a.s, after) below) (next, p.2) (Ok (level ∷ below.1)) key-read
+    (bind_again (whole_levels n next message p.2) (λ below. end (a.s, after) below) below.1 (Ok (level ∷ below.1)) below.4 refl)) in
     (k, level ∷ below.1, a.key_fits, a.key_is, read, true_both (is_right level) (list_all is_right below.1) right below.5)
 
 -- ---- the answer
@@ -144,14 +144,14 @@ hss_accepts_from public message bytes public_fits fits e =
     let k = bind_ok (whole_hss_key public) (λ k. whole_hss_signature k.0 k.1 message bytes >>= λ levels. cond (list_all is_right levels) (Ok tt) (Err Wrong)) tt e in
     let levels = bind_ok (whole_hss_signature k.0.0 k.0.1 message bytes) (λ levels. cond (list_all is_right levels) (Ok tt) (Err Wrong)) tt k.2 in
     let right = passed_ok (list_all is_right levels.0) Wrong (Ok tt) tt levels.2 in
-    let count = bind_ok (number_at public) (λ count. between_of count.0 >>= λ between. whole_key count.1 >>= λ top. Ok (between, top)) k.0 k.1 in
+    let count = bind_ok (read_word public) (λ count. between_of count.0 >>= λ between. whole_key count.1 >>= λ top. Ok (between, top)) k.0 k.1 in
     let between = bind_ok (between_of count.0.0) (λ between. whole_key count.0.1 >>= λ top. Ok (between, top)) k.0 count.2 in
     let top = bind_ok (whole_key count.0.1) (λ top. Ok (between.0, top)) k.0 between.2 in
     let same : (between.0, top.0) ≡ k.0 = ok_is (between.0, top.0) k.0 top.2 in
     let few = between_is count.0.0 between.0 between.1 in
     let count_takes = number_takes public count.0.0 count.0.1 public_fits count.1 in
     let top_takes = whole_key_takes count.0.1 top.0 count_takes.rest_fits top.1 in
-    let n = bind_ok (number_at bytes) (λ n. cond (eqb n.0 k.0.0) (whole_levels k.0.0 k.0.1 message n.1) (Err Malformed)) levels.0 levels.1 in
+    let n = bind_ok (read_word bytes) (λ n. cond (eqb n.0 k.0.0) (whole_levels k.0.0 k.0.1 message n.1) (Err Malformed)) levels.0 levels.1 in
     let equal = passed_ok (eqb n.0.0 k.0.0) Malformed (whole_levels k.0.0 k.0.1 message n.0.1) levels.0 n.2 in
     let n_takes = number_takes bytes n.0.0 n.0.1 fits n.1 in
     let found : n.0.0 ≡ between.0 = eqb-true n.0.0 k.0.0 equal.0 ∙ sym (ap (λ (q : ℕ × PublicKey). q.0) same) in
@@ -161,8 +161,8 @@ hss_accepts_from public message bytes public_fits fits e =
       top = public_key top.0;
       rest = n.0.1;
       profile = few.0;
-      key_is = count_takes.parts ∙ ap (λ (t : List ℕ). word count.0.0 ++ t) top_takes.1 ∙ ap (λ (m : ℕ). word m ++ public_key top.0) few.1;
-      signature_is = n_takes.parts ∙ ap (λ (m : ℕ). word m ++ n.0.1) found;
+      key_is = count_takes.parts ∙ ap (λ (t : List ℕ). u32_string count.0.0 ++ t) top_takes.1 ∙ ap (λ (m : ℕ). u32_string m ++ public_key top.0) few.1;
+      signature_is = n_takes.parts ∙ ap (λ (m : ℕ). u32_string m ++ n.0.1) found;
       signed = signed_from between.0 top.0 message n.0.1 levels.0 top_takes.0 n_takes.rest_fits read right.0;
     }
 
@@ -175,11 +175,11 @@ hss_yes_from public message bytes a =
     let levels = levels_again n a.top message a.rest a.signed in
     let k = levels.0 in
     let key : whole_hss_key public ≡ Ok (n, k) =
-    bind_again (number_at public) (λ count. between_of count.0 >>= λ between. whole_key count.1 >>= λ top. Ok (between, top)) (n + 1, a.top) (Ok (n, k)) (ap number_at a.key_is ∙ number_again (n + 1) a.top one_more)
+    bind_again (read_word public) (λ count. between_of count.0 >>= λ between. whole_key count.1 >>= λ top. Ok (between, top)) (n + 1, a.top) (Ok (n, k)) (ap read_word a.key_is ∙ number_again (n + 1) a.top one_more)
     (bind_again (between_of (n + 1)) (λ between. whole_key a.top >>= λ top. Ok (between, top)) n (Ok (n, k)) (between_again n a.profile)
     (bind_again (whole_key a.top) (λ top. Ok (n, top)) k (Ok (n, k)) (ap whole_key levels.3 ∙ whole_key_again k levels.2) refl)) in
     let read : whole_hss_signature n k message bytes ≡ Ok levels.1 =
-    bind_again (number_at bytes) (λ m. cond (eqb m.0 n) (whole_levels n k message m.1) (Err Malformed)) (n, a.rest) (Ok levels.1) (ap number_at a.signature_is ∙ number_again n a.rest small)
+    bind_again (read_word bytes) (λ m. cond (eqb m.0 n) (whole_levels n k message m.1) (Err Malformed)) (n, a.rest) (Ok levels.1) (ap read_word a.signature_is ∙ number_again n a.rest small)
     (ap (λ (b : Bool). cond b (whole_levels n k message a.rest) (Err Malformed)) (eq-eqb n n refl) ∙ levels.4) in
     bind_again (whole_hss_key public) (λ k. whole_hss_signature k.0 k.1 message bytes >>= λ levels. cond (list_all is_right levels) (Ok tt) (Err Wrong)) (n, k) (Ok tt) key
     (bind_again (whole_hss_signature n k message bytes) (λ levels. cond (list_all is_right levels) (Ok tt) (Err Wrong)) levels.1 (Ok tt) read

@@ -6,7 +6,7 @@ use Rattle.hash_signature_model.specs.declared.set.LmsFault.{LmsFault}
 use Rattle.hash_signature_model.specs.declared.set.LmsFault.TheVariants.{Malformed, Wrong}
 use Rattle.hash_signature_model.specs.declared.keys.PublicKey.{PublicKey}
 use Rattle.hash_signature_model.specs.Signatures.{Signature}
-use Rattle.hash_signature_model.specs.Reading.{◌>>=◌, number_at, key_at, signature_at, whole_signature}
+use Rattle.hash_signature_model.specs.Reading.{◌>>=◌, read_word, key_at, signature_at, whole_signature}
 use Rattle.hash_signature_model.specs.Levels.{Level, is_right, whole_levels, whole_hss_key, whole_hss_signature, hss_verdict}
 use Rattle.hss_keys.specs.Checks.{right_levels}
 
@@ -38,16 +38,16 @@ below_fails : (r : Result (List Level) LmsFault) (level : Level) (d : LmsFault) 
 below_fails (Ok below) level d e = absurd cc
 below_fails (Err f) level d e = cc
 
-above_read : (n : ℕ) (key next : PublicKey) (message bytes rest behind : List ℕ) (s : Signature) (b : Bool) → signature_at key.set bytes ≡ Ok (s, rest) → key_at rest ≡ Ok (next, behind) → right_levels n next message behind ≡ Ok b → right_levels (suc n) key message bytes ≡ Ok (b && is_right (record { key = key; signed = take 56 rest; signature = s }))
+above_read : (n : ℕ) (key next : PublicKey) (message bytes rest after : List ℕ) (s : Signature) (b : Bool) → signature_at key.set bytes ≡ Ok (s, rest) → key_at rest ≡ Ok (next, after) → right_levels n next message after ≡ Ok b → right_levels (suc n) key message bytes ≡ Ok (b && is_right (record { key = key; signed = take 56 rest; signature = s }))
 unfolding right_levels whole_levels
-above_read n key next message bytes rest behind s b e k below =
+above_read n key next message bytes rest after s b e k below =
     let level : Level = record { key = key; signed = take 56 rest; signature = s } in
-    rw (e, k) (below_then (whole_levels n next message behind) level b below ∙ ap (λ (c : Bool). Ok c) (and_turned (is_right level) b))
+    rw (e, k) (below_then (whole_levels n next message after) level b below ∙ ap (λ (c : Bool). Ok c) (and_turned (is_right level) b))
 
-above_below_fails : (n : ℕ) (key next : PublicKey) (message bytes rest behind : List ℕ) (s : Signature) (d : LmsFault) → signature_at key.set bytes ≡ Ok (s, rest) → key_at rest ≡ Ok (next, behind) → right_levels n next message behind ≡ Err d → right_levels (suc n) key message bytes ≡ Err d
+above_below_fails : (n : ℕ) (key next : PublicKey) (message bytes rest after : List ℕ) (s : Signature) (d : LmsFault) → signature_at key.set bytes ≡ Ok (s, rest) → key_at rest ≡ Ok (next, after) → right_levels n next message after ≡ Err d → right_levels (suc n) key message bytes ≡ Err d
 unfolding right_levels whole_levels
-above_below_fails n key next message bytes rest behind s d e k below =
-    rw (e, k) (below_fails (whole_levels n next message behind) (record { key = key; signed = take 56 rest; signature = s }) d below)
+above_below_fails n key next message bytes rest after s d e k below =
+    rw (e, k) (below_fails (whole_levels n next message after) (record { key = key; signed = take 56 rest; signature = s }) d below)
 
 above_next_fails : (n : ℕ) (key : PublicKey) (message bytes rest : List ℕ) (s : Signature) (d : LmsFault) → signature_at key.set bytes ≡ Ok (s, rest) → key_at rest ≡ Err d → right_levels (suc n) key message bytes ≡ Err d
 unfolding right_levels whole_levels
@@ -58,14 +58,14 @@ one_less : (n : ℕ) → ¬ (n ≡ 0) → suc (n - 1) ≡ n
 one_less zero some = absurd (some refl)
 one_less (suc n) some = omega arith
 
-pub upper_read : (n : ℕ) (key next : PublicKey) (message bytes rest behind signed : List ℕ) (s : Signature) (b : Bool) → ¬ (n ≡ 0) → signature_at key.set bytes ≡ Ok (s, rest) → key_at rest ≡ Ok (next, behind) → signed ≡ take 56 rest → right_levels (n - 1) next message behind ≡ Ok b → right_levels n key message bytes ≡ Ok (b && is_right (record { key = key; signed = signed; signature = s }))
-upper_read n key next message bytes rest behind signed s b some e k same below =
-    ap (λ (m : ℕ). right_levels m key message bytes) (sym (one_less n some)) ∙ above_read (n - 1) key next message bytes rest behind s b e k below
+pub upper_read : (n : ℕ) (key next : PublicKey) (message bytes rest after signed : List ℕ) (s : Signature) (b : Bool) → ¬ (n ≡ 0) → signature_at key.set bytes ≡ Ok (s, rest) → key_at rest ≡ Ok (next, after) → signed ≡ take 56 rest → right_levels (n - 1) next message after ≡ Ok b → right_levels n key message bytes ≡ Ok (b && is_right (record { key = key; signed = signed; signature = s }))
+upper_read n key next message bytes rest after signed s b some e k same below =
+    ap (λ (m : ℕ). right_levels m key message bytes) (sym (one_less n some)) ∙ above_read (n - 1) key next message bytes rest after s b e k below
     ∙ ap (λ (t : List ℕ). Ok (b && is_right (record { key = key; signed = t; signature = s }))) (sym same)
 
-pub upper_below_fails : (n : ℕ) (key next : PublicKey) (message bytes rest behind : List ℕ) (s : Signature) (d : LmsFault) → ¬ (n ≡ 0) → signature_at key.set bytes ≡ Ok (s, rest) → key_at rest ≡ Ok (next, behind) → right_levels (n - 1) next message behind ≡ Err d → right_levels n key message bytes ≡ Err d
-upper_below_fails n key next message bytes rest behind s d some e k below =
-    ap (λ (m : ℕ). right_levels m key message bytes) (sym (one_less n some)) ∙ above_below_fails (n - 1) key next message bytes rest behind s d e k below
+pub upper_below_fails : (n : ℕ) (key next : PublicKey) (message bytes rest after : List ℕ) (s : Signature) (d : LmsFault) → ¬ (n ≡ 0) → signature_at key.set bytes ≡ Ok (s, rest) → key_at rest ≡ Ok (next, after) → right_levels (n - 1) next message after ≡ Err d → right_levels n key message bytes ≡ Err d
+upper_below_fails n key next message bytes rest after s d some e k below =
+    ap (λ (m : ℕ). right_levels m key message bytes) (sym (one_less n some)) ∙ above_below_fails (n - 1) key next message bytes rest after s d e k below
 
 pub next_fails : (n : ℕ) (key : PublicKey) (message bytes rest : List ℕ) (s : Signature) (d : LmsFault) → ¬ (n ≡ 0) → signature_at key.set bytes ≡ Ok (s, rest) → key_at rest ≡ Err d → right_levels n key message bytes ≡ Err d
 next_fails n key message bytes rest s d some e k =
@@ -82,6 +82,6 @@ decided : (r : Result (List Level) LmsFault) → (r >>= λ levels. cond (list_al
 decided (Ok levels) = refl
 decided (Err d) = refl
 
-pub verdict_is : (public message bytes : List ℕ) (n m : ℕ) (k : PublicKey) (rest : List ℕ) → whole_hss_key public ≡ Ok (n, k) → number_at bytes ≡ Ok (m, rest) → m ≡ n → hss_verdict public message bytes ≡ (right_levels n k message rest >>= λ right. cond right (Ok (tt {0})) (Err Wrong))
+pub verdict_is : (public message bytes : List ℕ) (n m : ℕ) (k : PublicKey) (rest : List ℕ) → whole_hss_key public ≡ Ok (n, k) → read_word bytes ≡ Ok (m, rest) → m ≡ n → hss_verdict public message bytes ≡ (right_levels n k message rest >>= λ right. cond right (Ok (tt {0})) (Err Wrong))
 unfolding hss_verdict whole_hss_signature right_levels
 verdict_is public message bytes n m k rest key number same = rw (key, number, eq-eqb m n same) (decided (whole_levels n k message rest))

@@ -1,6 +1,6 @@
 -- Hierarchical signatures: when a signature is accepted under a public key (RFC 8554, section 6).
 use Rattle.std.specs.Prelude.{◌≡◌, ℕ, zero, suc, ◌+◌, ◌<◌, List, ◌++◌}
-use Rattle.hash_signature_model.specs.OneTime.{word}
+use Rattle.hash_signature_model.specs.OneTime.{u32_string}
 use Rattle.hash_signature_model.specs.Signatures.{Accepts}
 
 -- The bytes are a signature of the message under an LMS public key, with so many keys between. With none they are an LMS
@@ -19,6 +19,6 @@ pub record HssAccepts (public message bytes : List ℕ) : Type 0 where
   pub top : List ℕ
   pub rest : List ℕ
   pub profile : between < 3
-  pub key_is : public ≡ word (between + 1) ++ top
-  pub signature_is : bytes ≡ word between ++ rest
+  pub key_is : public ≡ u32_string (between + 1) ++ top
+  pub signature_is : bytes ≡ u32_string between ++ rest
   pub signed : IsSigned between top message rest

@@ -1,6 +1,6 @@
 -- What a key signs that is saved and loaded now and then: a model of its calls, one after the other.
 use Rattle.std.specs.Prelude.{◌≡◌, ℕ, ◌+◌, List, [], ◌∷◌, map, Ok}
-use Rattle.hash_signature_model.specs.Signer.{Signer, hss_signature_of, owner_of, next_signature, one_more_made}
+use Rattle.hash_signature_model.specs.Signer.{Signer, hss_signature_of, public_key_of, next_signature, one_more_made}
 use Rattle.hash_signature_model.specs.Saved.{saved_bytes, IsSigner}
 use Rattle.hss_keys.specs.Signer.{leaves_used}
 use Rattle.hss_keys.specs.Reading.{leaves_named}
@@ -61,4 +61,4 @@ SignaturesAreNumbered = (signer : Signer) (kept : ℕ) (uses : List Use) (signat
 -- and each names the leaves that its number uses
 abbrev pub SignaturesNameTheirLeaves : Type 0
 SignaturesNameTheirLeaves = (signer : Signer) (n : ℕ) (message : List ℕ) → IsSigner signer
-    → leaves_named (owner_of signer) message (signature_numbered signer (n, message)) ≡ Ok (leaves_used signer.sets n)
+    → leaves_named (public_key_of signer) message (signature_numbered signer (n, message)) ≡ Ok (leaves_used signer.sets n)

@@ -168,7 +168,7 @@ impl Saved {
     }
 }
 
-/// The saved bytes of a signer. The error is want of memory.
+/// The saved bytes of a signer. The error is: out of memory.
 pub fn write_signer(
     alloc: Global,
     id: &[u8; 16],

@@ -3,7 +3,7 @@
 ghost use Rattle.std.specs.Prelude.{◌≡◌, ◌↔◌, ◌<◌, ◌≤◌, length, Err, IfOk, OnOk, OnErr};
 ghost use Rattle.dht_ids.specs.declared.signature.SignFault.TheVariants.{Spent};
 ghost use Rattle.hss_keys.specs.Hss.{HssAccepts};
-ghost use Rattle.hash_signature_model.specs.Signer.{left_of, owner_of, next_signature, one_more_made};
+ghost use Rattle.hash_signature_model.specs.Signer.{left_of, public_key_of, next_signature, one_more_made};
 
 mod saving;
 
@@ -16,8 +16,8 @@ use std::alloc::Global;
 use std::marker::Model;
 
 /// A key of one to three levels that signs as many messages as the product of its levels' leaves. It keeps the tree of
-/// each level, and grows one anew only where the leaf above it changes. Contracts see its identifier, its seed, its sets
-/// from the top down, and how many signatures it made.
+/// each level, and grows a new one only where the leaf above it changes. Contracts see its identifier, its seed, its
+/// sets from the top down, and how many signatures it made.
 #[derive(Drop)]
 pub struct Hss {
     top: Level,
@@ -109,7 +109,7 @@ impl Hss {
 
     /// The public key: the number of levels and the public key of the top tree (RFC 8554, section 6.1).
     pub fn owner(&self) -> PubKey
-        ensures { result.0 ≡ owner_of self.now }
+        ensures { result.0 ≡ public_key_of self.now }
     {
         let count = self.sets.len() as u32 + 1;
         let mut out = [0u8; 60];
@@ -152,7 +152,7 @@ impl Hss {
     /// `Spent` exactly where nothing is left, and `Memory` where memory runs out. The key is then what it was.
     pub fn sign(&mut self, alloc: Global, message: &[u8]) -> Result<Bytes, SignFault>
         ensures signed { IfOk result (λ s. s ≡ next_signature self.old message.now) }
-        ensures accepted { IfOk result (λ s. HssAccepts (owner_of self.old) message.now s) }
+        ensures accepted { IfOk result (λ s. HssAccepts (public_key_of self.old) message.now s) }
         ensures counted { OnOk result (self.new ≡ one_more_made self.old) }
         ensures kept { OnErr result (self.new ≡ self.old) }
         ensures spent { (result ≡ Err Spent) ↔ (left_of self.old ≡ 0) }

@@ -41,11 +41,11 @@ pub trait Signs: Sized {
         ensures kept { OnErr result (self.new ≡ self.old) }
         ensures spent { (result ≡ Err Spent) ↔ (signing.remaining self.old ≡ 0) };
 
-    /// An equal key. Only one of the two may sign from now on. The error is want of memory.
+    /// An equal key. Only one of the two may sign from now on. The error is: out of memory.
     fn copy(&self, alloc: Global) -> Result<Self, Memory>
         ensures { IfOk result (λ copy. copy ≡ self.now) };
 
-    /// The saved bytes of the key, which hold its secrets. The error is want of memory.
+    /// The saved bytes of the key, which hold its secrets. The error is: out of memory.
     fn save(&self, alloc: Global) -> Result<Bytes, Memory>
         ensures bytes { IfOk result (λ bytes. bytes ≡ signing.saved self.now) }
         ensures whole { is_whole self.now };

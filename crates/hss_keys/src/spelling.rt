@@ -53,7 +53,7 @@ fn push_signature(
 }
 
 /// Appends signature n of a message by a level and the levels below it, of which those that other leaves signed are
-/// grown anew.
+/// grown again.
 pub fn push_signed(
     alloc: Global,
     out: &mut Vec<u8>,

@@ -110,7 +110,7 @@ impl Model for Lower {
     ghost invariant = { λ l. (l.level ≡ lower_key l.upper l.leaf l.set) × (l.signed ≡ signed_lower l.upper l.leaf l.set) };
 }
 
-/// Bytes with others behind them.
+/// Bytes with others after them.
 fn join(alloc: Global, front: &[u8], back: &[u8]) -> Result<Bytes, Memory>
     ensures { IfOk result (λ b. b ≡ front.now ++ back.now) }
 {

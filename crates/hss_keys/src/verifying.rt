@@ -2,7 +2,7 @@
 
 ghost use Rattle.std.specs.Prelude.{◌≡◌, ◌↔◌, IsOk, IfOk, take};
 ghost use Rattle.hash_signature_model.specs.Signatures.{IsSignature};
-ghost use Rattle.hash_signature_model.specs.Reading.{number_at, key_at};
+ghost use Rattle.hash_signature_model.specs.Reading.{read_word as number_at, key_at};
 ghost use Rattle.hash_signature_model.specs.Levels.{is_right, between_of, whole_hss_key, hss_verdict};
 ghost use Rattle.lms_core.specs.Readers.{Gives, fields_of};
 ghost use Rattle.hss_keys.specs.Hss.{HssAccepts};
@@ -16,7 +16,7 @@ use lms_core::{LmsFault, PublicKey, SignatureParts, read_key, read_signature, re
 const LEVEL_KEY: usize = 56;
 
 /// A number of four bytes.
-#[tactic(auto, unfolding(hash_signature_model::specs::Reading::number_at))]
+#[tactic(auto, unfolding(hash_signature_model::specs::Reading::read_word))]
 fn read_number(bytes: &[u8]) -> Result<(u32, &[u8]), LmsFault>
     ensures { Gives (λ x. (x.0, x.1.now)) result (number_at bytes.now) }
 {

@@ -25,7 +25,7 @@ size_change size = record { mode = None; uid = None; gid = None; size = Some siz
 added : made (at 1) (op.Inode key Lnk 420 10 20 (47 ∷ [])) ≡ Some (inode Lnk (47 ∷ []))
 added = refl
 
--- bytes behind the end, with a gap of one; and in the middle
+-- bytes after the end, with a gap of one; and in the middle
 behind : (changed (at 2) (op.Write key 3 (8 ∷ 9 ∷ [])) (inode Reg (5 ∷ 6 ∷ []))).body ≡ 5 ∷ 6 ∷ 0 ∷ 8 ∷ 9 ∷ []
 behind = refl
 
@@ -48,7 +48,7 @@ filled = refl
 no_size : changed (at 2) (op.SetAttrs key (size_change 1)) (inode Dir []) ≡ inode Dir []
 no_size = refl
 
--- which places are written: a byte behind the end leaves a gap, a cut takes places away, and a Write after it fills
+-- which places are written: a byte after the end leaves a gap, a cut takes places away, and a Write after it fills
 abbrev file : List Bool → Kept
 file written = record { inode = inode Reg (5 ∷ 6 ∷ []); written = written }
 

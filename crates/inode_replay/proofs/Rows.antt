@@ -38,7 +38,7 @@ end_of_start xs e n = elim (cases_lt e n) [
       drop_all e (take n xs) short ∙ sym (ap (λ m. take m (drop e xs)) none)
 ]
 
--- a list's start, cut where a part of it ends that lies in its places or goes on behind them
+-- a list's start, cut where a part of it ends that lies in its places or goes on after them
 cut_pasted : (xs part : List ℕ) (n m at : ℕ) → at ≤ n → n ≤ length xs → m ≡ max n (at + length part) → take m (pasted xs at part) ≡ pasted (take n xs) at part
 cut_pasted xs part n m at h within is =
     let e = at + length part in
@@ -50,7 +50,7 @@ cut_pasted xs part n m at h within is =
     ∙ ap (λ l. l ++ (part ++ take (n - e) (drop e xs))) (sym front)
     ∙ ap (λ l. take at (take n xs) ++ (part ++ l)) (sym (end_of_start xs e n))
 
--- the start of a list with zeros behind it
+-- the start of a list with zeros after it
 take_zeros : (xs : List ℕ) (m r : ℕ) → m ≤ length xs + r → take m (xs ++ replicate r 0) ≡ take m xs ++ replicate (m - length xs) 0
 take_zeros xs m r h = elim (cases_lt m (length xs)) [
   | inl l ↦
@@ -81,7 +81,7 @@ drop_zeros xs e r = elim (cases_lt e (length xs)) [
 pub length-overwritten : (xs part : List ℕ) (at : ℕ) → length (overwritten xs at part) ≡ max (length xs) (at + length part)
 length-overwritten xs part at = simp (length-append, length-take, length-drop, length-replicate) (omega arith)
 
--- a list's start, with zeros behind it up to a place further on
+-- a list's start, with zeros after it up to a place further on
 grown_from : (r xs : List ℕ) (size n k : ℕ) → take size r ≡ xs → length xs ≡ size → size ≤ n → drop size r ≡ replicate k 0 → n - size ≤ k → take n r ≡ xs ++ replicate (n - size) 0
 grown_from r xs size n k start long h end far =
     let is : n ≡ length xs + (n - size) = omega arith in
@@ -200,7 +200,7 @@ module _ (c : ℕ) where
       let all : c - max 0 (length bytes) ≡ c = omega arith in
       drop_padded bytes 0 (omega arith) ∙ ap (λ l. l ++ replicate (c - max 0 (length bytes)) 0) (drop_all 0 bytes none) ∙ ap (λ k. replicate k 0) all
 
-  -- behind the size there are zeros: it ends before a piece, in which there is then nothing, or in that piece
+  -- after the size there are zeros: it ends before a piece, in which there is then nothing, or in that piece
   end_before : (xs bytes : List ℕ) (size n : ℕ) → length xs ≡ n → size ≤ n → length bytes ≤ 0 → drop size xs ≡ replicate (n - size) 0 → drop size (xs ++ padded c bytes) ≡ replicate (n + c - size) 0
   end_before xs bytes size n long below none before =
       let more : (n - size) + c ≡ n + c - size = omega arith in

@@ -25,18 +25,18 @@ marks_of ranges size = map (is_marked ranges) (range_with_len 0 size)
 abbrev pub count_marked : List Bool → ℕ
 count_marked marks = count_by (λ m. m) marks
 
--- no range is empty or ends behind the size, and between two of them there is a place
+-- no range is empty or ends after the size, and between two of them there is a place
 pub record AreApart (starts : ℕ → Option ℕ) (size : ℕ) : Type 0 where
   pub within : (e s : ℕ) → starts e ≡ Some s → (s < e) × (e ≤ size)
   pub gap : (e s f t : ℕ) → starts e ≡ Some s → starts f ≡ Some t → e < f → e < t
 
--- the first range that ends at or behind the place
+-- the first range that ends at or after the place
 pub record IsFirstFrom (starts : ℕ → Option ℕ) (place : ℕ) (range : Range) : Type 0 where
   pub there : starts range.end ≡ Some range.start
   pub behind : place ≤ range.end
   pub first : (e : ℕ) → place ≤ e → e < range.end → starts e ≡ None
 
--- the mark at a place; behind the end there is none
+-- the mark at a place; after the end there is none
 abbrev pub mark_at : List Bool → ℕ → Bool
 mark_at marks place = slice_index_or marks place false
 

@@ -1,4 +1,4 @@
--- Bytes in pieces of one size: piece n has the places from c * n on, and places behind a piece's end are zero.
+-- Bytes in pieces of one size: piece n has the places from c * n on, and places after a piece's end are zero.
 use Rattle.std.specs.Prelude.{◌≡◌, ◌≢◌, ℕ, zero, suc, ◌+◌, ◌*◌, ◌-◌, ◌≤◌, List, [], ◌++◌, length, take, drop, replicate}
 use Rattle.std.specs.Option.{option_map_or}
 use Rattle.std.specs.FinMap.Entries.{find as value_at}
@@ -40,6 +40,6 @@ row c pieces (suc n) = row c pieces n ++ padded c (pieces n)
 unfoldable pub bytes_in : ℕ → (ℕ → List ℕ) → ℕ → List ℕ
 bytes_in c pieces size = take size (row c pieces size)
 
--- no piece is longer than it may be or ends behind the size
+-- no piece is longer than it may be or ends after the size
 abbrev pub Fit : ℕ → (ℕ → List ℕ) → ℕ → Type 0
 Fit c pieces size = (n : ℕ) → (length (pieces n) ≤ c) × (length (pieces n) ≤ size - c * n)

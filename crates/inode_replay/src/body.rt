@@ -22,7 +22,7 @@ pub enum Body {
 }
 
 impl Body {
-    /// A copy of the slice's bytes, as a regular file's or another inode's, none of which is written. The error is want
+    /// A copy of the slice's bytes, as a regular file's or another inode's, none of which is written. The error is: out
     /// of memory.
     pub fn of(alloc: Global, is_file: bool, bytes: &[u8]) -> Result<Body, Memory>
         ensures bytes { IfOk result (λ body. bytes_of body ≡ bytes.now) }
@@ -86,7 +86,7 @@ impl Body {
         }
     }
 
-    /// The bytes from the offset on, at most so many. The error is want of memory.
+    /// The bytes from the offset on, at most so many. The error is: out of memory.
     pub fn read(&self, alloc: Global, offset: u64, count: u32) -> Result<Bytes, Memory>
         ensures { IfOk result (λ bytes. bytes ≡ take count (drop offset (bytes_of self.now))) }
     {
@@ -97,7 +97,7 @@ impl Body {
     }
 
     /// Replaces a regular file's bytes from the offset on, which are written then, and fills a gap with zeros, which
-    /// aren't. The error is want of memory, and then nothing has changed.
+    /// aren't. The error is: out of memory, and then nothing has changed.
     pub fn overwrite(&mut self, alloc: Global, offset: u64, part: &[u8]) -> Result<(), Memory>
         requires file { is_file_body self.old ≡ true }
         requires fits { offset + length part.now < 2 ^ 64 }
@@ -112,7 +112,7 @@ impl Body {
         file.overwrite(alloc, offset, part)
     }
 
-    /// Cuts a regular file's bytes at that size, or fills them up to it with zeros that no Write wrote. The error is want
+    /// Cuts a regular file's bytes at that size, or fills them up to it with zeros that no Write wrote. The error is: out
     /// of memory, and then nothing has changed.
     pub fn resize(&mut self, alloc: Global, size: u64) -> Result<(), Memory>
         requires { is_file_body self.old ≡ true }
@@ -128,7 +128,7 @@ impl Body {
     }
 }
 
-// The slice's bytes from the offset on, at most so many. The error is want of memory.
+// The slice's bytes from the offset on, at most so many. The error is: out of memory.
 fn part_of(alloc: Global, bytes: &[u8], offset: u64, count: u32) -> Result<Bytes, Memory>
     ensures { IfOk result (λ part. part ≡ take count (drop offset bytes.now)) }
 {

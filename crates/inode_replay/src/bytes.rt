@@ -67,7 +67,7 @@ impl SharedBytes {
         })
     }
 
-    /// A copy of the slice's bytes. The error is want of memory.
+    /// A copy of the slice's bytes. The error is: out of memory.
     pub fn of(alloc: Global, bytes: &[u8]) -> Result<SharedBytes, Memory>
         ensures { IfOk result (λ copy. copy ≡ bytes.now) }
     {
@@ -76,8 +76,8 @@ impl SharedBytes {
         Ok(copy)
     }
 
-    /// Replaces the bytes from the offset on by others; where they begin behind the end, zeros fill the gap. The error
-    /// is want of memory, and then nothing has changed.
+    /// Replaces the bytes from the offset on by others; where they begin after the end, zeros fill the gap. The error
+    /// is: out of memory, and then nothing has changed.
     pub fn overwrite(&mut self, alloc: Global, offset: u64, bytes: &[u8]) -> Result<(), Memory>
         requires { offset + length bytes.now < 2 ^ 64 }
         ensures ok { OnOk result (self.new ≡ take offset self.old ++ replicate (offset - length self.old) 0 ++ bytes.now ++ drop (offset + length bytes.now) self.old) }
@@ -93,7 +93,7 @@ impl SharedBytes {
         Ok(())
     }
 
-    /// Cuts the bytes off behind that size, or puts zeros behind them up to it. The error is want of memory, and then
+    /// Cuts the bytes off after that size, or puts zeros after them up to it. The error is: out of memory, and then
     /// nothing has changed.
     pub fn resize(&mut self, alloc: Global, size: u64) -> Result<(), Memory>
         ensures ok { OnOk result (self.new ≡ take size self.old ++ replicate (size - length self.old) 0) }
@@ -109,7 +109,7 @@ impl SharedBytes {
     }
 
     /// The bytes from the offset on, at most so many: fewer where the end comes first, and none at or past the end.
-    /// The error is want of memory.
+    /// The error is: out of memory.
     pub fn read(&self, alloc: Global, offset: u64, count: u32) -> Result<Bytes, Memory>
         ensures { IfOk result (λ bytes. bytes ≡ take count (drop offset self.now)) }
     {
@@ -122,7 +122,7 @@ impl SharedBytes {
         Ok(Bytes::of(bytes))
     }
 
-    // Puts zeros behind the bytes up to that size, if there are fewer.
+    // Puts zeros after the bytes up to that size, if there are fewer.
     fn grow(&mut self, size: u64)
         ensures { self.new ≡ self.old ++ replicate (size - length self.old) 0 }
     {
@@ -132,7 +132,7 @@ impl SharedBytes {
     }
 
     // Writes the first of the bytes at that place, as many as its piece takes; answers how many those are. The error
-    // is want of memory.
+    // is: out of memory.
     fn write_within(&mut self, alloc: Global, place: u64, bytes: &[u8]) -> Result<usize, Memory>
         requires some { 0 < length bytes.now }
         requires there { place ≤ length self.old }
@@ -148,8 +148,8 @@ impl SharedBytes {
         Ok(count)
     }
 
-    // Cuts bytes off the last piece that has places, all that lie behind the size; answers how many bytes are left.
-    // The error is want of memory.
+    // Cuts bytes off the last piece that has places, all that lie after the size; answers how many bytes are left.
+    // The error is: out of memory.
     fn cut_within(&mut self, alloc: Global, size: u64) -> Result<u64, Memory>
         requires { size < length self.old }
         ensures left { IfOk result (λ n. (size ≤ n) × (n < length self.old)) }
@@ -164,7 +164,7 @@ impl SharedBytes {
     }
 
     // Puts the bytes from that place on at the end of the list, as many as its piece has and at most so many; answers
-    // how many those are. The error is want of memory.
+    // how many those are. The error is: out of memory.
     fn read_within(&self, place: u64, most: usize, list: &mut Vec<u8>) -> Result<usize, Memory>
         requires some { 0 < most }
         requires there { place + most ≤ length self.now }

@@ -62,7 +62,7 @@ impl MapValue for Content {
 }
 
 impl Content {
-    /// The inode that an Inode operation adds at that moment, no byte of which is written. The error is want of memory.
+    /// The inode that an Inode operation adds at that moment, no byte of which is written. The error is: out of memory.
     pub fn fresh(alloc: Global, op: &Op, moment: Moment) -> Result<Content, Memory>
         requires { MakesInode op.now }
         ensures { IfOk result (λ content. made_kept moment op.now ≡ Some content) }
@@ -86,7 +86,7 @@ impl Content {
     }
 
     /// Does what a Write or a SetAttrs does to this inode at that moment; one that may not be done changes nothing,
-    /// and is no error. A file's bytes end at 16,777,216 at most. The error is want of memory, and then the inode is
+    /// and is no error. A file's bytes end at 16,777,216 at most. The error is: out of memory, and then the inode is
     /// as it was.
     pub fn apply_content(&mut self, alloc: Global, moment: Moment, op: &Op) -> Result<(), Memory>
         requires { ChangesContent op.now }
@@ -196,7 +196,7 @@ impl Content {
     }
 
     /// The bytes from the offset on, at most so many: fewer where the end comes first, and none at or past the end.
-    /// The error is want of memory.
+    /// The error is: out of memory.
     pub fn read_range(&self, alloc: Global, offset: u64, count: u32) -> Result<Bytes, Memory>
         ensures { IfOk result (λ bytes. bytes ≡ take count (drop offset self.now.inode.body)) }
     {

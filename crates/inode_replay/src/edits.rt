@@ -6,7 +6,7 @@ ghost use Rattle.inode_replay.specs.Pieces.{overwritten};
 use ivy_base::Memory;
 use std::alloc::Global;
 
-/// The bytes with a part replaced from the start on, a gap filled with zeros. The error is want of memory.
+/// The bytes with a part replaced from the start on, a gap filled with zeros. The error is: out of memory.
 pub fn patched(alloc: Global, bytes: &[u8], start: usize, part: &[u8]) -> Result<Vec<u8>, Memory>
     requires { start + length part.now < 2 ^ 63 }
     ensures { IfOk result (λ v. v.items ≡ overwritten bytes.now start part.now) }
@@ -21,7 +21,7 @@ pub fn patched(alloc: Global, bytes: &[u8], start: usize, part: &[u8]) -> Result
 }
 
 /// Puts so many of the bytes, from the start on, at the end of the list, and zeros for those that aren't there. The
-/// error is want of memory.
+/// error is: out of memory.
 pub fn append_part(
     list: &mut Vec<u8>,
     bytes: &[u8],

@@ -26,7 +26,7 @@ impl Drop for FileBytes {
 }
 
 impl FileBytes {
-    /// A copy of the slice's bytes, none of which is written. The error is want of memory.
+    /// A copy of the slice's bytes, none of which is written. The error is: out of memory.
     pub fn of(alloc: Global, bytes: &[u8]) -> Result<FileBytes, Memory>
         ensures bytes { IfOk result (λ file. file.bytes ≡ bytes.now) }
         ensures marks { IfOk result (λ file. file.marks ≡ replicate (length bytes.now) false) }
@@ -66,7 +66,7 @@ impl FileBytes {
         self.marks.count()
     }
 
-    /// The bytes from the offset on, at most so many. The error is want of memory.
+    /// The bytes from the offset on, at most so many. The error is: out of memory.
     pub fn read(&self, alloc: Global, offset: u64, count: u32) -> Result<Bytes, Memory>
         ensures { IfOk result (λ bytes. bytes ≡ take count (drop offset self.now.bytes)) }
     {
@@ -74,7 +74,7 @@ impl FileBytes {
     }
 
     /// Replaces the bytes from the offset on, which are written then, and fills a gap with zeros, which aren't. The
-    /// error is want of memory, and then nothing has changed.
+    /// error is: out of memory, and then nothing has changed.
     pub fn overwrite(&mut self, alloc: Global, offset: u64, part: &[u8]) -> Result<(), Memory>
         requires { offset + length part.now < 2 ^ 64 }
         ensures bytes { OnOk result (self.new.bytes ≡ overwritten self.old.bytes offset part.now) }
@@ -88,7 +88,7 @@ impl FileBytes {
         Ok(())
     }
 
-    /// Cuts the bytes at that size, or fills them up to it with zeros that no Write wrote. The error is want of memory,
+    /// Cuts the bytes at that size, or fills them up to it with zeros that no Write wrote. The error is: out of memory,
     /// and then nothing has changed.
     pub fn resize(&mut self, alloc: Global, size: u64) -> Result<(), Memory>
         ensures bytes { OnOk result (self.new.bytes ≡ resized size self.old.bytes) }

@@ -18,23 +18,23 @@
 //! each method says by an equation what it makes of that list. Where memory is short both stay as they were, since what touches
 //! several pieces or ranges is done to a copy, which takes the place of the whole at the end. `pieces` keeps pieces of 8,192
 //! bytes at most under their numbers, which `number` makes keys of a map, `edits` replaces and reads a part of a piece, and
-//! `bytes` puts the pieces together. A piece that isn't there, and places behind a piece's end, are zeros. No piece ends behind
+//! `bytes` puts the pieces together. A piece that isn't there, and places after a piece's end, are zeros. No piece ends after
 //! the size, so that bytes that were cut off don't come back when the size grows again. `ranges` says how a range of marks is
 //! kept, under its end with its start as the value, and finds the first one from a place on; `marks` takes ranges out and puts
-//! them in. No two ranges share a place or touch, none is empty, and none ends behind the size, so each row is kept in one way,
+//! them in. No two ranges share a place or touch, none is empty, and none ends after the size, so each row is kept in one way,
 //! and the number of marked places changes by the length of each range that comes or goes.
 //! Definitions: `specs/Pieces.antt`, `specs/Marks.antt`. Lemmas: `proofs/Rows` (pieces in a row, and one of them changed),
 //! `proofs/FoundPieces` (what a change of the map makes of the pieces), `proofs/Onward` (lists that are changed part by part),
 //! `proofs/FoundRanges` (what the map's entries say of ranges and places), `proofs/Changes` (a range put in or taken out),
 //! `proofs/MarkPlaces` (lists of marks, place by place), `proofs/Steps` (the two together).
 //!
-//! Costs: a copy takes constant time and no memory. A Write makes anew the pieces of 8,192 bytes that it touches, and a gap
-//! that it fills costs nothing; a SetAttrs that cuts a file takes a search for each 8,192 bytes that it cuts off; a read
-//! takes the time of what it gives, and a search for each piece. Marking takes a search and a removal for each range that it
-//! joins, one search more and one insertion, whatever the number of places; each search makes a list of one entry. So a mark
-//! right behind the last range, as where a file is written in order, makes anew only nodes of the map on the way to that range,
-//! and the row keeps one range. Cutting off takes a search and a removal for each range that is cut off, and an insertion where
-//! one is kept in part. Places that are put behind the end take neither time nor memory.
+//! Costs: a copy takes constant time and no memory. A Write copies the pieces of 8,192 bytes that it touches, and a gap that it
+//! fills costs nothing; a SetAttrs that cuts a file takes a search for each 8,192 bytes that it cuts off; a read takes the time
+//! of what it gives, and a search for each piece. Marking takes a search and a removal for each range that it joins, one search
+//! more and one insertion, whatever the number of places; each search makes a list of one entry. So a mark right after the last
+//! range, as where a file is written in order, copies only nodes of the map on the way to that range, and the row keeps one
+//! range. Cutting off takes a search and a removal for each range that is cut off, and an insertion where one is kept in part.
+//! Places that are put after the end take neither time nor memory.
 #![tactic(auto)]
 
 mod attr;

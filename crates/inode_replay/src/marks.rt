@@ -81,8 +81,8 @@ impl SharedMarks {
         })
     }
 
-    /// Marks so many places from the start on; where they begin behind the end, places that aren't marked fill the gap.
-    /// The error is want of memory, and then nothing has changed.
+    /// Marks so many places from the start on; where they begin after the end, places that aren't marked fill the gap.
+    /// The error is: out of memory, and then nothing has changed.
     pub fn mark(&mut self, alloc: Global, start: u64, count: u64) -> Result<(), Memory>
         requires { start + count < 2 ^ 64 }
         ensures ok { OnOk result (self.new ≡ take start self.old ++ replicate (start - length self.old) false ++ replicate count true ++ drop (start + count) self.old) }
@@ -96,7 +96,7 @@ impl SharedMarks {
         Ok(())
     }
 
-    /// Cuts the places off behind that size, or puts places that aren't marked behind them up to it. The error is want of
+    /// Cuts the places off after that size, or puts places that aren't marked after them up to it. The error is: out of
     /// memory, and then nothing has changed.
     pub fn resize(&mut self, alloc: Global, size: u64) -> Result<(), Memory>
         ensures ok { OnOk result (self.new ≡ take size self.old ++ replicate (size - length self.old) false) }
@@ -120,7 +120,7 @@ impl SharedMarks {
         self.size = size;
     }
 
-    // Marks the places of the range. The error is want of memory.
+    // Marks the places of the range. The error is: out of memory.
     fn fill(&mut self, alloc: Global, range: Range) -> Result<(), Memory>
         requires order { range.start ≤ range.end }
         requires within { range.end ≤ length self.old }
@@ -134,8 +134,8 @@ impl SharedMarks {
         self.put_in(alloc, wide)
     }
 
-    // Takes out the ranges that share a place with this one or touch it; answers this one widened by them. The error is
-    // want of memory.
+    // Takes out the ranges that share a place with this one or touch it; answers this one widened by them. The error
+    // is: out of memory.
     fn take_beside(&mut self, alloc: Global, range: Range) -> Result<Range, Memory>
         requires some { range.start < range.end }
         requires within { range.end ≤ length self.old }
@@ -152,7 +152,7 @@ impl SharedMarks {
         Ok(wide)
     }
 
-    // Clears the places from the size on. The error is want of memory.
+    // Clears the places from the size on. The error is: out of memory.
     fn clear_from(&mut self, alloc: Global, size: u64) -> Result<(), Memory>
         requires { size < length self.old }
         ensures before { OnOk result ((p : ℕ) → p < size → mark_at self.new p ≡ mark_at self.old p) }
@@ -162,8 +162,8 @@ impl SharedMarks {
         Ok(())
     }
 
-    // Clears the places from the size on of the first range that has some; answers whether there was one. The error is
-    // want of memory.
+    // Clears the places from the size on of the first range that has some; answers whether there was one. The error
+    // is: out of memory.
     fn cut_first(&mut self, alloc: Global, size: u64) -> Result<bool, Memory>
         requires { size < length self.old }
         ensures size { IfOk result (λ _. length self.new ≡ length self.old) }
@@ -188,7 +188,7 @@ impl SharedMarks {
     }
 
     // Takes out the first range that shares a place with those from the start to the end, or touches them; answers it,
-    // if there is one. The error is want of memory.
+    // if there is one. The error is: out of memory.
     fn take_out(&mut self, alloc: Global, start: u64, end: u64) -> Result<Option<Range>, Memory>
         ensures none { IfOk result (λ taken. IfNone taken ((self.new ≡ self.old) × IsBare (mark_at self.old) start end)) }
         ensures some { IfOk result (λ taken. IfSome taken (IsTakenOut self.old self.new start end)) }
@@ -204,7 +204,7 @@ impl SharedMarks {
         Ok(Some(range))
     }
 
-    // Marks the places of a range that shares no place with another, and touches none. The error is want of memory.
+    // Marks the places of a range that shares no place with another, and touches none. The error is: out of memory.
     fn put_in(&mut self, alloc: Global, range: Range) -> Result<(), Memory>
         requires some { range.start < range.end }
         requires within { range.end ≤ length self.old }

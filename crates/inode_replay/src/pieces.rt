@@ -44,7 +44,7 @@ impl Pieces {
         }
     }
 
-    /// Replaces a part of a piece, which is made anew. The error is want of memory.
+    /// Replaces a part of a piece, which is copied. The error is: out of memory.
     pub fn write(
         &mut self,
         alloc: Global,
@@ -61,7 +61,7 @@ impl Pieces {
         Ok(())
     }
 
-    /// Keeps the first bytes of a piece alone, so many. The error is want of memory.
+    /// Keeps the first bytes of a piece alone, so many. The error is: out of memory.
     pub fn cut(&mut self, alloc: Global, number: u64, kept: usize) -> Result<(), Memory>
         ensures ok { OnOk result (ChangesOne (pieces_in self.old.map) (pieces_in self.new.map) number (take kept (pieces_in self.old.map number))) }
         ensures err { OnErr result (self.new ≡ self.old) }

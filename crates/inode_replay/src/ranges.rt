@@ -10,7 +10,7 @@ use shared_map::{MapKey, SharedMap};
 use std::alloc::Global;
 use std::cmp::Ordering;
 
-/// The end of a range: the place behind its last one.
+/// The end of a range: the place after its last one.
 #[derive(Clone, Copy, Drop)]
 pub struct RangeEnd(pub u64);
 
@@ -39,7 +39,7 @@ pub struct Range {
     pub end: u64,
 }
 
-/// The first range that ends at or behind the place. The error is want of memory.
+/// The first range that ends at or after the place. The error is: out of memory.
 pub fn first_from(
     ranges: &SharedMap<RangeEnd, u64>,
     alloc: Global,

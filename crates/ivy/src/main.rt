@@ -1,6 +1,6 @@
 //! The program `ivy`. It hands its words, standard input and output, and what is outside on the host to [`ivy_cli::run`].
 //!
-//! Layer: the top; a thin `main`. The exit status is the status that `run` gives, and 6 where memory is wanting for the words or
+//! Layer: the top; a thin `main`. The exit status is the status that `run` gives, and 6 where memory runs out for the words or
 //! for what else `run` takes; words that aren't text are of no form. What standard input and output hold is nowhere told: the
 //! clauses of `run` speak of the bytes of a source and a sink, and the stored run shows them.
 //!
@@ -24,13 +24,13 @@ use std::process::ExitCode;
 use std::sync::{Arc, Wait};
 use std::{env, thread};
 
-/// The status of a program for which memory was wanting.
+/// The status of a program for which memory ran out.
 const STATUS_MEMORY: u8 = 6;
 
 /// How many bytes of standard input are read at once where nobody asks for them.
 const CHUNK: usize = 4_096;
 
-/// The words behind the program's name; none where they aren't text. The error is want of memory.
+/// The words after the program's name; none where they aren't text. The error is: out of memory.
 fn words(rt: &HostRuntime) -> Result<Vec<String>, Memory> {
     match env::args(rt) {
         Ok(words) => Ok(words.skip(1).collect(rt.alloc())?),
@@ -60,7 +60,7 @@ fn stop_at_end<R: Input + Net + Wait>(rt: &R, stop: &Stop) {
     stop.set(rt);
 }
 
-/// The end of a server, for its ports and for a thread. The error is want of memory.
+/// The end of a server, for its ports and for a thread. The error is: out of memory.
 fn stops(alloc: Global) -> Result<(Arc<Stop>, Arc<Stop>), Memory> {
     let stop = Arc::new(alloc, Stop::new(alloc))?;
     let theirs = Arc::try_clone(&stop)?;

@@ -1,4 +1,4 @@
--- Records that go behind all others.
+-- Records that go after all others.
 use Rattle.std.proofs.Common.{◌≡◌, List, [], ◌∷◌, ◌++◌}
 use Rattle.std.specs.List.{AllByRecursion}
 use Rattle.log_model.specs.Record.{Record}
@@ -25,6 +25,6 @@ ascends_with (q ∷ held) more up new_up h = (each_append (IsBefore q) held more
 
 -- they are held above what was held
 pub held_above : (e : Engine) (more : List Record) → IsRow e.held → IsRow more → AreBehind e.held more → holding (taken_in e more) ≡ with_held (holding e) more
-held_above e more row new_row behind =
-    let whole : in_order (e.held ++ more) ≡ e.held ++ more = ascending_in_order (e.held ++ more) (ascends_with e.held more row.ascending new_row.ascending behind) in
+held_above e more row new_row after =
+    let whole : in_order (e.held ++ more) ≡ e.held ++ more = ascending_in_order (e.held ++ more) (ascends_with e.held more row.ascending new_row.ascending after) in
     (λ i. record { basis = e.basis; held = whole i })

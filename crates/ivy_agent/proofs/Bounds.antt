@@ -11,11 +11,11 @@ use Rattle.tree_model.proofs.Keys.{same_key_is}
 use Rattle.log_model.specs.Spelling.{IsKey}
 use Rattle.log_model.specs.Vector.{Vector}
 use Rattle.turn_model.specs.Basis.{Basis}
-use Rattle.snapshot_model.specs.Reading.{IsBasisSpelled, IsBodyOf, Part}
+use Rattle.snapshot_model.specs.Reading.{IsBasisSpelled, IsBodyOf, SnapshotPart}
 use Rattle.snapshot_model.specs.Reading as snapshot
 use Rattle.agent_model.specs.Standing.{Refresh as ModelRefresh, Standing, dominates}
 use Rattle.session_model.specs.Brought.{Brought}
-use Rattle.session_model.specs.Courses.{HasRefreshed}
+use Rattle.session_model.specs.Executions.{HasRefreshed}
 use Rattle.session_model.specs.Refreshing.{LoadEnd, LoadWants, Loaded, Loads, LoadsFor, Note, RefreshEnd, Refreshes, counting}
 use Rattle.session_model.specs.Refreshing.Loads.{loaded, no_whole, wants, misses, garbled, goes_on}
 use Rattle.session_model.specs.Refreshing.LoadsFor.{none as nothing_to_load, some as snapshot_to_load}
@@ -33,7 +33,7 @@ abbrev IsLoadedSo : LoadEnd → Type 0
 IsLoadedSo (LoadWants key) = Unit {0}
 IsLoadedSo (Loaded basis) = IfSome basis IsBasisSpelled
 
-loads_so : {todo : List (Part × Key)} {read : List (List ℕ)} {brought : List Brought} {end : LoadEnd} → Loads todo read brought end → IsLoadedSo end
+loads_so : {todo : List (SnapshotPart × Key)} {read : List (List ℕ)} {brought : List Brought} {end : LoadEnd} → Loads todo read brought end → IsLoadedSo end
 loads_so (loaded b are) = are.bounds
 loads_so (no_whole not) = tt
 loads_so wants = tt
@@ -73,8 +73,8 @@ found_so P [] number i all found = absurd (cc found)
 found_so P (e ∷ es) number i all found = by (same_key number e.0) refl found (found_so P es number i all.1)
   where
     by : (b : Bool) → same_key number e.0 ≡ b → cond b (Some e.1) (value_at key_cmp number es) ≡ Some i → (value_at key_cmp number es ≡ Some i → P number i) → P number i
-    by true same here behind = subst (λ (k : Key). P k i) (sym (same_key_is number e.0 same)) (subst (P e.0) (same_inode e.1 i here) all.0)
-    by false same here behind = behind here
+    by true same here after = subst (λ (k : Key). P k i) (sym (same_key_is number e.0 same)) (subst (P e.0) (same_inode e.1 i here) all.0)
+    by false same here after = after here
 
 names_so : (names : List (Place × Key)) → AllByRecursion (λ e. IsKey e.0.0 × IsFileName e.0.1 × IsKey e.1) names → AllByRecursion (λ e. IsKey e.0.0 × IsKey e.1) names
 names_so [] all = tt

@@ -1,4 +1,4 @@
--- What is held over a basis's front is closed with the records that a turn writes behind it.
+-- What is held over a basis's front is closed with the records that a turn writes after it.
 use Rattle.std.proofs.Common.{◌≡◌, ◌⊎◌, inl, inr, ⊎_elim, ℕ, ◌+◌, ◌<◌, ◌≤◌, Bool, true, false, cond, not, List, [], ◌∷◌, ◌++◌, map, Option, Some, None, refl, sym, ap, ◌∙◌, subst, append_assoc, arith, Contains}
 use Rattle.std.specs.Prelude.{IsTrue}
 use Rattle.std.specs.List.{AllByRecursion}
@@ -49,7 +49,7 @@ EndsWith log t = (first : Record) × (rest : List Record) × (log ≡ first ∷ 
 abbrev EndsOver : Option Stamp → List Record → Stamp → Type 0
 EndsOver o log t = EndsWith log t ⊎ ((log ≡ []) × (o ≡ Some t))
 
--- behind a stamp, or from its first record on, a log goes on by a record that follows its last one
+-- after a stamp, or from its first record on, a log goes on by a record that follows its last one
 goes_on : (view : View) (owner : PubKey) (o : Option Stamp) (first : Record) (rest : List Record) (r : Record) → GoesOnFrom view owner o (first ∷ rest) → IsGood view owner r → Follows (last_after first rest) r
     → GoesOnFrom view owner o (first ∷ rest ++ r ∷ [])
 goes_on view owner None first rest r g good follows = (g.0, g.1, GoesOn-push view owner first rest r g.2 good follows)
@@ -240,7 +240,7 @@ module _ (view : View) (own : PubKey) (h : Holding) (well : IsView view) (member
       let is : seq_of (joined h) log ≡ t.seq = ap reach at in
       omega (arith, far, is)
 
-  -- a chain goes on behind its first record
+  -- a chain goes on after its first record
   goes_behind : (o : Option Stamp) (first : Record) (rest : List Record) → GoesOnFrom view own o (first ∷ rest) → GoesOn view own first rest
   goes_behind None first rest g = g.2
   goes_behind (Some s) first rest g = g.1

@@ -33,10 +33,10 @@ abbrev pub shown : Turned → Vector → Done
 shown turned front = record { turned = turned; front = front; has_failed = false }
 
 module _ {K S : Type 0} (signs : Signing S) (IsWhole : S → Type 0) (saves : K → List ℕ → Bool → K → Type 0) (asked : Asked) (ops : List Op) (k k_after : Kept S) (e e_after : Engine) (front : Vector) (keeper keeper_after : K) (applied : ℕ) (d : Draft S) (turned : Turned)
-    (row : IsRow e.held) (new_row : IsRow (records_of d.records.items)) (behind : AreBehind e.held (records_of d.records.items)) (taken : e_after ≡ taken_in e (records_of d.records.items))
+    (row : IsRow e.held) (new_row : IsRow (records_of d.records.items)) (after : AreBehind e.held (records_of d.records.items)) (taken : e_after ≡ taken_in e (records_of d.records.items))
     (whole : IsWhole d.next.signer) (saved : saves keeper (kept_bytes signs (saved_of (kept_with k d.next))) false keeper_after) (kept : k_after ≡ kept_with k d.next) where
   same : holding e_after ≡ with_held (holding e) (records_of d.records.items)
-  same = ap holding taken ∙ held_above e (records_of d.records.items) row new_row behind
+  same = ap holding taken ∙ held_above e (records_of d.records.items) row new_row after
 
   pub has_written : (o : Option View)
       → IfSome o (λ view. Gives (finish (kept_tree (holding (undone e_after))) (kept_tree (holding e_after)) view asked.caller asked.args ops) (kept_with k d.next) d.front applied turned)

@@ -1,4 +1,4 @@
--- What holds of each of some, and of one more behind them.
+-- What holds of each of some, and of one more after them.
 use Rattle.std.proofs.Common.{◌≡◌, List, [], ◌∷◌, ◌++◌, Result, Ok, Err, subst}
 use Rattle.std.specs.Prelude.{OnOk}
 use Rattle.std.specs.List.{All}

@@ -7,7 +7,7 @@ use Rattle.ivy_base.specs.declared.key.Key.{Key}
 use Rattle.ivy_base.specs.declared.format.Format.TheVariants.{One}
 use Rattle.ivy_base.specs.declared.operation.Moment.{Moment}
 use Rattle.ivy_base.specs.declared.operation.Op.{Op}
-use Rattle.ivy_base.specs.Naming.{NamesTellApart, head_key_of}
+use Rattle.ivy_base.specs.Naming.{IsCollisionFree, head_key_of}
 use Rattle.log_model.specs.View.{View, IsView}
 use Rattle.log_model.specs.Vector.{Vector, join, seq_of}
 use Rattle.log_model.specs.Record.{Record}
@@ -54,7 +54,7 @@ module _ {S : Type 0} (signs : Signing S) (a : Agent S) (view : View) (batch : B
   abbrev served : Served
   served = serve_on by (kept_tree held) (seq_of (joined held) (head_key_of (own signs a))) asked now
 
-  module _ (grounds : Grounds) (known : List Record) (apart : NamesTellApart grounds.met) (knows : Knows view a.floor a.holding known) (may : MayTurn grounds view (own signs a) known (refresh_with batch basis)) where
+  module _ (grounds : Grounds) (known : List Record) (apart : IsCollisionFree grounds.met) (knows : Knows view a.floor a.holding known) (may : MayTurn grounds view (own signs a) known (refresh_with batch basis)) where
     its : (taken : List Record) × IsTakenBy (record { grounds = grounds; started = batch.held }) view known held taken
     its = taken_is_by_definition grounds view (own signs a) a.floor a.holding (going_on a basis) known batch basis edges new apart well knows (going_is_gone_on a basis) may under takes
 

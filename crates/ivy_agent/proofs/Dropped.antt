@@ -10,7 +10,7 @@ use Rattle.turn_taking.specs.Taking.{IsWithin}
 use Rattle.replay_engine.specs.Engines.{Engine, holding}
 use Rattle.log_model.specs.Signing.{Signing}
 use Rattle.agent_model.specs.Agent.{Agent, joined, own_key}
-use Rattle.agent_model.specs.Standing.{Standing, anew_in}
+use Rattle.agent_model.specs.Standing.{Standing, begun_again_in}
 use Rattle.ivy_agent.specs.Holders.{Holder, IsSound, Stands, StandsIn, agent_of}
 use Rattle.ivy_agent.specs.Entering.{IsTakenIn, kept_in}
 use Rattle.ivy_agent.specs.Turns.{dropping}
@@ -66,7 +66,7 @@ module _ {K S : Type 0} (signs : Signing S) (saves : K → List ℕ → Bool →
     stands = stands_with_nothing signs (kept_in view k) nothing has_failed nothing_is view;
   })
 
--- what a session is given that begins anew then
-pub dropped_standing : {S : Type 0} (signs : Signing S) (a : Agent S) (s t : Standing) (o : Option View) → IfSome o (λ view. s ≡ anew_in signs a view) → t ≡ record s { held = []; edges = [] } → IfSome o (λ view. t ≡ anew_in signs (dropping a) view)
+-- what a session is given that begins again then
+pub dropped_standing : {S : Type 0} (signs : Signing S) (a : Agent S) (s t : Standing) (o : Option View) → IfSome o (λ view. s ≡ begun_again_in signs a view) → t ≡ record s { held = []; edges = [] } → IfSome o (λ view. t ≡ begun_again_in signs (dropping a) view)
 dropped_standing signs a s t None is t_is = tt
 dropped_standing signs a s t (Some view) is t_is = t_is ∙ ap (λ (x : Standing). record x { held = []; edges = [] }) is

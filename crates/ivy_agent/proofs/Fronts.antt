@@ -1,4 +1,4 @@
--- The front of a set, or of what is held, with what a turn writes behind it: that front, with the own log's newest record.
+-- The front of a set, or of what is held, with what a turn writes after it: that front, with the own log's newest record.
 use Rattle.std.proofs.Common.{◌≡◌, ℕ, ◌+◌, ◌<◌, Bool, true, false, cond, not, List, [], ◌∷◌, ◌++◌, length, map, Option, Some, None, refl, sym, ap, ◌∙◌, subst, arith}
 use Rattle.std.specs.Prelude.{fold}
 use Rattle.std.specs.Cmp.{eq_by_cmp_equiv, ranked}
@@ -145,7 +145,7 @@ module _ (own : PubKey) (f : Vector) (sorted : Sorted f) where
       same_entries key_cmp keys_total exact_keys v (put key_cmp log s f) (from_test _ over.0) (is_sorted-put key_cmp keys_total log s f (from_test _ sorted))
       (λ k. over.1 k ∙ sym (find-put key_cmp keys_total k log s f))
 
-  -- behind a stamp there is a newest one
+  -- after a stamp there is a newest one
   some_newest : (s : Stamp) (rs : List Record) → (t : Stamp) × (newest_or (Some s) rs ≡ Some t)
   some_newest s [] = (s, refl)
   some_newest s (r ∷ rs) = some_newest (own_entry r).1 rs

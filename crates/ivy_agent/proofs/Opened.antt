@@ -1,4 +1,4 @@
--- An agent's parts behind the opening of its log.
+-- An agent's parts after the opening of its log.
 use Rattle.std.proofs.Common.{◌≡◌, List, ℕ, [], ◌∷◌, inl, inr, refl, sym, ap, ◌∙◌, subst, arith, None}
 use Rattle.ivy_base.specs.declared.key.Key.{Key}
 use Rattle.ivy_base.specs.declared.key.PubKey.{PubKey}

@@ -1,4 +1,4 @@
--- The records that a turn writes over a front: good ones, the next ones of the own log, behind all that the front knows.
+-- The records that a turn writes over a front: good ones, the next ones of the own log, after all that the front knows.
 use Rattle.std.proofs.Common.{◌≡◌, inr, ⊎_elim, ℕ, ◌+◌, ◌<◌, ◌≤◌, ◌^◌, suc, cond, not, List, [], ◌∷◌, ◌++◌, length, map, Option, None, refl, sym, ap, ◌∙◌, subst, arith}
 use Rattle.std.specs.Prelude.{IsTrue}
 use Rattle.std.specs.List.{AllByRecursion}

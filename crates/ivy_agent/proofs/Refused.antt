@@ -9,7 +9,7 @@ use Rattle.turn_model.specs.Turn.{Asked}
 use Rattle.log_fetch.specs.declared.standing.Standing.{Standing}
 use Rattle.log_fetch.specs.Standings.{standing_of}
 use Rattle.log_model.specs.Signing.{Signing}
-use Rattle.agent_model.specs.Standing.{Refresh, anew_in, going_on}
+use Rattle.agent_model.specs.Standing.{Refresh, begun_again_in, going_on}
 use Rattle.turn_laws.specs.Taking.{refresh_with}
 use Rattle.agent_model.specs.Turning.{TurnEnd, Turns}
 use Rattle.agent_model.specs.Turning as turning
@@ -32,7 +32,7 @@ module _ {K S : Type 0} (signs : Signing S) (IsWhole : S → Type 0) (saves : K 
     abbrev Ends : TurnEnd → Holder K S → Type 0
     Ends end after = (fails : Bool) → Turns signs brought (record { agent = before.agent; view = view; now = now; fails = fails }) asked end after.agent None
 
-    refused : (end : TurnEnd) (standing : Standing) (after : Holder K S) → Ends end after → after.keeper ≡ before.keeper → standing_of standing ≡ anew_in signs after.agent view
+    refused : (end : TurnEnd) (standing : Standing) (after : Holder K S) → Ends end after → after.keeper ≡ before.keeper → standing_of standing ≡ begun_again_in signs after.agent view
         → IsRefused signs IsWhole saves view brought asked now before end standing after
     refused end standing after turns keeper anew = record {
       turns = record { saving = None; turns = turns false; either = λ none other. turns other; keeper = keeper; kept = tt };
@@ -43,13 +43,13 @@ module _ {K S : Type 0} (signs : Signing S) (IsWhole : S → Type 0) (saves : K 
         → TakesTurn signs IsWhole saves view brought asked now before (Err told) after
     ends_as refusal.Behind (fault.Behind standing) after c r = refused turning.Behind standing after
         (subst (λ (x : Holder K S). Ends turning.Behind x) (sym r.0) (λ fails. turning.behind c.1)) (ap (λ (x : Holder K S). x.keeper) r.0)
-        (r.1 ∙ ap (λ (x : Holder K S). anew_in signs x.agent view) (sym r.0))
+        (r.1 ∙ ap (λ (x : Holder K S). begun_again_in signs x.agent view) (sym r.0))
     ends_as refusal.Behind (fault.BelowTide standing) after c r = absurd r
     ends_as refusal.Behind fault.Memory after c r = r
     ends_as refusal.BelowTide (fault.Behind standing) after c r = absurd r
     ends_as refusal.BelowTide (fault.BelowTide standing) after c r = refused turning.BelowTide standing after
         (subst (λ (x : Holder K S). Ends turning.BelowTide x) (sym r.0) (λ fails. turning.below c.1 c.2)) (ap (λ (x : Holder K S). x.keeper) r.0)
-        (r.1 ∙ ap (λ (x : Holder K S). anew_in signs x.agent view) (sym r.0))
+        (r.1 ∙ ap (λ (x : Holder K S). begun_again_in signs x.agent view) (sym r.0))
     ends_as refusal.BelowTide fault.Memory after c r = r
     ends_as refusal.Memory (fault.Behind standing) after c r = absurd r
     ends_as refusal.Memory (fault.BelowTide standing) after c r = absurd r

@@ -35,7 +35,7 @@ use Rattle.ivy_agent.specs.Serving.{Writes, serve_on}
 abbrev pub heading : PubKey → Vector → Moment → Heading
 heading own cited now = record { owner = own; format = One; vector = cited; moment = now }
 
--- one record for each operation, behind the own log's newest record of the front, and citing all else of it
+-- one record for each operation, after the own log's newest record of the front, and citing all else of it
 abbrev pub written_over : PubKey → Moment → Vector → List Op → List Record
 written_over own now f ops =
     linked (heading_over own One now f) (seq_of f (head_key_of own) + 1)
@@ -65,9 +65,9 @@ NewestIsReached = (own : PubKey) (now : Moment) (f : Vector) (ops : List Op) (t 
     → newest_stamp (written_over own now f ops) ≡ Some t
     → (t.seq ≡ seq_of f (head_key_of own) + length ops) × (1 ≤ length ops)
 
--- ---- the records, whether or not names tell apart
+-- ---- the records, whether or not names collide
 
--- What is to be written for a call on a tree may be written behind that number.
+-- What is to be written for a call on a tree may be written after that number.
 abbrev pub WritesMayStand : Type 0
 WritesMayStand = (a : Inputs) (t : Tree) (seq : ℕ) (asked : Asked) (now : Moment) (ops : List Op) → NumbersAreKeys t
     → IsIdentity asked.caller → ArgumentsFit asked.args → IsMoment now
@@ -100,7 +100,7 @@ abbrev pub WrittenAreNext : Type 0
 WrittenAreNext = (own : PubKey) (now : Moment) (f : Vector) (ops : List Op)
     → AreNext (seq_of f (head_key_of own)) (written_over own now f ops) × (length (written_over own now f ops) ≡ length ops)
 
--- They ascend, and go behind all that is held.
+-- They ascend, and go after all that is held.
 abbrev pub WrittenGoBehind : Type 0
 WrittenGoBehind = (own : PubKey) (now : Moment) (h : Holding) (ops : List Op) → IsTrue (is_sorted key_cmp (joined h))
     → AllByRecursion HasSpelling h.held

@@ -36,7 +36,7 @@ module _ {K S : Type 0} (signs : Signing S) (IsWhole : S → Type 0) (saves : K 
     pub keeper : Saves saves before.keeper (option_map (kept_bytes signs) (entering signs before.agent view fails).1) fails after.keeper
     pub kept : IfSome (entering signs before.agent view fails).1 (IsKept signs IsWhole)
 
-  -- Where memory is wanting nothing changes, whatever the view.
+  -- Where memory runs out nothing changes, whatever the view.
   abbrev pub Enters : Result Unit EnterFault → Holder K S → Type 0
   Enters (Err fault.Memory) after = after ≡ before
   Enters answer after = (fails : Bool) × EntersAs fails answer after
@@ -70,7 +70,7 @@ pub record IsSavedIn {K S : Type 0} (signs : Signing S) (IsWhole : S → Type 0)
   pub kept : IsKept signs IsWhole (kept_of (entered before.agent view))
   pub saved : saves before.keeper (kept_bytes signs (kept_of (entered before.agent view))) fails after
 
--- it is saved in the view and is in it, or the save failed, or memory is wanting
+-- it is saved in the view and is in it, or the save failed, or memory runs out
 abbrev pub GoesIn : {K S : Type 0} → Signing S → (S → Type 0) → (K → List ℕ → Bool → K → Type 0) → View → Holder K S
     → Result Unit EnterFault → Holder K S → Type 0
 GoesIn signs IsWhole saves view before (Ok done) after =

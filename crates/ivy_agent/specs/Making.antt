@@ -36,7 +36,7 @@ module _ {K S : Type 0} (signs : Signing S) (IsWhole : S → Type 0) (saves : K 
     pub saved : saves before (kept_bytes signs (kept_of (opened signs signer now))) fails after
 
   -- Spent is the answer exactly where nothing is left to sign with. Else the agent opens its log and is saved, or the save fails; or memory
-  -- is wanting, and the keeper stays as it is.
+  -- runs out, and the keeper stays as it is.
   abbrev pub Makes : K → S → Moment → Result (Holder K S) (K × MakeFault) → Type 0
   Makes before signer now (Ok h) = (h.agent ≡ opened signs signer now) × IsFirstSave before signer now false h.keeper
   Makes before signer now (Err (after, fault.Spent)) = (signs.remaining signer ≡ 0) × (after ≡ before)

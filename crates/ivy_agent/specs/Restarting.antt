@@ -38,7 +38,7 @@ abbrev pub AreNobodys : {S : Type 0} → Signing S → (S → Type 0) → List �
 AreNobodys signs IsWhole bytes = AreSavedOfNone signs (IsCounted IsWhole signs.saved) bytes
 
 module _ {K S : Type 0} (signs : Signing S) (IsWhole : S → Type 0) where
-  -- From bytes: the agent that they were saved of starts again, or they are nobody's, or memory is wanting. The keeper stays as it is.
+  -- From bytes: the agent that they were saved of starts again, or they are nobody's, or memory runs out. The keeper stays as it is.
   abbrev pub Restores : K → List ℕ → Result (Holder K S) (K × RestartFault) → Type 0
   Restores before bytes (Ok h) = (k : Kept S) × AreSavedOf signs IsWhole bytes k × (h ≡ record { agent = restored k; keeper = before })
   Restores before bytes (Err (after, fault.Malformed)) = AreNobodys signs IsWhole bytes × (after ≡ before)

@@ -20,7 +20,7 @@ pub data Served : Type 0 where
   Replies : (reply : Reply) → Served
   Writes : (ops : List Op) → Served
 
--- no signature is left, or no numbers for the operations behind that one
+-- no signature is left, or no numbers for the operations after that one
 abbrev pub is_full : ℕ → ℕ → List Op → Bool
 is_full leaves seq ops = leaves == 0 || nat_lt most_records (seq + length ops)
 

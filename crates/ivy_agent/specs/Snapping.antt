@@ -37,7 +37,7 @@ module _ {K S : Type 0} (signs : Signing S) (IsWhole : S → Type 0) (saves : K 
     pub keeper : Saves saves before.keeper (option_map (kept_bytes signs) (snapping_by fails).1) fails after.keeper
     pub kept : IfSome (snapping_by fails).1 (IsKept signs IsWhole)
 
-  -- The root is told, or that there is no new snapshot. Where memory is wanting nothing changes.
+  -- The root is returned, or that there is no new snapshot. Where memory runs out nothing changes.
   abbrev pub Snaps : Result Key SnapFault → Holder K S → Type 0
   Snaps (Ok root) after = (root ≡ root_of) × (fails : Bool) × SnapsAs fails true after
   Snaps (Err fault.Keeper) after = (fails : Bool) × SnapsAs fails false after

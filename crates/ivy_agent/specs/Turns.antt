@@ -15,7 +15,7 @@ use Rattle.log_model.specs.Signing.{Signing}
 use Rattle.log_model.specs.Fetched.{Edge, owner_of}
 use Rattle.agent_model.specs.Agent.{Agent, Kept, joined, own}
 use Rattle.agent_model.specs.SavedBytes.{IsKept, kept_bytes}
-use Rattle.agent_model.specs.Standing.{Refresh, anew_in, going_on}
+use Rattle.agent_model.specs.Standing.{Refresh, begun_again_in, going_on}
 use Rattle.turn_laws.specs.Taking.{refresh_with}
 use Rattle.agent_model.specs.Turning.{TurnEnd, Behind, BelowTide, Answered, Turns, is_behind, is_below_tide}
 use Rattle.ivy_agent.specs.Holders.{Holder}
@@ -56,12 +56,12 @@ module _ {K S : Type 0} (signs : Signing S) (IsWhole : S → Type 0) (saves : K 
     pub turns : TurnsAs fails (Answered reply t.applied) after
     pub gives : Gives reply after.agent t
 
-  -- it is refused, and a session begins anew with that standing
+  -- it is refused, and a session begins again with that standing
   pub record IsRefused (end : TurnEnd) (standing : Standing) (after : Holder K S) : Type 0 where
     pub turns : TurnsAs false end after
-    pub anew : standing_of standing ≡ anew_in signs after.agent view
+    pub anew : standing_of standing ≡ begun_again_in signs after.agent view
 
-  -- Where memory is wanting nothing changes.
+  -- Where memory runs out nothing changes.
   abbrev pub TakesTurn : Result Turned TurnFault → Holder K S → Type 0
   TakesTurn (Ok t) after = IsAnswered t after
   TakesTurn (Err (fault.Behind standing)) after = IsRefused Behind standing after
@@ -94,8 +94,8 @@ dropping a = record a { holding = nothing_held; to_load = None }
 -- what a refusal is told as, and what it changes
 abbrev pub Refuses : {K S : Type 0} → Signing S → View → Holder K S → Refusal → TurnFault → Holder K S → Type 0
 Refuses signs view before refusal.Behind (fault.Behind standing) after =
-    (after ≡ before) × (standing_of standing ≡ anew_in signs before.agent view)
+    (after ≡ before) × (standing_of standing ≡ begun_again_in signs before.agent view)
 Refuses signs view before refusal.BelowTide (fault.BelowTide standing) after =
-    (after ≡ record before { agent = dropping before.agent }) × (standing_of standing ≡ anew_in signs (dropping before.agent) view)
+    (after ≡ record before { agent = dropping before.agent }) × (standing_of standing ≡ begun_again_in signs (dropping before.agent) view)
 Refuses signs view before why fault.Memory after = after ≡ before
 Refuses signs view before why told after = ⊥

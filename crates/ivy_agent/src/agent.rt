@@ -9,7 +9,7 @@ ghost use Rattle.turn_model.specs.Basis.{Basis, kept_tree};
 ghost use Rattle.agent_model.specs.Others.{settled};
 ghost use Rattle.agent_model.specs.Agent.{joined, own};
 ghost use Rattle.agent_model.specs.SavedBytes.{HasItsName};
-ghost use Rattle.agent_model.specs.Standing.{anew_in, going_on, standing_in};
+ghost use Rattle.agent_model.specs.Standing.{begun_again_in, going_on, standing_in};
 ghost use Rattle.log_fetch.specs.Standings.{asked_of, refresh_of, standing_of};
 ghost use Rattle.replay_engine.specs.Engines.{holding};
 ghost use Rattle.ivy_agent.specs.Holders.{IsSound, agent_of};
@@ -189,7 +189,7 @@ impl<K: Keeper, S: Signs> Agent<K, S> {
         }
     }
 
-    /// What a session is given of the agent, whose posts have their names. The error is want of memory.
+    /// What a session is given of the agent, whose posts have their names. The error is: out of memory.
     pub fn standing(&self, alloc: Global) -> Result<Standing, Memory>
         requires { IsSomeAnd self.now.agent.view (λ view. Unit {0}) }
         ensures stands { IfOk result (λ s. IfSome self.now.agent.view (λ view. standing_of s ≡ standing_in S.signing self.now.agent view)) }
@@ -232,22 +232,22 @@ impl<K: Keeper, S: Signs> Agent<K, S> {
         }
     }
 
-    /// What a session is given that begins anew, without a snapshot. The error is want of memory.
+    /// What a session is given that begins again, without a snapshot. The error is: out of memory.
     fn anew(&self, alloc: Global) -> Result<Standing, Memory>
         requires { IsSomeAnd self.now.agent.view (λ view. Unit {0}) }
-        ensures { IfOk result (λ s. IfSome self.now.agent.view (λ view. standing_of s ≡ anew_in S.signing self.now.agent view)) }
+        ensures { IfOk result (λ s. IfSome self.now.agent.view (λ view. standing_of s ≡ begun_again_in S.signing self.now.agent view)) }
     {
         let mut standing = self.standing(alloc)?;
         standing.basis = None;
         Ok(standing)
     }
 
-    /// Drops what is held, and gives what a session is given that begins anew then. The error is want of memory, and then
-    /// nothing has changed.
+    /// Drops what is held, and gives what a session is given that begins again then. The error is: out of memory, and
+    /// then nothing has changed.
     fn drop_held(&mut self, alloc: Global) -> Result<Standing, Memory>
         requires { IsSomeAnd self.old.agent.view (λ view. Unit {0}) }
         ensures ok { OnOk result (self.new ≡ record self.old { agent = dropping self.old.agent }) }
-        ensures standing { IfOk result (λ s. IfSome self.old.agent.view (λ view. standing_of s ≡ anew_in S.signing (dropping self.old.agent) view)) }
+        ensures standing { IfOk result (λ s. IfSome self.old.agent.view (λ view. standing_of s ≡ begun_again_in S.signing (dropping self.old.agent) view)) }
         ensures err { OnErr result (self.new ≡ self.old) }
     {
         let Ok(nothing) = hold_nothing(alloc) else {
@@ -309,7 +309,7 @@ impl<K: Keeper, S: Signs> Agent<K, S> {
 }
 
 impl<S: Signs> Agent<MemKeeper, S> {
-    /// Has a later save fail, as [`MemKeeper::plan`] has it. The error is want of memory, and then nothing has changed.
+    /// Has a later save fail, as [`MemKeeper::plan`] has it. The error is: out of memory, and then nothing has changed.
     pub fn plan_fault(&mut self, leave: Leave) -> Result<(), Memory>
         ensures ok { OnOk result (self.new ≡ record self.old { keeper = with_plan self.old.keeper leave.call leave.new }) }
         ensures err { OnErr result (self.new ≡ self.old) }

@@ -14,7 +14,7 @@ use nfs3_replies::write_reply;
 use std::alloc::Global;
 use version_vectors::Vector;
 
-/// What is given where this is the reply, these posts are pending, and all that is held has this front. The error is want of
+/// What is given where this is the reply, these posts are pending, and all that is held has this front. The error is: out of
 /// memory; it also comes where a part of the reply is too long to be counted.
 pub fn give(
     alloc: Global,
@@ -36,7 +36,7 @@ pub fn give(
     })
 }
 
-/// What is given where this is the reply, which is let go here alone. The error is that of [`give`].
+/// What is given where this is the reply, which is dropped here alone. The error is that of [`give`].
 pub fn give_reply(
     alloc: Global,
     reply: Reply,
@@ -52,7 +52,7 @@ pub fn give_reply(
     give(alloc, &reply, posts, front, applied)
 }
 
-/// Answers without writing: what is held, which has that front, is joined into the floor. The error is want of memory, and then
+/// Answers without writing: what is held, which has that front, is joined into the floor. The error is: out of memory, and then
 /// what is kept is what it was.
 pub fn reply<S: Signs>(
     alloc: Global,

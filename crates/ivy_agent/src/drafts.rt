@@ -57,7 +57,7 @@ pub struct Draft<S> {
     pub front: Vector,
 }
 
-/// The records of the operations over the front, and what is kept and held with them. The error is want of memory; it also
+/// The records of the operations over the front, and what is kept and held with them. The error is: out of memory; it also
 /// comes where there is no operation, or a block is too long to be counted.
 pub fn make_draft<S: Signs + Drop>(
     alloc: Global,
@@ -84,8 +84,8 @@ pub fn make_draft<S: Signs + Drop>(
     }
 }
 
-/// What is kept next, and the front of what is held then, behind written records of which that is the newest, and these are
-/// the posts. The error is want of memory; it also comes where there is no newest, or a block is too long to be counted.
+/// What is kept next, and the front of what is held then, after written records of which that is the newest, and these are
+/// the posts. The error is: out of memory; it also comes where there is no newest, or a block is too long to be counted.
 fn follow<S: Signs + Drop>(
     alloc: Global,
     kept: &Kept<S>,
@@ -120,7 +120,7 @@ fn follow<S: Signs + Drop>(
     }
 }
 
-/// The front with the newest record, and the floor with all that is in that front. The error is want of memory.
+/// The front with the newest record, and the floor with all that is in that front. The error is: out of memory.
 fn fronts_with<S: Signs>(
     alloc: Global,
     kept: &Kept<S>,
@@ -140,7 +140,7 @@ fn fronts_with<S: Signs>(
 }
 
 /// The key that has signed a head over the newest record, and what is to be published then: these posts of the written records
-/// and the head with what was. The error is want of memory; it also comes where a block is too long to be counted.
+/// and the head with what was. The error is: out of memory; it also comes where a block is too long to be counted.
 fn sign<S: Signs + Drop>(
     alloc: Global,
     kept: &Kept<S>,
@@ -159,7 +159,7 @@ fn sign<S: Signs + Drop>(
     Ok((signer, pending))
 }
 
-/// The post of the head of that log over its newest record, which the key signs. The error is want of memory.
+/// The post of the head of that log over its newest record, which the key signs. The error is: out of memory.
 fn head_over<S: Signs>(
     alloc: Global,
     signer: &mut S,

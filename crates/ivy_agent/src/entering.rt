@@ -18,7 +18,7 @@ use std::mem::{replace, swap};
 use version_vectors::{Entry, Vector};
 use view_blocks::View;
 
-/// The least log of the floor that the view can't take in, behind the view that was entered before.
+/// The least log of the floor that the view can't take in, after the view that was entered before.
 pub fn not_named(before: Option<&View>, view: &View, floor: &Vector) -> Option<Key>
     ensures { result ≡ option_map (λ e. e.0) (find (λ e. is_refused_in (option_map (λ v. v.now) before.entry) view.now e.0) floor.now) }
 {

@@ -13,7 +13,7 @@ pub enum MakeFault {
     /// The keeper failed, and its count of faults rose.
     #[error("the keeper failed")]
     Keeper,
-    /// Want of memory. No clause ties this to a cause.
+    /// Out of memory. No clause ties this to a cause.
     #[error("out of memory")]
     Memory,
 }
@@ -30,7 +30,7 @@ pub enum RestartFault {
     /// The keeper failed, and its count of faults rose.
     #[error("the keeper failed")]
     Keeper,
-    /// Want of memory. No clause ties this to a cause.
+    /// Out of memory. No clause ties this to a cause.
     #[error("out of memory")]
     Memory,
 }
@@ -48,7 +48,7 @@ pub enum EnterFault {
     /// The keeper failed now, and its count of faults rose, or it had failed before.
     #[error("the keeper failed, now or before")]
     Keeper,
-    /// Want of memory. No clause ties this to a cause.
+    /// Out of memory. No clause ties this to a cause.
     #[error("out of memory")]
     Memory,
 }
@@ -66,7 +66,7 @@ pub enum SnapFault {
     /// The keeper failed now, and its count of faults rose, or it had failed before.
     #[error("the keeper failed, now or before")]
     Keeper,
-    /// Want of memory. No clause ties this to a cause.
+    /// Out of memory. No clause ties this to a cause.
     #[error("out of memory")]
     Memory,
 }

@@ -22,7 +22,7 @@ pub struct Ground {
     pub front: Vector,
 }
 
-/// The loaded basis, where a snapshot is still to be loaded and the floor knows all that the basis covers. The error is want
+/// The loaded basis, where a snapshot is still to be loaded and the floor knows all that the basis covers. The error is: out
 /// of memory.
 pub fn ground_of(
     alloc: Global,
@@ -38,7 +38,7 @@ pub fn ground_of(
     }
 }
 
-/// That basis, where a snapshot is still to be loaded and the floor knows all that the basis covers. The error is want of
+/// That basis, where a snapshot is still to be loaded and the floor knows all that the basis covers. The error is: out of
 /// memory.
 fn over_basis(
     alloc: Global,
@@ -57,7 +57,7 @@ fn over_basis(
     }
 }
 
-/// That basis with nothing above it. The error is want of memory.
+/// That basis with nothing above it. The error is: out of memory.
 fn ground_over(alloc: Global, basis: Basis) -> Result<Ground, Memory>
     ensures engine { IfOk result (λ g. holding g.engine ≡ record { basis = basis_of basis; held = [] }) }
     ensures front { IfOk result (λ g. g.front ≡ basis.front) }

@@ -13,7 +13,7 @@ pub fn turns_are_served()
 {}
 
 /// A law and no code: what is to be written may be written; over a front that the agent may cite, its records are good, the
-/// next ones of the own log, whose posts are under their names, and go behind all that is held, which stays closed. Where all
+/// next ones of the own log, whose posts are under their names, and go after all that is held, which stays closed. Where all
 /// of a set is held, the set with them is held then.
 pub fn written_records_go_on()
     ensures may_stand { WritesMayStand }

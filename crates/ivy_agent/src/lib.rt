@@ -26,8 +26,8 @@
 //! - [`Agent::standing`] is `standing_in` and [`Agent::settle`] is `settled`. [`Agent::owner`] is the agent's
 //!   public key and [`Agent::view`] its view.
 //! - [`Agent::snap`] is `snapping`, for some answer to whether the save fails, with what is saved
-//!   (`specs/Snapping.antt`). Where what is held is more than a snapshot has room for, that counts as want of
-//!   memory.
+//!   (`specs/Snapping.antt`). Where what is held is more than a snapshot has room for, that counts as running
+//!   out of memory.
 //! - [`Agent::plan_fault`] plans that a save of a keeper in memory fails.
 //! - [`Agent::turn`] is a `Turns` of the definitions, for some answer to whether the save fails; where
 //!   nothing is saved, for either answer (`TakesTurn` in `specs/Turns.antt`). It is `Behind`, `BelowTide`, or

@@ -27,7 +27,7 @@ use version_vectors::{Entry, Vector};
 /// In place of a name, where there is none.
 const NO_NAME: Key = Key([0; 20]);
 
-/// An agent's parts behind the opening of its log.
+/// An agent's parts after the opening of its log.
 #[derive(Drop)]
 pub struct Opened<S> {
     /// What is saved: the opening record and the head over it are to be published.
@@ -38,7 +38,7 @@ pub struct Opened<S> {
     pub front: Vector,
 }
 
-/// Opens the signer's log at that moment: its opening record is made, and a head is signed over it. The error is want of
+/// Opens the signer's log at that moment: its opening record is made, and a head is signed over it. The error is: out of
 /// memory, and then the signer is dropped.
 pub fn open<S: Signs + Drop>(alloc: Global, mut signer: S, now: Moment) -> Result<Opened<S>, Memory>
     requires { S.signing.remaining signer ≢ 0 }
@@ -83,7 +83,7 @@ pub struct Begun {
     pub front: Vector,
 }
 
-/// Makes the opening record of the signer's log, and signs a head over it. The error is want of memory.
+/// Makes the opening record of the signer's log, and signs a head over it. The error is: out of memory.
 fn begin<S: Signs>(alloc: Global, signer: &mut S, now: Moment) -> Result<Begun, Memory>
     requires { S.signing.remaining signer.old ≢ 0 }
     ensures { IfOk result (λ b. IsOpening S.signing signer.old now (record { kept = record { signer = signer.new; log = b.log; view = None; floor = b.floor; pending = b.pending; snapshot = None }; engine = b.engine; front = b.front })) }
@@ -103,7 +103,7 @@ fn begin<S: Signs>(alloc: Global, signer: &mut S, now: Moment) -> Result<Begun, 
 }
 
 /// The name of the first record of the owner's log, and what is to be published: its block and the head over it, which is signed.
-/// The error is want of memory.
+/// The error is: out of memory.
 fn first_posts<S: Signs>(
     alloc: Global,
     signer: &mut S,
@@ -128,14 +128,14 @@ fn first_posts<S: Signs>(
     }
 }
 
-/// The block of the first record of the owner's log. The error is want of memory.
+/// The block of the first record of the owner's log. The error is: out of memory.
 fn first_block(alloc: Global, own: PubKey, now: Moment) -> Result<Bytes, Memory>
     ensures { IfOk result (λ block. block ≡ record_block (opening own now)) }
 {
     opening(alloc, own, now).write(alloc)
 }
 
-/// The opening record's block of that name, and the head over it. The error is want of memory; it also comes where no word counts
+/// The opening record's block of that name, and the head over it. The error is: out of memory; it also comes where no word counts
 /// the bytes of one.
 fn posts_of(alloc: Global, log: Key, name: Key, block: Bytes, head: Bytes) -> Result<Posts, Memory>
     ensures posts { IfOk result (λ posts. posts ≡ record { key = name; bytes = block; kind = Log } ∷ record { key = log; bytes = head; kind = Head } ∷ []) }
@@ -175,7 +175,7 @@ fn opening(alloc: Global, own: PubKey, now: Moment) -> Record
     }
 }
 
-/// The engine that holds nothing. The error is want of memory.
+/// The engine that holds nothing. The error is: out of memory.
 pub fn hold_nothing(alloc: Global) -> Result<Engine, Memory>
     ensures { IfOk result (λ engine. holding engine ≡ nothing_held) }
 {
@@ -187,7 +187,7 @@ pub fn hold_nothing(alloc: Global) -> Result<Engine, Memory>
     Engine::over(alloc, basis)
 }
 
-/// The floor of a log whose newest record is the first one, of that name. The error is want of memory.
+/// The floor of a log whose newest record is the first one, of that name. The error is: out of memory.
 fn floor_of(alloc: Global, log: Key, name: Key) -> Result<Vector, Memory>
     ensures { IfOk result (λ floor. floor ≡ (log, record { seq = 1; name = name }) ∷ []) }
 {
@@ -195,7 +195,7 @@ fn floor_of(alloc: Global, log: Key, name: Key) -> Result<Vector, Memory>
     Vector::empty(alloc).with(alloc, entry)
 }
 
-/// The head over a log's first record, which is of that name. The error is want of memory.
+/// The head over a log's first record, which is of that name. The error is: out of memory.
 fn seal_first<S: Signs>(alloc: Global, signer: &mut S, name: Key) -> Result<Bytes, Memory>
     requires { S.signing.remaining signer.old ≢ 0 }
     ensures head { IfOk result (λ bytes. bytes ≡ sealed S.signing signer.old (record { seq = 1; name = name })) }

@@ -29,7 +29,7 @@ use std::alloc::Global;
 use std::sync::ledger::Ledger;
 use version_vectors::Vector;
 
-/// What is served on what is held, whose front is given. The error is want of memory.
+/// What is served on what is held, whose front is given. The error is: out of memory.
 fn serve_held<S: Signs>(
     alloc: Global,
     kept: &Kept<S>,
@@ -96,7 +96,7 @@ fn write_on<K: Keeper, S: Signs + Drop, L: Ledger>(
     )
 }
 
-/// Answers without writing, and goes on as before. The error is want of memory, and then what is kept is what it was.
+/// Answers without writing, and goes on as before. The error is: out of memory, and then what is kept is what it was.
 fn reply_on<S: Signs>(
     alloc: Global,
     kept: &mut Kept<S>,
@@ -119,7 +119,7 @@ fn reply_on<S: Signs>(
     })
 }
 
-/// Answers the call on what is held, whose front is given. The error is want of memory, or that of [`write_on`]; then the
+/// Answers the call on what is held, whose front is given. The error is: out of memory, or that of [`write_on`]; then the
 /// engine holds what it did, and all else is as it was.
 pub fn answer<K: Keeper, S: Signs + Drop, L: Ledger>(
     alloc: Global,

@@ -9,7 +9,7 @@ use dht_ids::{Post, PostKind, Posts};
 use ivy_base::Memory;
 use std::alloc::Global;
 
-/// Those that are pending, without a head, then the posts of written records, then the head over them. The error is want of
+/// Those that are pending, without a head, then the posts of written records, then the head over them. The error is: out of
 /// memory; it also comes where a word counts neither the posts nor the bytes of one that is new.
 pub fn posts_with(
     alloc: Global,
@@ -28,7 +28,7 @@ pub fn posts_with(
     join_posts(posts, written)
 }
 
-/// The first posts, then the others. The error is want of memory; it also comes where a word counts neither all of them nor the
+/// The first posts, then the others. The error is: out of memory; it also comes where a word counts neither all of them nor the
 /// bytes of one of the others.
 pub fn join_posts(mut posts: Vec<Post>, mut more: Vec<Post>) -> Result<Posts, Memory>
     ensures posts { IfOk result (λ all. all ≡ posts.items ++ more.items) }
@@ -41,7 +41,7 @@ pub fn join_posts(mut posts: Vec<Post>, mut more: Vec<Post>) -> Result<Posts, Me
     }
 }
 
-/// Puts the others behind the posts. It owns nothing where it exits. The error is that of [`join_posts`].
+/// Puts the others after the posts. It owns nothing where it exits. The error is that of [`join_posts`].
 fn put_behind(posts: &mut Vec<Post>, more: &mut Vec<Post>) -> Result<(), Memory>
     ensures posts { OnOk result (posts.new.items ≡ posts.old.items ++ more.old.items) }
     ensures few { OnOk result (length posts.new.items < 2 ^ 32) }

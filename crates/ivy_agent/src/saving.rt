@@ -6,7 +6,7 @@ ghost use Rattle.wire_model.specs.Xdr.{word, opaque, array, optional};
 ghost use Rattle.xdr_codec.specs.Writing.{padded};
 ghost use Rattle.log_model.specs.Spelling.{vector_entry};
 ghost use Rattle.agent_model.specs.Agent.{own_key};
-ghost use Rattle.agent_model.specs.SavedBytes.{kept_bytes, kind_number, post_bytes, view_bytes, saved_tag};
+ghost use Rattle.agent_model.specs.SavedBytes.{kept_bytes, post_kind_number, post_bytes, view_bytes, saved_tag};
 ghost use Rattle.ivy_agent.specs.Saves.{saved_of, AreShort, HasSaved, IsWholeAfter};
 ghost use Rattle.ivy_agent.specs.Causes.{SaveHasCause};
 
@@ -56,7 +56,7 @@ impl<S: Drop> Drop for Kept<S> {
 pub enum SaveFault {
     /// The keeper failed.
     Keeper,
-    /// Want of memory: the keeper wasn't asked.
+    /// Running out of memory: the keeper wasn't asked.
     Memory,
 }
 
@@ -104,7 +104,7 @@ fn bytes_of<S: Signs>(alloc: Global, kept: &Kept<S>) -> Result<Bytes, Memory>
     )
 }
 
-/// The view's block, or no bytes where there is none. The error is want of memory.
+/// The view's block, or no bytes where there is none. The error is: out of memory.
 fn block_of(alloc: Global, view: Option<&View>) -> Result<Bytes, Memory>
     ensures { IfOk result (λ bytes. bytes ≡ view_bytes (option_map (λ v. v.now) view.entry)) }
 {
@@ -226,7 +226,7 @@ fn put_post(out: &mut XdrWrite, post: &Post)
 
 /// The number of a kind of posts.
 fn number_of(kind: PostKind) -> u32
-    ensures { result ≡ kind_number kind }
+    ensures { result ≡ post_kind_number kind }
 {
     match kind {
         PostKind::Block => 0,
@@ -235,7 +235,7 @@ fn number_of(kind: PostKind) -> u32
     }
 }
 
-/// Appends a name, where there is one, behind whether there is.
+/// Appends a name, where there is one, after whether there is.
 fn put_name(out: &mut XdrWrite, name: Option<Key>)
     requires { 24 ≤ out.old.spare }
     ensures { out.new.written ≡ out.old.written ++ optional (λ name. name.0) name }

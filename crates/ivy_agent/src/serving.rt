@@ -49,9 +49,9 @@ pub enum Served {
 }
 
 /// Serves a call made at that moment: a reading call is answered on the tree; a changing one is planned on it, for records
-/// behind the own log's newest, and refused, or without effect, or to be written. A plan of operations is refused with
+/// after the own log's newest, and refused, or without effect, or to be written. A plan of operations is refused with
 /// `RoFs` where no signature or too few numbers are left for it, and else with `ServerFault` where a save has failed. The
-/// error is want of memory.
+/// error is: out of memory.
 pub fn serve(alloc: Global, on: &On<'_>, asked: &Asked, now: Moment) -> Result<Served, Memory>
     requires { on.now.seq ≤ most_records }
     ensures { IfOk result (λ served. served_of served ≡ serve_on (inputs_of on.now) on.now.tree.now on.now.seq (asked_of asked.now) now) }
@@ -113,7 +113,7 @@ fn write_fault(on: &On<'_>, ops: &[Op]) -> Option<NfsStatus>
     }
 }
 
-/// Whether the key signs nothing more, or no numbers are left for the operations behind that one.
+/// Whether the key signs nothing more, or no numbers are left for the operations after that one.
 fn is_full(leaves: u64, seq: u32, ops: &[Op]) -> bool
     requires { seq ≤ most_records }
     ensures { result ≡ is_full leaves seq ops.now }

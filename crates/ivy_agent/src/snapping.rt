@@ -37,8 +37,8 @@ pub struct Snapshot {
     pub posts: Posts,
 }
 
-/// The snapshot in that view of all that the engine holds, whose front that is, with its blocks behind those that are pending.
-/// The error is want of memory; it also comes where a word counts neither the posts nor the bytes of one that is new, where the
+/// The snapshot in that view of all that the engine holds, whose front that is, with its blocks after those that are pending.
+/// The error is: out of memory; it also comes where a word counts neither the posts nor the bytes of one that is new, where the
 /// newest record's vector has more than 2^31 entries, and where a list or a block of a snapshot has no room for what it would
 /// stand for.
 pub fn snapshot_of(
@@ -74,7 +74,7 @@ fn tide_of(engine: &Engine) -> Result<Option<Rank>, Memory>
     }
 }
 
-/// Those that are pending, and behind them the posts of the blocks that aren't. The error is want of memory; it also comes where
+/// Those that are pending, and after them the posts of the blocks that aren't. The error is: out of memory; it also comes where
 /// a word counts neither the posts nor the bytes of one that is new.
 fn with_blocks(alloc: Global, pending: &Posts, blocks: Vec<Block>) -> Result<Posts, Memory>
     ensures posts { IfOk result (λ posts. posts ≡ pending.now ++ posts_of_new pending.now blocks.items) }
@@ -85,7 +85,7 @@ fn with_blocks(alloc: Global, pending: &Posts, blocks: Vec<Block>) -> Result<Pos
     join_posts(pending.copy(alloc)?.into_vec(), new)
 }
 
-/// The posts of the blocks that aren't pending. The error is want of memory.
+/// The posts of the blocks that aren't pending. The error is: out of memory.
 fn new_posts(alloc: Global, pending: &[Post], blocks: Vec<Block>) -> Result<Vec<Post>, Memory>
     ensures { IfOk result (λ posts. posts.items ≡ posts_of_new pending.now blocks.items) }
 {

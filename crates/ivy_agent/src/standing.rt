@@ -20,7 +20,7 @@ use std::alloc::Global;
 use version_vectors::Vector;
 use view_blocks::View;
 
-/// The standing of one with that key in that view, which holds nothing and knows nothing. The error is want of memory.
+/// The standing of one with that key in that view, which holds nothing and knows nothing. The error is: out of memory.
 pub fn standing_without(
     alloc: Global,
     view: &View,
@@ -43,7 +43,7 @@ pub fn standing_without(
 }
 
 /// Puts into the standing what is held of its members' logs over the basis, up to the front; how far all is known; and what is
-/// pending. It owns nothing where it exits. The error is want of memory.
+/// pending. It owns nothing where it exits. The error is: out of memory.
 pub fn fill(
     alloc: Global,
     standing: &mut Standing,
@@ -76,7 +76,7 @@ fn count_beyond(base: &Vector, front: &Vector) -> usize
         .count()
 }
 
-/// Puts into the standing what is held, and how far all is known. The error is want of memory.
+/// Puts into the standing what is held, and how far all is known. The error is: out of memory.
 fn fill_fronts(
     alloc: Global,
     standing: &mut Standing,
@@ -90,14 +90,14 @@ fn fill_fronts(
     Ok(())
 }
 
-/// What is told where memory ran out for a standing, which is let go here alone.
+/// What is told where memory ran out for a standing, which is dropped here alone.
 pub fn let_go(_: Standing) -> Memory {
     Memory
 }
 
 /// What is known of the newest record of each log, ascending by log, where the records ascend and are of at most `most` logs. The
-/// view knows the logs of its members, and no record is looked at that is older than the newest ones of so many logs. The error is want of
-/// memory.
+/// view knows the logs of its members, and no record is looked at that is older than the newest ones of so many logs. The error
+/// is: out of memory.
 fn newest_edges(
     alloc: Global,
     view: &View,
@@ -123,7 +123,7 @@ fn newest_edges(
     Ok(Edges::of(edges))
 }
 
-/// Puts the record's edge in its place, where none of its log is there. The error is want of memory.
+/// Puts the record's edge in its place, where none of its log is there. The error is: out of memory.
 fn put_under(alloc: Global, view: &View, edges: &mut Vec<Edge>, held: &Record) -> Result<(), Memory>
     ensures { OnOk result (edges_of edges.new.items ≡ put_under (head_key_of held.now.owner) (as_edge (record_of held.now)) (edges_of edges.old.items)) }
 {

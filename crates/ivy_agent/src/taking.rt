@@ -34,7 +34,7 @@ use std::sync::ledger::Ledger;
 use turn_taking::{Held, Taken, take};
 use version_vectors::Vector;
 
-/// Takes the new records in, and answers the call on what is held then, whose front is given. The error is want of memory, or
+/// Takes the new records in, and answers the call on what is held then, whose front is given. The error is: out of memory, or
 /// that of [`answer`]; then the engine holds what it did, and all else is as it was.
 pub fn answer_with<K: Keeper, S: Signs + Drop, L: Ledger>(
     alloc: Global,
@@ -81,11 +81,11 @@ pub enum Refusal {
     Behind,
     /// A new record isn't above the basis.
     BelowTide,
-    /// Want of memory. No clause ties this to a cause.
+    /// Out of memory. No clause ties this to a cause.
     Memory,
 }
 
-/// What a turn takes of the batch, where it goes on from what the engine holds. The error is want of memory.
+/// What a turn takes of the batch, where it goes on from what the engine holds. The error is: out of memory.
 fn take_new<S: Signs>(
     alloc: Global,
     kept: &Kept<S>,

@@ -40,7 +40,7 @@ pub trait Turns<K: Keeper, S: Signs> {
     /// The turns that were taken with the pass and answered, in their order, where they are told.
     ghost made: { Self → Self.Pass → Option (List Made) };
 
-    /// What a session is given of the agent, which stays as it is. The error is want of memory.
+    /// What a session is given of the agent, which stays as it is. The error is: out of memory.
     fn standing<R: Wait>(
         &self,
         rt: &R,

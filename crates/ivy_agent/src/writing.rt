@@ -82,7 +82,7 @@ impl Lost {
 }
 
 /// What stands where the save fails: the call is answered with `ServerFault`, and what is held goes into the floor. The error
-/// is want of memory.
+/// is: out of memory.
 fn lose<S: Signs>(
     alloc: Global,
     kept: &Kept<S>,
@@ -103,7 +103,7 @@ fn lose<S: Signs>(
     }
 }
 
-/// What is given where a save fails. The error is want of memory.
+/// What is given where a save fails. The error is: out of memory.
 fn give_fault(
     alloc: Global,
     posts: &Posts,
@@ -123,7 +123,7 @@ fn give_fault(
     give_reply(alloc, reply, posts, front, applied)
 }
 
-/// What is given where the last call of the engine took in the records of these operations. The error is want of memory.
+/// What is given where the last call of the engine took in the records of these operations. The error is: out of memory.
 fn show<S: Signs>(
     alloc: Global,
     kept: &Kept<S>,
@@ -244,7 +244,7 @@ fn try_to_write<K: Keeper, S: Signs + Drop, L: Ledger>(
 }
 
 /// Takes the draft's records into the engine, and has the keeper save what is kept with them; where that fails, the engine is
-/// taken back, and what stands then is put in place. The error is want of memory, and then the engine holds what it did, and
+/// taken back, and what stands then is put in place. The error is: out of memory, and then the engine holds what it did, and
 /// all else is as it was.
 fn commit<K: Keeper, S: Signs + Drop, L: Ledger>(
     alloc: Global,
@@ -311,7 +311,7 @@ struct Prepared<S> {
     applied: u64,
 }
 
-/// Drafts the records of the operations, and what stands where their save fails. The error is want of memory, or that of
+/// Drafts the records of the operations, and what stands where their save fails. The error is: out of memory, or that of
 /// [`make_draft`].
 fn prepare<S: Signs + Drop>(
     alloc: Global,
@@ -354,7 +354,7 @@ fn applied_with(applied: u64, ops: &Ops) -> Result<u64, Memory>
 }
 
 /// Writes the operations over the front of what is held: their records are held, and what is kept with them is saved; or the
-/// save fails, and then nothing is written. The error is want of memory, or that of [`make_draft`], and then the engine holds
+/// save fails, and then nothing is written. The error is: out of memory, or that of [`make_draft`], and then the engine holds
 /// what it did, and all else is as it was.
 pub fn write<K: Keeper, S: Signs + Drop, L: Ledger>(
     alloc: Global,

@@ -32,14 +32,14 @@ pub struct Before {
 /// Records that were made, and the post of each.
 #[derive(Drop)]
 pub struct Written {
-    /// The records, each behind the one before it.
+    /// The records, each after the one before it.
     pub records: Vec<Record>,
     /// Their blocks, under their names.
     pub posts: Vec<Post>,
 }
 
-/// One record for each operation, made at that moment and citing these records of other logs, the first behind `before` and
-/// each behind the one before it; and their posts. The error is want of memory; it also comes where a record has no block,
+/// One record for each operation, made at that moment and citing these records of other logs, the first after `before` and
+/// each after the one before it; and their posts. The error is: out of memory; it also comes where a record has no block,
 /// as its texts are too long to be counted.
 pub fn write_records(
     alloc: Global,
@@ -68,7 +68,7 @@ pub fn write_records(
     Ok(Written { records, posts })
 }
 
-/// The records of the operations over a front, and their posts: the first one behind the front's record of the own log, and
+/// The records of the operations over a front, and their posts: the first one after the front's record of the own log, and
 /// each citing all else of the front. The error is that of [`write_records`].
 pub fn write_over(
     alloc: Global,
@@ -103,7 +103,7 @@ fn newest_of_log(front: &Vector, log: &Key) -> Before
     }
 }
 
-/// The operation's record, behind `before`, and its post.
+/// The operation's record, after `before`, and its post.
 fn write_one(
     alloc: Global,
     own: &PubKey,
@@ -148,7 +148,7 @@ pub fn newest_of(records: &[Record], posts: &[Post]) -> Option<Before>
 }
 
 /// The front with the newest record that was written in the own log, where there is one: what was written cites nothing
-/// else that the front doesn't have. The error is want of memory.
+/// else that the front doesn't have. The error is: out of memory.
 pub fn front_with(
     alloc: Global,
     front: &Vector,

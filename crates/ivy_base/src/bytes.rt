@@ -47,7 +47,7 @@ impl Bytes {
         self.bytes.as_slice()
     }
 
-    /// A copy of a slice's bytes. The error is want of memory.
+    /// A copy of a slice's bytes. The error is: out of memory.
     pub fn copy_of(alloc: Global, bytes: &[u8]) -> Result<Bytes, Memory>
         ensures { IfOk result (λ copy. copy ≡ bytes.now) }
     {
@@ -56,7 +56,7 @@ impl Bytes {
         })
     }
 
-    /// A copy of these bytes. The error is want of memory.
+    /// A copy of these bytes. The error is: out of memory.
     pub fn copy(&self, alloc: Global) -> Result<Bytes, Memory>
         ensures { IfOk result (λ copy. copy ≡ self.now) }
     {

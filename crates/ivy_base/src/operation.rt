@@ -131,7 +131,7 @@ impl Drop for Op {
 }
 
 impl Op {
-    /// A copy of this operation and of its bytes. The error is want of memory.
+    /// A copy of this operation and of its bytes. The error is: out of memory.
     pub fn copy(&self, alloc: Global) -> Result<Op, Memory>
         ensures { IfOk result (λ copy. copy ≡ self.now) }
     {

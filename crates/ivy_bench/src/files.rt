@@ -15,7 +15,7 @@ const PIECE: u64 = 8192;
 /// How many pieces the longest file has.
 const MOST_PIECES: u64 = 2048;
 
-/// The piece that is written behind this one: the next one, or one in an order that seems to have no pattern and comes to
+/// The piece that is written after this one: the next one, or one in an order that seems to have no pattern and comes to
 /// each of 2,048 once (a linear congruence of full period).
 fn next_piece(piece: u64, shuffled: bool) -> u64 {
     let piece = piece % MOST_PIECES;
@@ -26,7 +26,7 @@ fn next_piece(piece: u64, shuffled: bool) -> u64 {
     }
 }
 
-/// A file, and the piece that is written next, one behind the other or shuffled.
+/// A file, and the piece that is written next, one after the other or shuffled.
 struct Pieces {
     replay: Replay,
     piece: u64,

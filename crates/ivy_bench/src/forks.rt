@@ -34,7 +34,7 @@ struct Log {
     blocks: Vec<Bytes>,
 }
 
-/// What the record of that number does: the first one ends a log, and each other one writes. The error is want of memory.
+/// What the record of that number does: the first one ends a log, and each other one writes. The error is: out of memory.
 fn operation(alloc: Global, seq: u32) -> Result<Op, Memory> {
     if seq <= 1 {
         return Ok(Op::End);
@@ -46,7 +46,7 @@ fn operation(alloc: Global, seq: u32) -> Result<Op, Memory> {
     })
 }
 
-/// The block of the record of that number behind the one of that name, made at that second. None where memory is short.
+/// The block of the record of that number after the one of that name, made at that second. None where memory is short.
 fn block_of(alloc: Global, owner: PubKey, seq: u32, prev: Key, sec: u32) -> Option<Bytes> {
     let record = Record {
         owner,
@@ -69,7 +69,7 @@ fn head_of(alloc: Global, key: &mut Hss, newest: &Judged) -> Option<Bytes> {
     head.write(alloc).ok()
 }
 
-/// Goes on by one record behind that one, which is made at that second, and by a head over it.
+/// Goes on by one record after that one, which is made at that second, and by a head over it.
 fn grow(alloc: Global, log: &mut Log, from: &Judged, sec: u32) -> Option<Judged> {
     let seq = from.seq.saturating_add(1);
     let block = block_of(alloc, log.key.owner(), seq, from.name, sec)?;
@@ -84,7 +84,7 @@ fn grow(alloc: Global, log: &mut Log, from: &Judged, sec: u32) -> Option<Judged>
     Some(newest)
 }
 
-/// Goes on by so many records behind that one.
+/// Goes on by so many records after that one.
 fn grow_by(alloc: Global, log: &mut Log, from: &Judged, count: u32, sec: u32) -> Option<Judged> {
     let mut newest = *from;
     for _ in 0..count {

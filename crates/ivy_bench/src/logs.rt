@@ -73,7 +73,7 @@ fn cited(alloc: Global, logs: &[Log], citing: &Log, cites: bool) -> Result<Vecto
     Ok(vector)
 }
 
-/// Writes the log's next record: the first one opens the log, and each other one cancels it. The error is want of memory.
+/// Writes the log's next record: the first one opens the log, and each other one cancels it. The error is: out of memory.
 fn write(alloc: Global, log: &mut Log, vector: Vector) -> Result<(), Memory> {
     let seq = log.newest.seq.saturating_add(1);
     let record = Record {
@@ -105,7 +105,7 @@ fn write_each(alloc: Global, logs: &mut [Log], cites: bool) -> Result<(), Memory
     Ok(())
 }
 
-/// That many logs with that many records each, written in turn. Where the records cite, each behind a log's first one
+/// That many logs with that many records each, written in turn. Where the records cite, each after a log's first one
 /// cites the newest record of each other log.
 pub fn logs_of(alloc: Global, count: u8, len: u32, cites: bool) -> Result<Vec<Log>, Memory> {
     let mut logs = empty_logs(alloc, count)?;

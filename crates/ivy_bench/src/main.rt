@@ -22,14 +22,14 @@
 //! - `trees create N DIRS`: N directories are made and named, in turn in so many directories
 //! - `trees rename N DEPTH`: a directory with an entry is moved N times between two directories at that depth
 //! - `trees copy N TIMES`: a tree of N directories is copied so many times; its making isn't in the time
-//! - `files ordered N`, `files shuffled N`: N pieces of 8,192 bytes are written into a file of 2,048, one behind the other, and
+//! - `files ordered N`, `files shuffled N`: N pieces of 8,192 bytes are written into a file of 2,048, one after the other, and
 //!   in an order without a pattern
 //!
 //! The largest causally closed part of logs that were fetched, where nothing is held. Neither the making of the records nor
 //! that of the batch is in the time:
 //!
 //! - `order concurrent LOGS RECORDS`: of that many logs with that many records each, none of which cites another log
-//! - `order chain LOGS RECORDS`: the same, but each record behind a log's first cites the newest one of each other log
+//! - `order chain LOGS RECORDS`: the same, but each record after a log's first cites the newest one of each other log
 //!
 //! The search for a fork, among the heads over each of N records of some 2,460 bytes. Making these isn't in the time:
 //!

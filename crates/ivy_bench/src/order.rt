@@ -2,7 +2,7 @@
 
 ghost use Rattle.std.specs.Prelude.{[], IfSome};
 ghost use Rattle.std.specs.List.{AllByRecursion};
-ghost use Rattle.causal_order.specs.AtHand.{IsFetched};
+ghost use Rattle.causal_order.specs.Available.{IsFetched};
 
 use crate::gather::{batch_of, part_of};
 use crate::logs::{logs_of, view_of};

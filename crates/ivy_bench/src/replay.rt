@@ -9,7 +9,7 @@ use std::alloc::Global;
 
 const NOW: Moment = Moment { sec: 1, nsec: 0 };
 
-/// A tree as records are replayed on it, and whether all were taken: want of memory is asked for once.
+/// A tree as records are replayed on it, and whether all were taken: running out of memory is asked for once.
 pub struct Replay {
     pub alloc: Global,
     pub tree: Tree,

@@ -48,7 +48,7 @@ denied : status_in (codes "reply 00000001000000010000000100000000000000020000000
 unfolding status_in hex_on_literals
 denied = refl
 
--- PROG_MISMATCH has two words behind it, and no results
+-- PROG_MISMATCH has two words after it, and no results
 other_version : status_in (codes "reply 0000000100000001000000000000000000000000000000020000000300000003") ≡ None
 unfolding status_in hex_on_literals
 other_version = refl

@@ -12,7 +12,7 @@ use Rattle.script_driver.specs.Run.{Ran}
 use Rattle.script_driver.specs.Told.{ran_of}
 use Rattle.fork_proof.specs.declared.checking.Forked.{Forked}
 use Rattle.fork_proof.specs.Checks.{ShowsFork, forked_of}
-use Rattle.fork_proof.proofs.OneProof.{proofs_are_one}
+use Rattle.fork_proof.proofs.OneProof.{proofs_are_unambiguous}
 use Rattle.ivy_cli.specs.Forks.{forked_text, Judges, Tells}
 use Rattle.ivy_cli.specs.ForkLaws.{ForksAreJudgedAlike, WrittenDigitsAreRead}
 use Rattle.ivy_cli.specs.ProofLines.{are_digits, bytes_of, digits_of, most_digits}
@@ -21,7 +21,7 @@ use Rattle.ivy_cli.specs.ProofLines.{are_digits, bytes_of, digits_of, most_digit
 
 -- bytes show one fork at most
 one_fork : (bytes : List ℕ) (one other : Forked) → ShowsFork bytes one → ShowsFork bytes other → one ≡ other
-one_fork bytes one other a b = a.fork ∙ ap forked_of (proofs_are_one bytes a.proof b.proof a.is b.is) ∙ sym b.fork
+one_fork bytes one other a b = a.fork ∙ ap forked_of (proofs_are_unambiguous bytes a.proof b.proof a.is b.is) ∙ sym b.fork
 
 told_alike : (bytes one other : List ℕ) → Tells bytes one → Tells bytes other → one ≡ other
 told_alike bytes one other (inl a) (inl b) = a.2 ∙ ap forked_text (one_fork bytes a.0 b.0 a.1 b.1) ∙ sym b.2
@@ -67,7 +67,7 @@ digits_alone (byte ∷ rest) lower =
     let open_end : ends_with nat_eq (byte ∷ rest) (10 ∷ []) ≡ false = rw size (last_is_no_newline byte rest lower) in
     rw open_end refl
 
--- digits with a newline behind them
+-- digits with a newline after them
 digits_on_line : (digits : List ℕ) → digits_of (digits ++ 10 ∷ []) ≡ digits
 digits_on_line digits =
     let size : length digits ≡ length (digits ++ 10 ∷ []) - 1 = omega (arith, length-append digits (10 ∷ [])) in

@@ -172,7 +172,7 @@ module _ (status : ℕ) (before after : Streams) (takes : TakesUpTo most_read be
     writes = omega (arith, writes);
   }
 
-  -- memory was wanting before anything was told
+  -- memory ran out before anything was reported
   pub lacked : status ≡ 6 → after.held ≡ before.held → after.writes ≡ before.writes → IsFork status before after
   lacked six held writes = record {
     statuses = inr (inr (inr (inr six)));

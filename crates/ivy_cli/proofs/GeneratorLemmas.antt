@@ -73,7 +73,7 @@ pub no_calls : (seed : ℕ) (text nothing front : List ℕ) → nothing ≡ []
 unfolding opening call_lines
 no_calls seed text nothing front empty is put = put ∙ ap (λ n. n ++ front) empty ∙ is
 
--- the last line behind all calls
+-- the last line after all calls
 pub all_calls : (seed i calls : ℕ) (text last whole : List ℕ) → text ≡ script_before seed i → i ≡ calls → last ≡ codes "end\n" → whole ≡ text ++ last → whole ≡ script_of seed calls
 all_calls seed i calls text last whole before done is put =
     put ∙ ap (λ l. text ++ l) is ∙ ap (λ t. t ++ codes "end\n") (before ∙ ap (script_before seed) done)

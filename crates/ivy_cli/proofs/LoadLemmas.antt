@@ -95,7 +95,7 @@ module _ {seed calls : ℕ} {summary : List ℕ} (given : GivesSummary seed call
       failed
       later
 
--- ---- nothing is told
+-- ---- nothing is reported
 
 pub nothing_told : {seed calls status : ℕ} (held : Option (List ℕ)) (faults : ℕ) → GivesNone seed calls status → IsLoad seed calls status held held faults faults
 nothing_told {seed} {calls} {status} held faults given = record {
@@ -127,7 +127,7 @@ never rose = omega (arith, rose)
 some_is : {a b : List ℕ} → Some a ≡ Some b → a ≡ b
 some_is e = cc e
 
--- what was told behind nothing is all that is held
+-- what was reported after nothing is all that is held
 all_held : (before text told : List ℕ) → before ≡ [] → Some text ≡ then (Some before) told → text ≡ told
 all_held before text told empty sink = some_is sink ∙ ap (λ b. b ++ told) empty
 
@@ -182,8 +182,8 @@ gives_none seed calls status source before text is empty other statuses refused 
   ];
 }
 
-pub memory_wanting : (seed calls status : ℕ) → status ≡ 6 → GivesNone seed calls status
-memory_wanting seed calls status six = record {
+pub out_of_memory : (seed calls status : ℕ) → status ≡ 6 → GivesNone seed calls status
+out_of_memory seed calls status six = record {
   statuses = inr (inl six);
   refused = λ three. absurd (omega (arith, six, three));
   limited = λ seven. absurd (omega (arith, six, seven));

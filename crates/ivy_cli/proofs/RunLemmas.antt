@@ -43,7 +43,7 @@ pub part_of_line : (line bytes : List ℕ) (held holds : Option (List ℕ)) → 
     → (k : ℕ) × (k ≤ length line) × (holds ≡ then held (take k line))
 part_of_line line bytes held holds same part = (part.0, omega (arith, part.1, ap length same), part.2 ∙ ap (λ (b : List ℕ). then held (take part.0 b)) same)
 
--- memory was wanting before anything was told
+-- memory ran out before anything was reported
 untold_usage : (streams : Streams) → IsUsage 6 streams streams
 untold_usage streams = record {
   ends = inr refl;
@@ -90,7 +90,7 @@ goes_as kind port name own grown signer before status after named is goes =
     subst (λ (s : Signer). Goes kind (record { port = port; name = own; signer = s }) before status after) is
     (subst (λ (n : List ℕ). Goes kind (record { port = port; name = n; signer = grown }) before status after) named goes)
 
--- memory was wanting, and nothing was touched
+-- memory ran out, and nothing was touched
 pub goes_nowhere : {P Ks K Q W C : Type 0} (kind : ServiceKind P Ks K Q W C) (wanted : ServiceAsked) (around : Around P) (keepers : Ks) (clock : C)
     → Goes kind wanted (record { around = around; keepers = keepers; clock = clock }) 6 (record { around = around; keepers = keepers; clock = clock })
 goes_nowhere kind wanted around keepers clock = no_keeper refusal.Memory refl
@@ -218,7 +218,7 @@ module _ {P Ks K Q W C : Type 0} (kind : ServiceKind P Ks K Q W C) (words found 
   does_usage none usage left reads clock ports keepers = subst (λ (o : Option Asked). Does kind o status before after) (sym none ∙ read)
       (record { left = left; reads = reads }, usage, record { clock = clock; others = record { ports = ports; keepers = keepers } })
 
--- memory was wanting for the words
+-- memory ran out for the words
 lacks : {P Ks K Q W C : Type 0} (kind : ServiceKind P Ks K Q W C) (found : Option Asked) (outside : Outside P Ks C) → IsOfService found → Does kind found 6 outside outside
 unfolding Does
 lacks kind (Some asked.Play) outside is = absurd is

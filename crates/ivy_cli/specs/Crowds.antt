@@ -22,11 +22,11 @@ pub record IsTold {C : Type 0} (asked : Asked C) (text : List ℕ) : Type 0 wher
 -- a crowd ended with this status, and left the sink and its count of faults so
 pub record IsCrowd {C : Type 0} (asked : Asked C) (status : ℕ) (held holds : Option (List ℕ)) (wrote writes : ℕ) : Type 0 where
   pub statuses : (status ≡ 0) ⊎ (status ≡ 5) ⊎ (status ≡ 6)
-  -- 0: all lines were told
+  -- 0: all lines were reported
   pub ended : status ≡ 0 → (text : List ℕ) × IsTold asked text × (holds ≡ then held text)
   -- 5: only where the sink's count rose
   pub write_fault : status ≡ 5 → Rose wrote writes
-  -- 5 and 6: nothing was told, or less than all lines
+  -- 5 and 6: nothing was reported, or less than all lines
   pub less : status ≢ 0 → (holds ≡ held)
       ⊎ ((text : List ℕ) × IsTold asked text × (k : ℕ) × (k < length text) × (holds ≡ then held (take k text)))
   pub later : wrote ≤ writes

@@ -45,15 +45,15 @@ pub record IsFork (status : ℕ) (before after : Streams) : Type 0 where
   pub ended : status ≡ 0 → TellsAll Ended (fork_runs before.left) before.held after.held
   -- 3: the input is no such line, and that was told
   pub refused : status ≡ 3 → TellsAll (RefusedAt 1) (fork_runs before.left) before.held after.held
-  -- 4: only where the source's count rose, and then nothing was told
+  -- 4: only where the source's count rose, and then nothing was reported
   pub read_fault : status ≡ 4 → Rose before.reads after.reads
   pub untold : status ≡ 4 → after.held ≡ before.held
-  -- 5: only where the sink's count rose, and then less than all was told
+  -- 5: only where the sink's count rose, and then less than all was reported
   pub write_fault : status ≡ 5 → Rose before.writes after.writes
   pub less : status ≡ 5 → TellsLess (fork_runs before.left) before.held after.held
-  -- in each case nothing was told, or a front of what is to be told
+  -- in each case nothing was reported, or a front of what is to be told
   pub front : (after.held ≡ before.held) ⊎ TellsFront (fork_runs before.left) before.held after.held
-  -- where no count rose, all was told, or memory was wanting
+  -- where no count rose, all was reported, or memory ran out
   pub complete : ¬ Rose before.reads after.reads → ¬ Rose before.writes after.writes
       → ((ran : Ran) × fork_runs before.left ran × (status ≡ status_of ran.ending) × (after.held ≡ then before.held ran.text))
       ⊎ (status ≡ 6)

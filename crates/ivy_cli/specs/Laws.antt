@@ -2,15 +2,16 @@
 use Rattle.std.specs.Prelude.{◌≡◌, ℕ, ◌<◌, ◌^◌, List, ◌++◌, codes, Some, None}
 use Rattle.hex.specs.Hex.{encode_lower}
 use Rattle.wire_model.specs.Xdr.{word}
-use Rattle.wire_model.specs.Rpc.{Outcome, Success, ProgramUnavailable, ProgramMismatch, ProcedureUnavailable, GarbageArguments, SystemError}
+use Rattle.wire_model.specs.Rpc.{CallOutcome, Success, ProgramUnavailable, ProgramMismatch, ProcedureUnavailable, GarbageArguments}
+use Rattle.wire_model.specs.Rpc.{SystemError}
 use Rattle.wire_model.specs.Rpc.{RpcMismatch, BadCredential, reply}
 use Rattle.ivy_cli.specs.Summary.{status_in}
 
 -- the line that shows the reply to a call
-abbrev pub reply_line : ℕ → Outcome → List ℕ
+abbrev pub reply_line : ℕ → CallOutcome → List ℕ
 reply_line xid outcome = codes "reply " ++ encode_lower (reply xid outcome)
 
--- the line of a call that was served shows the status that its results begin with, whatever is behind it
+-- the line of a call that was served shows the status that its results begin with, whatever is after it
 abbrev pub ServedCallsShowStatus : Type 0
 ServedCallsShowStatus = (xid status : ℕ) (rest : List ℕ) → status < 2 ^ 32
     → status_in (reply_line xid (Success (word status ++ rest))) ≡ Some status

@@ -23,15 +23,15 @@ told_run calls ran = record { text = told_of calls ran.text ran.ending; ending =
 abbrev pub load_runs : ℕ → ℕ → Ran → Type 0
 load_runs seed calls told = (ran : Ran) × ivy_runs (Some (script_of seed calls)) ran × (told ≡ told_run calls ran)
 
--- The status and what was told are those of a run in which memory is always there, or which comes to a line where it was wanting
--- for a call, or where names clash; or memory was wanting to the player.
+-- The status and what was reported are those of a run in which memory is always there, or which comes to a line where it ran out for a
+-- call, or where names clash; or the player ran out of memory.
 abbrev pub IsLoaded : ℕ → ℕ → ℕ → Option (List ℕ) → Option (List ℕ) → Type 0
 IsLoaded seed calls status held holds =
     ((ran : Ran) × IsFullOrTells (script_of seed calls) ran × (status ≡ status_of ran.ending)
     × (holds ≡ then held (told_of calls ran.text ran.ending)))
     ⊎ (status ≡ 6)
 
--- what comes before anything is told: the summary of the text that a run shows which ends by its line `end`
+-- what comes before anything is reported: the summary of the text that a run shows which ends by its line `end`
 pub record GivesSummary (seed calls : ℕ) (summary : List ℕ) : Type 0 where
   pub text : List ℕ
   pub run : ivy_runs (Some (script_of seed calls)) (ran_of text Ended)
@@ -50,13 +50,13 @@ pub record IsLoad (seed calls status : ℕ) (held holds : Option (List ℕ)) (wr
   pub statuses : (status ≡ 0) ⊎ (status ≡ 3) ⊎ (status ≡ 5) ⊎ (status ≡ 6) ⊎ (status ≡ 7)
   -- 0: the script was played to its line `end`, and the summary of all that it showed was told
   pub ended : status ≡ 0 → TellsAll Ended (load_runs seed calls) held holds
-  -- 3 and 7: a line was refused, or met a limit, and nothing was told
+  -- 3 and 7: a line was refused, or met a limit, and nothing was reported
   pub refused : status ≡ 3 → (n : ℕ) × TellsAll (RefusedAt n) (load_runs seed calls) held holds
   pub limited : status ≡ 7 → (n : ℕ) × TellsAll (LimitAt n) (load_runs seed calls) held holds
-  -- 5: only where the sink's count rose, and then less than a summary was told
+  -- 5: only where the sink's count rose, and then less than a summary was reported
   pub write_fault : status ≡ 5 → Rose wrote writes
   pub less : status ≡ 5 → TellsLess (load_runs seed calls) held holds
-  -- in each case nothing was told, or a front of a summary
+  -- in each case nothing was reported, or a front of a summary
   pub front : (holds ≡ held) ⊎ TellsFront (load_runs seed calls) held holds
   pub complete : ¬ Rose wrote writes → IsLoaded seed calls status held holds
   pub later : wrote ≤ writes

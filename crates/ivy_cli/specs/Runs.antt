@@ -6,7 +6,7 @@ use Rattle.script_driver.specs.Run.{Ran, Ending, Ended, RefusedAt, LimitAt}
 use Rattle.script_driver.specs.Told.{TellsAll, TellsFront, TellsLess, StopsShort}
 use Rattle.stage_laws.specs.Promise.{PromisedStep}
 use Rattle.world_model.specs.Logs.{fresh_signer}
-use Rattle.ivy_play.specs.Playing.{beginning, ivy_runs, IsPlayed, RunsFully}
+use Rattle.ivy_play.specs.Playing.{initial_world, ivy_runs, IsPlayed, RunsFully}
 use Rattle.ivy_play.specs.Status.{status_of}
 use Rattle.ivy_service.specs.Service.{Goes, ServiceAsked, ServiceKind}
 use Rattle.ivy_service.specs.Service as service
@@ -55,7 +55,7 @@ pub record IsPlay (status : ℕ) (before after : Streams) : Type 0 where
   pub write_fault : status ≡ 5 → Rose before.writes after.writes
   pub front : TellsFront (ivy_runs before.left) before.held after.held
   pub less : status ≡ 5 → TellsLess (ivy_runs before.left) before.held after.held
-  pub waits : status ≡ 4 → StopsShort PromisedStep beginning before.left after.left before.held after.held
+  pub waits : status ≡ 4 → StopsShort PromisedStep initial_world before.left after.left before.held after.held
   pub alike : (ending : Ending) → ((ran : Ran) → ivy_runs before.left ran → ran.ending ≡ ending)
       → ¬ Rose before.reads after.reads → ¬ Rose before.writes after.writes → (status ≡ status_of ending) ⊎ (status ≡ 6)
   pub fully : IfSome before.left RunsFully
@@ -92,7 +92,7 @@ module _ {P Ks K Q W C : Type 0} (kind : ServiceKind P Ks K Q W C) where
 
   -- ---- all forms
 
-  -- What comes of what the words ask for. A service for whose words or key memory was wanting is one that got no keeper for want of it.
+  -- What comes of what the words ask for. A service for whose words or key memory ran out is one that got no keeper for that reason.
   unfoldable pub Does : Option Asked → ℕ → Outside P Ks C → Outside P Ks C → Type 0
   Does (Some asked.Play) status before after = IsPlay status before.streams after.streams × AreAllUntouched before after
   Does (Some (asked.Load seed calls)) status before after =
@@ -110,7 +110,7 @@ module _ {P Ks K Q W C : Type 0} (kind : ServiceKind P Ks K Q W C) where
   Does None status before after = IsUnread before.streams after.streams × IsUsage status before.streams after.streams
       × AreAllUntouched before after
 
--- a crowd or a service ended with 0, or for want of memory
+-- a crowd or a service ended with 0, or because memory ran out
 abbrev pub EndsWell : Option Asked → ℕ → Type 0
 EndsWell (Some (asked.Crowd threads calls)) status = (status ≡ 0) ⊎ (status ≡ 6)
 EndsWell (Some (asked.Serve port participant)) status = (status ≡ 0) ⊎ (status ≡ 6)

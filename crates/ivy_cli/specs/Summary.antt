@@ -21,7 +21,7 @@ success = word 1 ++ word 0 ++ word 0 ++ word 0 ++ word 0
 abbrev pub front_of : List ℕ → Option (List ℕ)
 front_of line = if starts_with nat_eq line (codes "reply ") then result_ok (decode_sized (take 56 (drop 6 line)) 28) else None
 
--- the status behind the head: the results of NFS begin with it (RFC 1813, section 2.6)
+-- the status after the head: the results of NFS begin with it (RFC 1813, section 2.6)
 abbrev pub status_of : List ℕ → Option ℕ
 status_of front = if bytes_eq (take 20 (drop 4 front)) success then Some (from_be_bytes w32 (drop 24 front)) else None
 

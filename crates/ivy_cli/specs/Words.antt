@@ -11,7 +11,7 @@ use Rattle.ivy_cli.specs.declared.words.Asked.{Asked}
 use Rattle.ivy_cli.specs.declared.words.Asked.TheVariants as asked
 use Rattle.ivy_cli.specs.declared.words.Participant.{Participant}
 
--- ---- each form, of the words behind its first
+-- ---- each form, of the words after its first
 
 abbrev pub play_of : List (List ℕ) → Option Asked
 play_of [] = Some asked.Play

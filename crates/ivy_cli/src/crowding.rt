@@ -15,12 +15,13 @@ use std::alloc::Global;
 use std::sync::Wait;
 use std::thread::Threads;
 
-/// The status of a program for which memory was wanting.
+/// The status of a program for which memory ran out.
 const STATUS_MEMORY: Status = 6;
 
 /// Has so many threads of one participant create so many files each over a live ring, and tells the sink what they came to.
 ///
-/// The status is 0 where all lines were told, 5 where the sink failed, and 6 for want of memory, which nothing ties to a cause.
+/// The status is 0 where all lines were reported, 5 where the sink failed, and 6 when out of memory, which nothing ties to a
+/// cause.
 pub(crate) fn tell_crowd<R: Threads + Wait + Sync, W: Sink, C: Clock>(
     rt: &R,
     alloc: Global,
@@ -39,7 +40,7 @@ pub(crate) fn tell_crowd<R: Threads + Wait + Sync, W: Sink, C: Clock>(
     }
 }
 
-/// The lines of what so many threads with so many calls each came to. The error is want of memory.
+/// The lines of what so many threads with so many calls each came to. The error is: out of memory.
 fn tally_of<R: Threads + Wait + Sync, C: Clock>(
     rt: &R,
     alloc: Global,
@@ -54,7 +55,7 @@ fn tally_of<R: Threads + Wait + Sync, C: Clock>(
     spell(alloc, &tally)
 }
 
-/// The four lines of a tally. The error is want of memory.
+/// The four lines of a tally. The error is: out of memory.
 fn spell(alloc: Global, tally: &Tally) -> Result<Bytes, Memory>
     ensures { IfOk result (λ text. text ≡ tally_text tally.now) }
 {

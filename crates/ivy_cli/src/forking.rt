@@ -35,15 +35,15 @@ const STATUS_READ: Status = 4;
 /// The status of a program whose writing failed.
 const STATUS_WRITE: Status = 5;
 
-/// The status of a program for which memory was wanting.
+/// The status of a program for which memory ran out.
 const STATUS_MEMORY: Status = 6;
 
 /// Tells the sink which fork a proof shows, whose bytes come from the source as hexadecimal digits.
 ///
 /// The input is one line of 2 to 33,554,432 lower-case digits, and their number is even. Its newline may lack, and nothing
-/// comes after it. Status 0: `forked KEY M N` was told, with the log's head key and the numbers of the two heads, or
-/// `no proof`. Status 3: the input is no such line, and `refused 1` was told. Status 4 comes only if the source's count of
-/// faults rose, and 5 only if the sink's did. Status 6 is want of memory.
+/// comes after it. Status 0: `forked KEY M N` was told, with the log's head key and the numbers of the two heads, or `no
+/// proof`. Status 3: the input is no such line, and `refused 1` was told. Status 4 comes only if the source's count of
+/// faults rose, and 5 only if the sink's did. Status 6 means out of memory.
 pub fn fork<Q: Source, W: Sink>(alloc: Global, source: &mut Q, sink: &mut W) -> Status
     ensures { IsFork result
         (record { left = Q.left source.old; held = W.contents sink.old; reads = Q.faults source.old; writes = W.faults sink.old })
@@ -69,7 +69,7 @@ fn read_told<Q: Source>(alloc: Global, source: &mut Q) -> Result<Option<Bytes>, 
     Ok(told_of(alloc, input.as_slice())?)
 }
 
-/// What is to be told of an input, if it is a line of digits. The error is want of memory.
+/// What is to be told of an input, if it is a line of digits. The error is: out of memory.
 fn told_of(alloc: Global, input: &[u8]) -> Result<Option<Bytes>, Memory>
     ensures { IfOk result (λ text. Judges (bytes_of input.now) (run_told text)) }
 {
@@ -79,7 +79,7 @@ fn told_of(alloc: Global, input: &[u8]) -> Result<Option<Bytes>, Memory>
     }
 }
 
-/// What these bytes show of a fork. The error is want of memory.
+/// What these bytes show of a fork. The error is: out of memory.
 fn shown_by(alloc: Global, bytes: &[u8]) -> Result<Bytes, Memory>
     ensures { IfOk result (Tells bytes.now) }
 {
@@ -92,7 +92,7 @@ fn shown_by(alloc: Global, bytes: &[u8]) -> Result<Bytes, Memory>
     }
 }
 
-/// Tells want of memory from the faults by which bytes show no fork.
+/// Tells running out of memory from the faults by which bytes show no fork.
 fn shows_none(fault: ProofFault) -> Result<(), Memory>
     ensures { OnOk result (fault ≢ ProofFault.Memory) }
 {
@@ -105,7 +105,7 @@ fn shows_none(fault: ProofFault) -> Result<(), Memory>
     }
 }
 
-/// The line of a fork. The error is want of memory.
+/// The line of a fork. The error is: out of memory.
 fn spell(alloc: Global, forked: &Forked) -> Result<Bytes, Memory>
     ensures { IfOk result (λ text. text ≡ forked_text forked.now) }
 {

@@ -4,7 +4,7 @@ ghost use Rattle.ivy_cli.specs.ForkLaws.{ForksAreJudgedAlike, WrittenDigitsAreRe
 ghost use Rattle.ivy_cli.specs.Laws.{ServedCallsShowStatus, RefusedCallsShowNone};
 
 /// A law and no code: the line of the reply to a call that was served shows the status that its results begin with, and that of a
-/// call that was refused, as for want of memory (SYSTEM_ERR), shows none (RFC 5531, section 9).
+/// call that was refused, as when out of memory (SYSTEM_ERR), shows none (RFC 5531, section 9).
 pub fn lines_show_statuses()
     ensures served { ServedCallsShowStatus }
     ensures refused { RefusedCallsShowNone }
@@ -15,7 +15,7 @@ pub fn forks_are_judged_alike()
     ensures { ForksAreJudgedAlike }
 {}
 
-/// A law and no code: the digits that are written of some bytes are read as these bytes, with a newline behind them and without
+/// A law and no code: the digits that are written of some bytes are read as these bytes, with a newline after them and without
 /// one.
 pub fn written_digits_are_read()
     ensures { WrittenDigitsAreRead }

@@ -25,10 +25,10 @@
 //! What a form doesn't use stays as it was, which `Does` says form by form: the source is read by `play` and
 //! `fork` alone, the clock is asked by `crowd` and `serve`, and the ports and the keepers are used by `serve` alone.
 //!
-//! `crowd` and `serve` start threads and wait for them. So no clause says that [`run`] returns: its contract is
-//! of a call that does. What it calls for `play`, `load` and `fork` has no bound that would let it wait.
-//! Reading the words takes memory for the form `serve` alone, and so does growing its key. If it is wanting
-//! there, the status is 6 and nothing outside was touched.
+//! `crowd` and `serve` start threads and wait for them. So no clause says that [`run`] returns: its contract is of a
+//! call that does. What it calls for `play`, `load` and `fork` has no bound that would let it wait. Reading the
+//! words takes memory for the form `serve` alone, and so does growing its key. If it runs out there, the status is 6
+//! and nothing outside was touched.
 //!
 //! Within:
 //! - [`generate`] gives exactly the script of a seed and a number of calls. The definition says it line by

@@ -19,13 +19,13 @@ const STATUS_ENDED: Status = 0;
 /// The status of a program whose writing failed.
 const STATUS_WRITE: Status = 5;
 
-/// The status of a program for which memory was wanting.
+/// The status of a program for which memory ran out.
 const STATUS_MEMORY: Status = 6;
 
 /// Plays the script that is generated of a seed, with so many calls, and tells the sink the summary of what it showed.
 ///
-/// Nothing is told where the script isn't played to its line `end`; the status is then that of its play. The script comes
-/// from memory and what it shows stays there, so status 4 never comes, and 5 only of this sink.
+/// Nothing is reported where the script isn't played to its line `end`; the status is then that of its play. The script
+/// comes from memory and what it shows stays there, so status 4 never comes, and 5 only of this sink.
 pub fn load<W: Sink>(alloc: Global, seed: u64, calls: u32, sink: &mut W) -> Status
     ensures { IsLoad seed calls result (W.contents sink.old) (W.contents sink.new) (W.faults sink.old) (W.faults sink.new) }
 {

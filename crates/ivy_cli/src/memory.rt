@@ -1,4 +1,5 @@
-//! A source and a sink in memory that never fail: between them nothing keeps a script from its end but want of memory.
+//! A source and a sink in memory that never fail: between them nothing keeps a script from its end but running out of
+//! memory.
 
 ghost use Rattle.std.specs.Prelude.{◌≡◌, ℕ, List, [], Some};
 ghost use Rattle.std.specs.Io.{ReadsAtMost, WritesAtMost};

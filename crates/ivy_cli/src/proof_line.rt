@@ -21,7 +21,8 @@ const MOST_READ: usize = MOST_DIGITS + 2;
 /// How many bytes a read asks for at most.
 const CHUNK: usize = 4_096;
 
-/// All that the source has left, or more than a line has. `Read` comes only where a read failed, and `Memory` is want of memory.
+/// All that the source has left, or more than a line has. `Read` comes only where a read failed, and `Memory` means out of
+/// memory.
 pub fn read_input<Q: Source>(alloc: Global, source: &mut Q) -> Result<Vec<u8>, Fault>
     ensures ok { IfOk result (λ input. IsInput input.items (Q.left source.old) (Q.left source.new)) }
     ensures takes { TakesUpTo most_read (Q.left source.old) (Q.left source.new) }
@@ -60,7 +61,7 @@ fn fill<Q: Source>(input: &mut Vec<u8>, source: &mut Q) -> Result<bool, Fault>
     Ok(true)
 }
 
-/// Puts these bytes behind an input. The error is want of memory.
+/// Puts these bytes after an input. The error is: out of memory.
 fn append(input: &mut Vec<u8>, bytes: &[u8]) -> Result<(), Memory>
     ensures { OnOk result (input.new.items ≡ input.old.items ++ bytes.now) }
 {
@@ -68,7 +69,7 @@ fn append(input: &mut Vec<u8>, bytes: &[u8]) -> Result<(), Memory>
     Ok(())
 }
 
-/// The bytes that an input is, if it is one line of digits and nothing else. The error is want of memory.
+/// The bytes that an input is, if it is one line of digits and nothing else. The error is: out of memory.
 pub fn bytes_of(alloc: Global, input: &[u8]) -> Result<Option<Bytes>, Memory>
     ensures { IfOk result (λ bytes. bytes ≡ bytes_of input.now) }
 {

@@ -30,14 +30,13 @@ const USAGE: &[u8; 88] =
 /// The status of a program that was called by other words.
 const STATUS_USAGE: Status = 2;
 
-/// The status of a program for which memory was wanting.
+/// The status of a program for which memory ran out.
 const STATUS_MEMORY: Status = 6;
 
-/// Does what the words behind the program's name ask for. `play` plays the script of the source, and `load SEED CALLS` a
+/// Does what the words after the program's name ask for. `play` plays the script of the source, and `load SEED CALLS` a
 /// generated one. `crowd T CALLS` has threads of one participant create files. `serve PORT NAME ID SEED SETS` serves a
-/// participant until the ports end or fail. `fork` checks the fork proof that the source has in digits, as [`fork`] does.
-/// Status 2 comes exactly where the words are of no such form, and then the sink is told the usage line. Status 6 is want of
-/// memory.
+/// participant until the ports end or fail. `fork` checks the fork proof that the source has in digits, as [`fork`] does. Status
+/// 2 comes exactly where the words are of no such form, and then the sink is told the usage line. Status 6 means out of memory.
 ///
 /// The runtime is for `crowd` and `serve` alone, which start threads and wait for them. No clause says that these return. The
 /// clock is used by both, the ports and the keepers by `serve` alone, and the source by `play` and `fork` alone: what isn't used
@@ -70,7 +69,7 @@ pub fn run<R: Threads + Wait + Sync, Q: Source, W: Sink, C: Clock, P: Ports + Se
         }) }
     ensures usage { result ≡ 2 → asked_of (map (λ word. string_bytes word) words.now) ≡ None }
 
-    // Where no count of faults rises, a crowd or a service ends with 0, or memory was wanting.
+    // Where no count of faults rises, a crowd or a service ends with 0, or memory ran out.
     ensures complete { ¬ Rose (W.faults sink.old) (W.faults sink.new) → ¬ Rose (P.faults ports.old) (P.faults ports.new)
         → ¬ Rose (K.faults keepers.old) (K.faults keepers.new) → EndsWell (asked_of (map (λ word. string_bytes word) words.now)) result }
 {

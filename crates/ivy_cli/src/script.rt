@@ -21,7 +21,7 @@ use b v
 use c v
 ";
 
-/// The script of that seed and of so many calls. The error is want of memory.
+/// The script of that seed and of so many calls. The error is: out of memory.
 pub fn generate(alloc: Global, seed: u64, calls: u32) -> Result<Bytes, Memory>
     ensures { IfOk result (λ script. script ≡ script_of seed calls) }
 {
@@ -35,7 +35,7 @@ pub fn generate(alloc: Global, seed: u64, calls: u32) -> Result<Bytes, Memory>
     Ok(Bytes::of(script))
 }
 
-/// Appends the lines of the call of that number, which the next three draws choose. The error is want of memory.
+/// Appends the lines of the call of that number, which the next three draws choose. The error is: out of memory.
 fn put_call(
     alloc: Global,
     script: &mut Vec<u8>,
@@ -66,7 +66,7 @@ fn participant(drawn: u64) -> &'static str
     }
 }
 
-/// The message that a draw chooses, by the name of that number. The error is want of memory.
+/// The message that a draw chooses, by the name of that number. The error is: out of memory.
 fn message(alloc: Global, drawn: u64, name: u64) -> Result<String, Memory>
     ensures { IfOk result (λ pieces. string_bytes pieces ≡ message_of drawn (codes "f" ++ decimal name)) }
 {

@@ -17,12 +17,12 @@ use std::alloc::Global;
 use std::sync::Wait;
 use std::thread::Threads;
 
-/// The status of a program for which memory was wanting.
+/// The status of a program for which memory ran out.
 const STATUS_MEMORY: Status = 6;
 
 /// Grows the participant's key, with which nothing was signed yet, and serves the participant on the port, as [`serve`] does.
 ///
-/// Where memory is wanting for the key the status is 6, and nothing outside was touched.
+/// Where memory runs out for the key the status is 6, and nothing outside was touched.
 pub(crate) fn serve_participant<
     R: Threads + Wait + Sync,
     W: Sink,

@@ -9,13 +9,13 @@ use std::alloc::{AllocError, Global};
 /// What a line begins with that shows a reply; the digits of its bytes are behind.
 const REPLY: &[u8; 6] = b"reply ";
 
-/// What stands behind the call's number in the reply to a call that was served (RFC 5531, section 9).
+/// What stands after the call's number in the reply to a call that was served (RFC 5531, section 9).
 const SUCCESS: [u8; 20] = [0, 0, 0, 1, 0, 0, 0, 0, 0, 0, 0, 0, 0, 0, 0, 0, 0, 0, 0, 0];
 
 /// The digits of the 28 bytes that a served call's reply begins with: its head, and the status.
 const FRONT_DIGITS: usize = 56;
 
-/// The statuses of all replies in a text, in the order of its lines. The error is want of memory.
+/// The statuses of all replies in a text, in the order of its lines. The error is: out of memory.
 pub fn statuses_in(alloc: Global, text: &[u8]) -> Result<Vec<u32>, AllocError>
     ensures { IfOk result (λ found. found.items ≡ statuses text.now) }
 {
@@ -43,7 +43,7 @@ fn front_of(line: &[u8]) -> Option<[u8; 28]>
     <[u8; 28]>::from_hex(&digits[..digits.len().min(FRONT_DIGITS)]).ok()
 }
 
-/// The status behind the head of the reply to a call that was served.
+/// The status after the head of the reply to a call that was served.
 fn status_of(front: &[u8; 28]) -> Option<u32>
     ensures { result ≡ status_of front.now }
 {

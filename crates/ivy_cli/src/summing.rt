@@ -12,7 +12,7 @@ use ivy_base::{Bytes, Memory};
 use sha1::Sha1;
 use std::alloc::Global;
 
-/// The summary of a text that a script of so many calls showed. The error is want of memory.
+/// The summary of a text that a script of so many calls showed. The error is: out of memory.
 pub fn summary(alloc: Global, calls: u32, text: &[u8]) -> Result<Bytes, Memory>
     ensures { IfOk result (λ summary. summary ≡ summary_text calls text.now) }
 {
@@ -23,7 +23,7 @@ pub fn summary(alloc: Global, calls: u32, text: &[u8]) -> Result<Bytes, Memory>
     Ok(Bytes::of(summary))
 }
 
-/// Appends a line for each status that occurred, ascending. The error is want of memory.
+/// Appends a line for each status that occurred, ascending. The error is: out of memory.
 fn put_statuses(alloc: Global, summary: &mut Vec<u8>, all: &[u32]) -> Result<(), Memory>
     ensures { OnOk result (summary.new.items ≡ summary.old.items ++ status_lines all.now) }
 {
@@ -34,7 +34,7 @@ fn put_statuses(alloc: Global, summary: &mut Vec<u8>, all: &[u32]) -> Result<(),
     Ok(())
 }
 
-/// These numbers, ascending, each once. The error is want of memory.
+/// These numbers, ascending, each once. The error is: out of memory.
 fn in_order(alloc: Global, numbers: &[u32]) -> Result<Vec<u32>, Memory>
     ensures { IfOk result (λ found. found.items ≡ ascending numbers.now) }
 {
@@ -44,7 +44,7 @@ fn in_order(alloc: Global, numbers: &[u32]) -> Result<Vec<u32>, Memory>
     Ok(found)
 }
 
-/// Appends the line of a status. The error is want of memory.
+/// Appends the line of a status. The error is: out of memory.
 fn put_status(alloc: Global, summary: &mut Vec<u8>, status: u32, all: &[u32]) -> Result<(), Memory>
     ensures { OnOk result (summary.new.items ≡ summary.old.items ++ status_line all.now status) }
 {
@@ -54,7 +54,7 @@ fn put_status(alloc: Global, summary: &mut Vec<u8>, status: u32, all: &[u32]) ->
     Ok(())
 }
 
-/// Appends the line of the text's SHA-1 (FIPS 180-4). The error is want of memory.
+/// Appends the line of the text's SHA-1 (FIPS 180-4). The error is: out of memory.
 fn put_digest(alloc: Global, summary: &mut Vec<u8>, text: &[u8]) -> Result<(), Memory>
     ensures { OnOk result (summary.new.items ≡ summary.old.items ++ codes "sha1 " ++ encode_lower (sha1 text.now) ++ 10 ∷ []) }
 {

@@ -74,8 +74,8 @@ pub enum Asked {
     Fork,
 }
 
-/// What the words behind the program's name ask for, if they are of one of the forms. They are matched by their positions;
-/// there are no options. The error is want of memory, which comes of the word `serve` alone.
+/// What the words after the program's name ask for, if they are of one of the forms. They are matched by their positions;
+/// there are no options. The error is: out of memory, which comes of the word `serve` alone.
 pub fn read_words(alloc: Global, words: &[String]) -> Result<Option<Asked>, Memory>
     ensures is { IfOk result (λ asked. asked ≡ asked_of (map (λ word. string_bytes word) words.now)) }
     ensures fits { IfOk result Fits }
@@ -145,7 +145,7 @@ fn is_crowd_size(threads: u32, calls: u32) -> bool
         && u64::from(threads) * u64::from(calls) <= MOST_CROWD_CALLS
 }
 
-/// The service of these words. The error is want of memory.
+/// The service of these words. The error is: out of memory.
 fn serve(alloc: Global, words: &[String]) -> Result<Option<Asked>, Memory>
     ensures is { IfOk result (λ asked. asked ≡ serve_of (map (λ word. string_bytes word) words.now)) }
     ensures fits { IfOk result Fits }
@@ -163,7 +163,7 @@ fn serve(alloc: Global, words: &[String]) -> Result<Option<Asked>, Memory>
     }
 }
 
-/// The service of these five words. The error is want of memory.
+/// The service of these five words. The error is: out of memory.
 fn service(
     alloc: Global,
     port: &str,
@@ -198,7 +198,7 @@ fn fork(words: &[String]) -> Option<Asked>
     }
 }
 
-/// The participant whose log a command begins, if it does. The error is want of memory.
+/// The participant whose log a command begins, if it does. The error is: out of memory.
 fn participant_of(alloc: Global, command: &Command) -> Result<Option<Participant>, Memory>
     ensures { IfOk result (λ participant. participant ≡ participant_of command.now) }
 {

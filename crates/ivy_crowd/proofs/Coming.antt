@@ -3,7 +3,7 @@ use Rattle.std.proofs.Common.{◌≡◌, ℕ, length, Option, Some, Result, Ok, 
 use Rattle.std.specs.Prelude.{IsSomeAnd}
 use Rattle.ivy_base.specs.Naming.{root_number}
 use Rattle.ivy_base.specs.declared.operation.Moment.{Moment}
-use Rattle.ivy_io.specs.Keepers.{KeeperState, fresh_keeper}
+use Rattle.ivy_io.specs.Keepers.{KeeperState, fresh_keeper_state}
 use Rattle.hash_signature_model.specs.Saved.{IsSigner, hss}
 use Rattle.hash_signature_model.specs.Signer.{Signer}
 use Rattle.tree_model.specs.Tree.{listing}
@@ -31,7 +31,7 @@ some_view o view is = rw is tt
 
 -- the agent was created with this key at that moment
 abbrev IsMade : Signer → Moment → Member → Type 0
-IsMade signer moment created = Makes hss IsSigner saves_in_memory fresh_keeper signer moment (Ok created)
+IsMade signer moment created = Makes hss IsSigner saves_in_memory fresh_keeper_state signer moment (Ok created)
 
 -- it entered this view
 abbrev HasEntered : View → Member → Member → Type 0

@@ -40,7 +40,7 @@ module _ {K S C : Type 0} (serving : Serving K S C) where
   abbrev pub link_job : Job K S C → LinkJob K S (List ℕ) (List ℕ) C
   link_job job = record { gate = serving.gate; ring = serving.ring; link = link_of job }
 
-  -- it ended with Done, or for want of memory
+  -- it ended with Done, or because memory ran out
   pub ends_so : (job : Job K S C) (done : Done K S (List ℕ) (List ℕ) C)
       → WholeCallsAreDone (server_of serving).taker serving.gives → IsNew serving.gate job
       → IsServedLink (sure_links serving) (link_job job) done → (done.how ≡ ended.Done) ⊎ (done.how ≡ ended.Memory)
@@ -159,7 +159,7 @@ module _ {K S C : Type 0} (serving : Serving K S C) where
     no_others = run.no_others;
   }
 
--- the agent behind all turns is still in its view
+-- the agent after all turns is still in its view
 pub still_in_view : {K S : Type 0} (kind : AgentKind K S) (opening closed : Holder K S) (history : List AgentEntry)
     → HasTaken kind opening history closed → IsSomeAnd opening.agent.view (λ view. Unit {0})
     → IsSomeAnd closed.agent.view (λ view. Unit {0})

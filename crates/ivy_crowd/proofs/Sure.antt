@@ -21,7 +21,7 @@ takes_some : (r : Result ℕ SinkFault) (piece : List ℕ) → IfOk r (λ n. n �
 takes_some (Ok n) piece all = λ zero some. absurd (omega (arith, all, zero, some))
 takes_some (Err e) piece all = tt
 
--- a write fails for want of memory alone
+-- a write fails only because memory ran out
 pub writes : (r : Result ℕ SinkFault) (piece failing : List ℕ) (call : ℕ) → failing ≡ []
     → (IsErrOf r fault.Failed ↔ Contains failing call) → IfOk r (λ n. n ≡ length piece) → HasSinkCause 0 0 piece r
 writes r piece failing call none planned all = record {

@@ -1,4 +1,4 @@
--- Where the participant's agent is opened, memory alone may be wanting.
+-- Where the participant's agent is opened, memory alone may run out.
 use Rattle.std.proofs.Common.{◌≡◌, ◌⊎◌, ⊎_elim, ℕ, ◌-◌, ◌<◌, Bool, true, false, ◌||◌, ◌&&◌, not, cond, List, [], ◌∷◌, ◌++◌, codes}
 use Rattle.std.proofs.Common.{Option, Some, None, Result, Ok, Err, refl, sym, ap, ◌∙◌, subst, arith}
 use Rattle.std.specs.Prelude.{option_map}
@@ -6,7 +6,7 @@ use Rattle.ivy_base.specs.Naming.{head_key_of}
 use Rattle.ivy_base.specs.declared.key.Key.{Key}
 use Rattle.ivy_base.specs.declared.key.PubKey.{PubKey}
 use Rattle.ivy_base.specs.declared.operation.Moment.{Moment}
-use Rattle.ivy_io.specs.Keepers.{KeeperState, after_save, fails_next, fresh_keeper}
+use Rattle.ivy_io.specs.Keepers.{KeeperState, after_save, next_save_fails as fails_next, fresh_keeper_state}
 use Rattle.hash_signature_model.specs.Parameters.{leaves}
 use Rattle.hash_signature_model.specs.Saved.{IsSigner, hss}
 use Rattle.hash_signature_model.specs.Signer.{Signer, capacity}
@@ -72,7 +72,7 @@ is_not_spent signer key none =
 
 -- no agent is refused that key and a fresh keeper
 pub agent_is_made : (signer : Signer) (moment : Moment) (after : KeeperState) (why : MakeFault) → IsKey signer
-    → Makes hss IsSigner saves_in_memory fresh_keeper signer moment (Err (after, why)) → why ≡ make.Memory
+    → Makes hss IsSigner saves_in_memory fresh_keeper_state signer moment (Err (after, why)) → why ≡ make.Memory
 agent_is_made signer moment after make.Spent key h = absurd (is_not_spent signer key h.0)
 agent_is_made signer moment after make.Keeper key h = cc h.saved.0
 agent_is_made signer moment after make.Memory key h = refl
@@ -128,7 +128,7 @@ module _ (signer : Signer) (moment : Moment) where
 
 -- the agent that was created so isn't refused the view of its log
 pub view_is_entered : (signer : Signer) (moment : Moment) (created after : Member) (view : View) (why : EnterFault)
-    → Makes hss IsSigner saves_in_memory fresh_keeper signer moment (Ok created) → view ≡ alone (own hss created.agent)
+    → Makes hss IsSigner saves_in_memory fresh_keeper_state signer moment (Ok created) → view ≡ alone (own hss created.agent)
     → Enters hss IsSigner saves_in_memory view created (Err why) after → why ≡ enter.Memory
 view_is_entered signer moment created after view why makes is h =
     let same : created.agent ≡ its signer moment = makes.0 in

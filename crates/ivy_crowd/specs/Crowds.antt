@@ -3,7 +3,7 @@ use Rattle.std.specs.Prelude.{◌≡◌, ℕ, Bool, List, length, Option, Ok, So
 use Rattle.ivy_base.specs.Naming.{head_key_of, root_number}
 use Rattle.ivy_base.specs.declared.key.Key.{Key}
 use Rattle.ivy_base.specs.declared.operation.Moment.{Moment}
-use Rattle.ivy_io.specs.Keepers.{KeeperState, after_save, fails_next, fresh_keeper}
+use Rattle.ivy_io.specs.Keepers.{KeeperState, after_save, next_save_fails, fresh_keeper_state}
 use Rattle.hash_signature_model.specs.Saved.{IsSigner, hss}
 use Rattle.hash_signature_model.specs.Signer.{Signer}
 use Rattle.tree_model.specs.Tree.{listing}
@@ -22,7 +22,7 @@ use Rattle.ivy_crowd.specs.Sessions.{Asking, HaveRun, MemberGate, Serving, Sessi
 
 -- how a keeper in memory may save
 abbrev pub saves_in_memory : KeeperState → List ℕ → Bool → KeeperState → Type 0
-saves_in_memory keeper bytes fails after = (fails ≡ fails_next keeper) × (after ≡ after_save keeper bytes)
+saves_in_memory keeper bytes fails after = (fails ≡ next_save_fails keeper) × (after ≡ after_save keeper bytes)
 
 -- the participant's agent with its keeper
 abbrev pub Member : Type 0
@@ -33,7 +33,7 @@ Member = Holder KeeperState Signer
 pub record IsOpening (signer : Signer) (moment : Moment) (opening : Member) : Type 0 where
   pub its_key : IsKey signer
   pub created : Member
-  pub makes : Makes hss IsSigner saves_in_memory fresh_keeper signer moment (Ok created)
+  pub makes : Makes hss IsSigner saves_in_memory fresh_keeper_state signer moment (Ok created)
   pub enters : Enters hss IsSigner saves_in_memory (alone (own_key hss signer)) created (Ok tt) opening
 
 -- the name of the agent's newest own record, which is its log's entry in its floor
@@ -63,7 +63,7 @@ serving_of asked gate = serving_by (kind_of hss IsSigner saves_in_memory) gate (
 abbrev pub asking_of : {C : Type 0} → Asked C → Signer → Asking C
 asking_of asked signer = asking_in (alone (own_key hss signer)) asked.calls asked.moment asked.after
 
--- The agent was opened at a moment that the clock gave, the threads ran, and the counts are of the agent behind their turns.
+-- The agent was opened at a moment that the clock gave, the threads ran, and the counts are of the agent after their turns.
 pub record HasCome {C : Type 0} (asked : Asked C) (tally : Tally) : Type 0 where
   pub moment : ℕ × ℕ
   pub gave : asked.gives asked.before moment asked.after

@@ -28,7 +28,7 @@ pub record IsOpened (moment : Moment) (opened : Opened) : Type 0 where
   pub its_view : opened.view ≡ alone (own_key hss signer)
   pub in_view : opened.agent.agent.view ≡ Some opened.view
 
--- the bytes are whole calls within the limit, one behind the other
+-- the bytes are whole calls within the limit, one after the other
 pub record AreCalls (bytes : List ℕ) : Type 0 where
   pub framed : List Framed
   pub fit : AllByRecursion Fits framed

@@ -1,4 +1,4 @@
-//! What is counted of the agent behind all turns.
+//! What is counted of the agent after all turns.
 
 ghost use Rattle.std.specs.Prelude.{◌≡◌, length, Some, IfOk, IsSomeAnd};
 ghost use Rattle.ivy_base.specs.Naming.{root_number};
@@ -20,7 +20,7 @@ pub(crate) fn files(agent: &Agent<MemKeeper, RememberedKey>) -> u64
     agent.tree().names().entries(&ROOT)
 }
 
-/// The name of the newest record of the agent's log: the log's entry in its floor. The error is want of memory.
+/// The name of the newest record of the agent's log: the log's entry in its floor. The error is: out of memory.
 pub(crate) fn newest(alloc: Global, agent: &Agent<MemKeeper, RememberedKey>) -> Result<Key, Memory>
     requires { IsSomeAnd agent.now.agent.view (λ view. Unit {0}) }
     ensures { IfOk result (λ name. newest_own agent.now ≡ Some name) }

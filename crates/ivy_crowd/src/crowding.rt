@@ -29,7 +29,7 @@ const NODES: u32 = 5;
 
 const REPLICAS: u32 = 3;
 
-/// So many threads take their turns with the agent, each by a session of its own. The error is want of memory.
+/// So many threads take their turns with the agent, each by a session of its own. The error is: out of memory.
 fn run<R: Threads + Wait + Sync, K: Keeper + Drop + Send, S: Signs + Drop + Send, C: Clock>(
     rt: &R,
     alloc: Global,
@@ -63,10 +63,10 @@ fn moment<C: Clock>(clock: &mut C) -> Moment
 /// So many threads of one participant, 1 to 16, over a live ring of five nodes, of which three own a key. The participant has
 /// the key of the script's line `log a 1 1 w4h10`, a keeper in memory and the view of its log alone, which it opens at the
 /// moment that the clock gives. Thread K serves one link, of the calls that create the files `tK-1` to `tK-CALLS` in the root,
-/// with a clock that [`Clock::another`] gives. Behind them the gate is closed, and the ring is asked for the log's head.
-/// Together the threads make 1,000 calls at most, since the key signs 1,023 records behind the first.
+/// with a clock that [`Clock::another`] gives. After them the gate is closed, and the ring is asked for the log's head.
+/// Together the threads make 1,000 calls at most, since the key signs 1,023 records after the first.
 ///
-/// The error is want of memory, here or in a session. A program tells it by status 6.
+/// The error is: out of memory, here or in a session. A program tells it by status 6.
 pub fn crowd<R: Threads + Wait + Sync, C: Clock>(
     rt: &R,
     alloc: Global,

@@ -46,8 +46,8 @@ impl Source for SureSource {
     }
 }
 
-/// A sink in memory of which no call is planned to fail, so that none does but for want of memory. Contracts see the bytes that
-/// were written.
+/// A sink in memory of which no call is planned to fail, so that none does except when out of memory. Contracts see the bytes
+/// that were written.
 #[derive(Drop)]
 pub(crate) struct SureSink {
     sink: MemSink,

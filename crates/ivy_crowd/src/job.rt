@@ -25,7 +25,7 @@ pub(crate) struct Job<K: Keeper + Drop, S: Signs + Drop, C: Clock> {
     pub(crate) clock: C,
 }
 
-/// Whether the link was served to its end. The error is want of memory: there is no other end of whole calls between two ends
+/// Whether the link was served to its end. The error is: out of memory: there is no other end of whole calls between two ends
 /// that don't fail.
 fn is_done(how: Ended) -> Result<(), Memory>
     requires { (how ≡ Ended.Done) ⊎ (how ≡ Ended.Memory) }
@@ -38,7 +38,7 @@ fn is_done(how: Ended) -> Result<(), Memory>
     }
 }
 
-/// Serves the link of a job to its end, and gives the pass back. The error is want of memory.
+/// Serves the link of a job to its end, and gives the pass back. The error is: out of memory.
 pub(crate) fn serve<R: Wait, K: Keeper + Drop, S: Signs + Drop, C: Clock>(
     rt: &R,
     alloc: Global,

@@ -16,7 +16,7 @@ use ivy_io::{Clock, Keeper};
 use std::alloc::Global;
 use view_blocks::View;
 
-/// A job for a thread: a part of the pass, a link of the thread's calls, and a clock of its own. The error is want of memory.
+/// A job for a thread: a part of the pass, a link of the thread's calls, and a clock of its own. The error is: out of memory.
 fn job_of<K: Keeper + Drop, S: Signs + Drop, C: Clock>(
     alloc: Global,
     gate: &Gate<K, S>,
@@ -44,7 +44,7 @@ fn job_of<K: Keeper + Drop, S: Signs + Drop, C: Clock>(
     })
 }
 
-/// A job for each of so many threads, which are numbered from 1. The error is want of memory.
+/// A job for each of so many threads, which are numbered from 1. The error is: out of memory.
 pub(crate) fn jobs_of<K: Keeper + Drop, S: Signs + Drop, C: Clock>(
     alloc: Global,
     gate: &Gate<K, S>,

@@ -11,7 +11,7 @@ use std::alloc::Global;
 /// The identifier's last byte, and the seed's; all before them are zero.
 const LAST: u8 = 1;
 
-/// The key of the script's line `log a 1 1 w4h10`. The error is want of memory.
+/// The key of the script's line `log a 1 1 w4h10`. The error is: out of memory.
 pub(crate) fn key(alloc: Global) -> Result<Hss, Memory>
     ensures { IfOk result IsKey }
 {

@@ -7,10 +7,10 @@
 //! its turns are those of its pass in the history, which has no others; and the counts are of that history and that agent. No
 //! clause ties what the ring gives at the end.
 //!
-//! The only error is want of memory. The ends of a link don't fail (`ends`), and a stream of calls is whole calls within the limit
-//! (`proofs/Calls.antt`), so a session ends with Done where memory lasts. Each pass comes back with its part, so the gate closes.
-//! The key isn't spent, no save is to fail, and the view is of the agent's log alone (`proofs/Wanting.antt`), so the agent is opened.
-//! Of one step no clause says it: that the closed agent has its own log in its floor.
+//! The only error is: out of memory. The ends of a link don't fail (`ends`), and a stream of calls is whole calls within the
+//! limit (`proofs/Calls.antt`), so a session ends with Done where memory lasts. Each pass comes back with its part, so the gate
+//! closes. The key isn't spent, no save is to fail, and the view is of the agent's log alone (`proofs/Wanting.antt`), so the
+//! agent is opened. Of one step no clause says it: that the closed agent has its own log in its floor.
 //!
 //! Definitions: `specs/Requests.antt` (the key and the calls, by the script's words), `specs/Sessions.antt` (a session, and all
 //! of them), `specs/Crowds.antt` (a crowd). `specs/Jobs.antt` has the steps between.

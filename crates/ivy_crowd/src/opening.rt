@@ -5,7 +5,7 @@ ghost use Rattle.ivy_base.specs.declared.operation.Moment.{Moment};
 ghost use Rattle.hash_signature_model.specs.Saved.{IsSigner, hss};
 ghost use Rattle.hash_signature_model.specs.Signer.{Signer};
 ghost use Rattle.agent_model.specs.Agent.{own};
-ghost use Rattle.ivy_io.specs.Keepers.{fresh_keeper};
+ghost use Rattle.ivy_io.specs.Keepers.{fresh_keeper_state};
 ghost use Rattle.ivy_agent.specs.Entering.{Enters};
 ghost use Rattle.ivy_agent.specs.Making.{Makes};
 ghost use Rattle.ivy_crowd.specs.Crowds.{saves_in_memory};
@@ -27,7 +27,7 @@ pub(crate) struct Opened {
     pub(crate) view: View,
 }
 
-/// Want of memory: a view of one key can't be refused for its keys.
+/// Running out of memory: a view of one key can't be refused for its keys.
 fn view_lacks(why: ViewFault) -> Memory
     requires { why ≡ ViewFault.Memory }
 {
@@ -35,7 +35,7 @@ fn view_lacks(why: ViewFault) -> Memory
     Memory
 }
 
-/// The view of one member alone. The error is want of memory.
+/// The view of one member alone. The error is: out of memory.
 fn view_of(alloc: Global, member: PubKey) -> Result<View, Memory>
     ensures { IfOk result (λ view. view ≡ alone member) }
 {
@@ -45,7 +45,7 @@ fn view_of(alloc: Global, member: PubKey) -> Result<View, Memory>
     }
 }
 
-/// Want of memory: the key isn't spent, and no save is to fail.
+/// Running out of memory: the key isn't spent, and no save is to fail.
 fn agent_lacks(why: MakeFault) -> Memory
     requires { why ≡ MakeFault.Memory }
 {
@@ -53,15 +53,15 @@ fn agent_lacks(why: MakeFault) -> Memory
     Memory
 }
 
-/// An agent with the participant's key that opens its log at that moment, over a keeper in memory of which no save is to fail. The
-/// error is want of memory.
+/// An agent with the participant's key that opens its log at that moment, over a keeper in memory of which no save is to fail.
+/// The error is: out of memory.
 fn create(
     alloc: Global,
     signer: RememberedKey,
     moment: Moment,
 ) -> Result<Agent<MemKeeper, RememberedKey>, Memory>
     requires { IsKey signer }
-    ensures { IfOk result (λ agent. Makes hss IsSigner saves_in_memory fresh_keeper signer moment (Ok agent)) }
+    ensures { IfOk result (λ agent. Makes hss IsSigner saves_in_memory fresh_keeper_state signer moment (Ok agent)) }
 {
     match Agent::create(alloc, MemKeeper::new(alloc), signer, moment) {
         Ok(agent) => Ok(agent),
@@ -69,7 +69,7 @@ fn create(
     }
 }
 
-/// Want of memory: the agent is the member, knows no other log, and no save is to fail.
+/// Running out of memory: the agent is the member, knows no other log, and no save is to fail.
 fn entry_lacks(why: EnterFault) -> Memory
     requires { why ≡ EnterFault.Memory }
 {
@@ -77,13 +77,13 @@ fn entry_lacks(why: EnterFault) -> Memory
     Memory
 }
 
-/// Has an agent that was just created enter the view of its log alone. The error is want of memory.
+/// Has an agent that was just created enter the view of its log alone. The error is: out of memory.
 fn enter(
     alloc: Global,
     agent: &mut Agent<MemKeeper, RememberedKey>,
     view: &View,
 ) -> Result<(), Memory>
-    requires made { (signer : Signer) × (moment : Moment) × Makes hss IsSigner saves_in_memory fresh_keeper signer moment (Ok agent.old) }
+    requires made { (signer : Signer) × (moment : Moment) × Makes hss IsSigner saves_in_memory fresh_keeper_state signer moment (Ok agent.old) }
     requires view { view.now ≡ alone (own hss agent.old.agent) }
     ensures { OnOk result (Enters hss IsSigner saves_in_memory view.now agent.old (Ok tt) agent.new) }
 {
@@ -94,7 +94,7 @@ fn enter(
 }
 
 /// An agent that opens its log at that moment, and enters the view of its log alone. What its key signs is known there. The error
-/// is want of memory.
+/// is: out of memory.
 pub(crate) fn open(alloc: Global, moment: Moment, verdicts: Verdicts) -> Result<Opened, Memory>
     ensures { IfOk result (IsOpened moment) }
 {

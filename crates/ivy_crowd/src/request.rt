@@ -23,7 +23,7 @@ const MODE: u32 = 0o644;
 /// The bit of a fragment's header that tells the last one of a message (RFC 5531, section 11).
 const LAST: u32 = 0x8000_0000;
 
-/// The name of a file: `tK-I`. The error is want of memory.
+/// The name of a file: `tK-I`. The error is: out of memory.
 fn file_name(alloc: Global, thread: u32, call: u32) -> Result<Bytes, Memory>
     ensures { IfOk result (λ name. name ≡ file_name thread call) }
 {
@@ -31,7 +31,7 @@ fn file_name(alloc: Global, thread: u32, call: u32) -> Result<Bytes, Memory>
     Ok(Bytes::of(name.into_bytes()))
 }
 
-/// The message of a thread's call of that number, where it is within the limit. The error is want of memory.
+/// The message of a thread's call of that number, where it is within the limit. The error is: out of memory.
 fn message_of(alloc: Global, view: &View, thread: u32, call: u32) -> Result<Option<Bytes>, Memory>
     ensures { IfOk result (λ message. message ≡ message_of [] view.now (pieces thread call)) }
 {
@@ -53,7 +53,7 @@ fn message_of(alloc: Global, view: &View, thread: u32, call: u32) -> Result<Opti
     message(alloc, &[], view, &pieces)
 }
 
-/// The message of a thread's call of that number, which is within the limit. The error is want of memory.
+/// The message of a thread's call of that number, which is within the limit. The error is: out of memory.
 fn request(alloc: Global, view: &View, thread: u32, call: u32) -> Result<Bytes, Memory>
     ensures { IfOk result (λ bytes. Some bytes ≡ message_of [] view.now (pieces thread call)) }
 {
@@ -71,7 +71,7 @@ fn header_of(length: usize) -> [u8; 4]
     (LAST + length as u32).to_be_bytes()
 }
 
-/// Appends a message as one fragment. The error is want of memory.
+/// Appends a message as one fragment. The error is: out of memory.
 fn put_fragment(stream: &mut Vec<u8>, message: &[u8]) -> Result<(), Memory>
     requires { length message.now ≤ longest_message }
     ensures { OnOk result (stream.new.items ≡ stream.old.items ++ fragment true message.now) }
@@ -82,7 +82,7 @@ fn put_fragment(stream: &mut Vec<u8>, message: &[u8]) -> Result<(), Memory>
     Ok(())
 }
 
-/// The first calls of a thread, so many, each as one fragment. The error is want of memory.
+/// The first calls of a thread, so many, each as one fragment. The error is: out of memory.
 pub(crate) fn requests(alloc: Global, view: &View, thread: u32, calls: u32) -> Result<Bytes, Memory>
     ensures { IfOk result (λ bytes. Some bytes ≡ stream view.now thread calls) }
 {

@@ -17,7 +17,7 @@ use std::alloc::Global;
 use std::sync::Wait;
 use std::thread::{Threads, map_vec};
 
-/// Serves each job in a thread of its own. What came of each stands in the jobs' order. The error is want of memory.
+/// Serves each job in a thread of its own. What came of each stands in the jobs' order. The error is: out of memory.
 fn serve_each<R: Threads + Wait + Sync, K: Keeper + Drop + Send, S: Signs + Drop + Send, C: Clock>(
     rt: &R,
     alloc: Global,
@@ -40,7 +40,7 @@ fn serve_each<R: Threads + Wait + Sync, K: Keeper + Drop + Send, S: Signs + Drop
     Ok(ended)
 }
 
-/// The first pass, and those that came back. The error is want of memory, here or for one that didn't come back.
+/// The first pass, and those that came back. The error is: out of memory, here or for one that didn't come back.
 fn passes_of<K: Keeper + Drop, S: Signs + Drop>(
     alloc: Global,
     first: Pass<K, S>,
@@ -56,7 +56,7 @@ fn passes_of<K: Keeper + Drop, S: Signs + Drop>(
     Ok(passes)
 }
 
-/// All jobs are served, and the gate is closed with the first pass and theirs, which have all parts. The error is want of memory.
+/// All jobs are served, and the gate is closed with the first pass and theirs, which have all parts. The error is: out of memory.
 pub(crate) fn run_all<
     R: Threads + Wait + Sync,
     K: Keeper + Drop + Send,

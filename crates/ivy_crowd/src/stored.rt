@@ -1,7 +1,7 @@
 //! The head of a log, as the live ring gives it.
 
 ghost use Rattle.std.specs.Prelude.{◌≢◌, ◌<◌, None, IfOk};
-ghost use Rattle.dhash_client.specs.Course.{asks_left};
+ghost use Rattle.dhash_client.specs.Execution.{asks_left};
 ghost use Rattle.dhash_client.specs.GetHead.{head_awaited};
 
 use dhash_client::GetHead;
@@ -21,7 +21,7 @@ fn greatest(heads: &Heads) -> u32 {
     most
 }
 
-/// One ask of a get, which hears its answer. The error is want of memory.
+/// One ask of a get, which hears its answer. The error is: out of memory.
 fn step<R: Wait>(
     rt: &R,
     alloc: Global,
@@ -31,14 +31,14 @@ fn step<R: Wait>(
     question: &Ask,
 ) -> Result<(), Memory>
     requires { head_awaited get.old ≢ None }
-    ensures { IfOk result (λ _. asks_left get.new.course < asks_left get.old.course) }
+    ensures { IfOk result (λ _. asks_left get.new.execution < asks_left get.old.execution) }
 {
     let answer = ring.ask(rt, alloc, node, question)?;
     get.heard(answer)
 }
 
 /// The greatest number of the heads that a get over the live ring gives under a log's key, and 0 where it gives none. The error
-/// is want of memory.
+/// is: out of memory.
 pub(crate) fn stored<R: Wait>(
     rt: &R,
     alloc: Global,

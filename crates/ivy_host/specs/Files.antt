@@ -35,7 +35,7 @@ IsPlain name = IsFileName name × (is_beside name ≡ false)
 abbrev pub IsKeeperName : List ℕ → Type 0
 IsKeeperName name = IsUtf8 name × IsPlain name
 
--- the count of faults after a refusal: want of memory isn't counted
+-- the count of faults after a refusal: running out of memory isn't counted
 abbrev pub count_after : OpenFault → ℕ → ℕ
 count_after Failed faults = counted faults
 count_after Memory faults = faults

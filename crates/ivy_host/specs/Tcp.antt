@@ -26,7 +26,7 @@ after_link p = record p { given = counted p.given; out = p.out ++ p.given ∷ []
 abbrev pub after_end : TcpState → TcpState
 after_end p = record p { ends = counted p.ends }
 
--- after a refusal, which counts unless it is want of memory
+-- after a refusal, which counts unless it is running out of memory
 abbrev pub after_refusal : OpenFault → TcpState → TcpState
 after_refusal fault p = record p { faults = count_after fault p.faults }
 

@@ -5,7 +5,8 @@ use ivy_io::OpenFault;
 use std::io;
 use std::io::ErrorKind;
 
-/// What a failure of the host is to who opens something: want of memory by itself, each other one alike.
+/// What a failure of the host is to who opens something: running out of memory by itself, each other one
+/// alike.
 pub fn open_fault(error: &io::Error) -> OpenFault
     ensures { (result ≡ OpenFault.Memory) ↔ (error_kind error.now ≡ ErrorKind.OutOfMemory) }
 {

@@ -15,7 +15,7 @@ use std::os::unix::fs::OpenOptionsExt;
 use std::rt::Files;
 use std::{fs, io};
 
-/// What is written behind a file's path to name the file that a save writes first.
+/// What is written after a file's path to name the file that a save writes first.
 const SUFFIX: &str = ".new";
 
 /// Its owner alone may read and write the file, which has what a log signs with.
@@ -65,7 +65,7 @@ impl<R: Files + Drop> FileKeeper<R> {
         }
     }
 
-    /// The keeper of that path, before there is a file. The error is want of memory.
+    /// The keeper of that path, before there is a file. The error is: out of memory.
     fn unclaimed(rt: R, alloc: Global, path: &str) -> Result<FileKeeper<R>, Memory>
         ensures { IfOk result (λ keeper. keeper ≡ claimed path.now) }
     {

@@ -63,7 +63,7 @@ impl<R: std::rt::Clock + Copy + Send> Clock for HostClock<R> {
         (self.sec, self.nsec)
     }
 
-    // It takes no memory, so none is wanting.
+    // It takes no memory, so it can't run out.
     fn another(&self, _alloc: Global) -> Result<HostClock<R>, Memory>
         ensures same { IsOkAnd result (λ other. other ≡ self.now) }
     {

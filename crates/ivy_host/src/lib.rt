@@ -2,8 +2,8 @@
 //!
 //! Layer: above `ivy_io`, whose traits these implement, below the program itself.
 //! No clause can say what a clock, a file or a socket holds. So each relation says what is left: which moment, file or link
-//! it is, by its number or path, and what is counted. A failure for want of memory is [`ivy_io::OpenFault::Memory`] and
-//! leaves all as it was; each other one is counted.
+//! it is, by its number or path, and what is counted. Running out of memory is [`ivy_io::OpenFault::Memory`] and leaves all
+//! as it was; each other one is counted.
 //!
 //! - [`HostClock`] gives a moment, or the last one again where the host's clock fails.
 //! - [`FileKeeper`] has a file that it made, and [`DirKeepers`] such keepers by name, none where the file exists already.

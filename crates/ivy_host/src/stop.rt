@@ -55,7 +55,7 @@ impl Stop {
         self.is_set.load(Ordering::SeqCst)
     }
 
-    /// Has the server end. The links that are out come to their end, behind what has come by then, and their replies still
+    /// Has the server end. The links that are out come to their end, after what has come by then, and their replies still
     /// go. Where the server waits for a link it is connected to, once, and then looks whether it is to end; where it doesn't
     /// wait yet, it looks before it does.
     pub fn set<R: Net + Wait>(&self, rt: &R) {
@@ -67,13 +67,13 @@ impl Stop {
         }
     }
 
-    /// Keeps a link until it comes back. Where the server is to end already, the link comes to its end at once. The error is
-    /// want of memory, and then the link isn't kept.
+    /// Keeps a link until it comes back. Where the server is to end already, the link comes to its end at once. The error
+    /// is: out of memory, and then the link isn't kept.
     pub(crate) fn lend<R: Wait>(&self, rt: &R, link: OutLink) -> Result<(), Memory> {
         if self.out.lock(rt).push(link).is_err() {
             return Err(Memory);
         }
-        // Who sets the flag ends the kept links behind that. So a link that is kept too late for them finds the flag set.
+        // Who sets the flag ends the kept links after that. So a link that is kept too late for them finds the flag set.
         if self.is_set() {
             self.end_links(rt);
         }

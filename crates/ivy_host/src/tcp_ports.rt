@@ -28,10 +28,10 @@ struct Handles {
 }
 
 /// Links of a TCP port of the loopback, each with a number of its own. There is no further one exactly where the shared
-/// [`Stop`] is set. The links that are out come to their end then, behind what has come by then, and their replies still go.
+/// [`Stop`] is set. The links that are out come to their end then, after what has come by then, and their replies still go.
 ///
 /// A write on a link waits for 30 seconds at most, and fails where nothing of it could be taken by then. So who doesn't read
-/// doesn't hold a link for ever: what is left behind a part that could be taken waits anew, and then fails.
+/// doesn't hold a link for ever: what is left after a part that could be taken waits again, and then fails.
 #[derive(Drop)]
 pub struct TcpPorts<R> {
     rt: R,
@@ -68,7 +68,7 @@ impl<R> TcpPorts<R> {
         }
     }
 
-    /// Counts a refusal, unless it is want of memory.
+    /// Counts a refusal, unless it is running out of memory.
     fn refuse(&mut self, fault: OpenFault) -> OpenFault
         ensures result { result ≡ fault }
         ensures counts { self.new ≡ after_refusal fault self.old }
@@ -105,7 +105,7 @@ impl<R> TcpPorts<R> {
 }
 
 impl<R: Wait> TcpPorts<R> {
-    /// Gives a link. The error is want of memory, and then nothing has changed.
+    /// Gives a link. The error is: out of memory, and then nothing has changed.
     fn lend(&mut self, link: Handles) -> Result<(TcpSource, StdSink<TcpStream>), OpenFault>
         ensures ok { IfOk result (λ given. GivesLink self.old (Some given) self.new) }
         ensures err { IfErr result (λ fault. fault ≡ OpenFault.Memory) }

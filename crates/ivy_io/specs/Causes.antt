@@ -16,8 +16,8 @@ pub record HasCause {T E : Type 0} (before now : ℕ) (result : Result T E) : Ty
   pub later : before ≤ now
   pub failed : OnErr result (Rose before now)
 
--- What a write says of its sink's count: it never falls, and rose where the sink failed. To take nothing of a piece
--- that isn't empty is a fault. Want of memory says nothing.
+-- What a write says of its sink's count: it never falls, and rose where the sink failed. To take nothing of a piece that isn't empty is a
+-- fault. Running out of memory says nothing.
 pub record HasSinkCause (before now : ℕ) (piece : List ℕ) (result : Result ℕ SinkFault) : Type 0 where
   pub later : before ≤ now
   pub failed : IsErrOf result Failed → Rose before now

@@ -4,7 +4,7 @@ use Rattle.ivy_io.specs.Causes.{counted, Rose}
 use Rattle.ivy_io.specs.declared.open_fault.OpenFault.{OpenFault}
 use Rattle.ivy_io.specs.declared.open_fault.OpenFault.TheVariants.{Failed, Memory}
 
--- what a refusal says: the count of faults rose, or memory was wanting and nothing has changed
+-- what a refusal says: the count of faults rose, or memory ran out and nothing has changed
 abbrev pub Refuses : {S : Type 0} → (S → ℕ) → S → S → OpenFault → Type 0
 Refuses faults old new Failed = Rose (faults old) (faults new)
 Refuses faults old new Memory = new ≡ old

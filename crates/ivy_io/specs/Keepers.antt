@@ -60,8 +60,8 @@ pub record KeeperState : Type 0 where
   pub failing : List Planned
   pub faults : ℕ
 
-abbrev pub fresh_keeper : KeeperState
-fresh_keeper = record { kept = None; saves = 0; failing = []; faults = 0 }
+abbrev pub fresh_keeper_state : KeeperState
+fresh_keeper_state = record { kept = None; saves = 0; failing = []; faults = 0 }
 
 -- what is planned for the save of that number: None where it succeeds, else whether it leaves the new bytes
 abbrev pub planned : ℕ → List Planned → Option Bool
@@ -71,8 +71,8 @@ abbrev pub planned_next : KeeperState → Option Bool
 planned_next k = planned (counted k.saves) k.failing
 
 -- the next save fails
-abbrev pub fails_next : KeeperState → Bool
-fails_next k = is_some (planned_next k)
+abbrev pub next_save_fails : KeeperState → Bool
+next_save_fails k = is_some (planned_next k)
 
 -- the keeper after a save, by what was planned for it
 abbrev pub after_planned : Option Bool → KeeperState → List ℕ → KeeperState
@@ -84,9 +84,9 @@ abbrev pub after_save : KeeperState → List ℕ → KeeperState
 after_save k bytes = after_planned (planned_next k) k bytes
 
 -- the save of that number is to fail; of two plans for one save the later counts
-abbrev pub with_fault : KeeperState → ℕ → Bool → KeeperState
-with_fault k number new = record k { failing = record { number = number; new = new } ∷ k.failing }
+abbrev pub with_planned_fault : KeeperState → ℕ → Bool → KeeperState
+with_planned_fault k number new = record k { failing = record { number = number; new = new } ∷ k.failing }
 
 -- counted from now on, the next save being 1 and 0 naming none
 abbrev pub with_plan : KeeperState → ℕ → Bool → KeeperState
-with_plan k call new = if call == 0 then k else with_fault k (k.saves + call) new
+with_plan k call new = if call == 0 then k else with_planned_fault k (k.saves + call) new

@@ -2,14 +2,14 @@
 use Rattle.std.specs.Prelude.{◌≡◌, ℕ, Bool, true, List, [], ◌∷◌, ◌++◌, Option, Some, None, is_some, find, option_and_then, if◌then◌else◌}
 use Rattle.std.specs.Str.{bytes_eq}
 use Rattle.ivy_io.specs.Causes.{counted}
-use Rattle.ivy_io.specs.Keepers.{KeeperState, after_save, fresh_keeper}
+use Rattle.ivy_io.specs.Keepers.{KeeperState, after_save, fresh_keeper_state}
 use Rattle.ivy_io.specs.Faults.{after_return}
 use Rattle.ivy_io.specs.declared.mem_keepers.Place.{Place}
 
 -- a keeper that keeps this, has not failed, and of whose saves none is to fail
 abbrev pub keeping : Option (List ℕ) → KeeperState
-keeping None = fresh_keeper
-keeping (Some bytes) = after_save fresh_keeper bytes
+keeping None = fresh_keeper_state
+keeping (Some bytes) = after_save fresh_keeper_state bytes
 
 -- the place is of that name
 abbrev pub is_at : List ℕ → Place → Bool

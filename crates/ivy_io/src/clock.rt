@@ -19,7 +19,7 @@ pub trait Clock: Drop + Send {
         ensures told { IfSome (moment self.old) (λ m. result ≡ m) }
         ensures stays { moment self.new ≡ moment self.old };
 
-    /// A clock of its own for another thread, with the same moment where that is known. The error is want of memory.
+    /// A clock of its own for another thread, with the same moment where that is known. The error is: out of memory.
     fn another(&self, alloc: Global) -> Result<Self, Memory>
         ensures { IfOk result (λ other. moment other ≡ moment self.now) };
 }

@@ -42,7 +42,7 @@ impl Failing {
         self.calls.as_slice()
     }
 
-    /// A copy of these numbers. The error is want of memory.
+    /// A copy of these numbers. The error is: out of memory.
     pub fn copy(&self, alloc: Global) -> Result<Failing, Memory>
         ensures { IfOk result (λ copy. copy ≡ self.now) }
     {

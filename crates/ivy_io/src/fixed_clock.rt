@@ -43,7 +43,7 @@ impl Clock for FixedClock {
         (self.sec, self.nsec)
     }
 
-    // It takes no memory, so none is wanting.
+    // It takes no memory, so it can't run out.
     fn another(&self, _alloc: Global) -> Result<FixedClock, Memory>
         ensures moment { IfOk result (λ other. Some other ≡ Some self.now) }
         ensures same { IsOkAnd result (λ other. other ≡ self.now) }

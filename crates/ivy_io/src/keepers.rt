@@ -22,7 +22,7 @@ pub trait Keepers {
     /// How a keeper may be taken back under a name.
     ghost takes: { Self → List ℕ → Self.One → Self → Type 0 };
 
-    /// The keeper of that name, which has not failed yet. After want of memory nothing has changed.
+    /// The keeper of that name, which has not failed yet. After running out of memory nothing has changed.
     fn keeper(&mut self, alloc: Global, name: &[u8]) -> Result<Self::One, OpenFault>
         ensures is { IfOk result (λ one. lends self.old name.now one self.new) }
         ensures kept { IfOk result (λ one. Self.One.kept one ≡ kept self.old name.now) }

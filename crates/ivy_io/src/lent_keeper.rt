@@ -2,7 +2,7 @@
 
 ghost use Rattle.std.specs.Prelude.{◌≡◌, Some, IfOk, OnErr, OnOk};
 ghost use Rattle.std.specs.Option.{option_map};
-ghost use Rattle.ivy_io.specs.Keepers.{KeeperState, after_save, fails_next, fresh_keeper, with_plan, SaveCounts, SaveIs, SaveReplaces, LoadCounts, LoadGives};
+ghost use Rattle.ivy_io.specs.Keepers.{KeeperState, after_save, next_save_fails, fresh_keeper_state, with_plan, SaveCounts, SaveIs, SaveReplaces, LoadCounts, LoadGives};
 ghost use Rattle.ivy_io.specs.Names.{keeping};
 
 use crate::{Failed, KeepFault, Keeper, Leave, MemKeeper};
@@ -31,7 +31,7 @@ impl Model for LentKeeper {
 impl LentKeeper {
     /// A keeper that keeps nothing yet, and of whose saves none is to fail.
     pub(crate) fn fresh(alloc: Global) -> LentKeeper
-        ensures { result ≡ fresh_keeper }
+        ensures { result ≡ fresh_keeper_state }
     {
         LentKeeper {
             keeper: MemKeeper::new(alloc),
@@ -39,7 +39,7 @@ impl LentKeeper {
         }
     }
 
-    /// A keeper that keeps the same, has not failed yet, and of whose saves none is to fail. The error is want of memory.
+    /// A keeper that keeps the same, has not failed yet, and of whose saves none is to fail. The error is: out of memory.
     pub(crate) fn renewed(&self, alloc: Global) -> Result<LentKeeper, Memory>
         ensures { IfOk result (λ renewed. renewed ≡ keeping self.now.kept) }
     {
@@ -53,7 +53,7 @@ impl LentKeeper {
         Ok(renewed)
     }
 
-    /// Has a later save fail, as [`MemKeeper::plan`] does. The error is want of memory, and then nothing has changed.
+    /// Has a later save fail, as [`MemKeeper::plan`] does. The error is: out of memory, and then nothing has changed.
     pub fn plan(&mut self, leave: Leave) -> Result<(), Memory>
         ensures ok { OnOk result (self.new ≡ with_plan self.old leave.call leave.new) }
         ensures err { OnErr result (self.new ≡ self.old) }
@@ -83,14 +83,14 @@ impl Keeper for LentKeeper {
 
     ghost faults = { λ k. k.faults };
 
-    ghost saves = { λ k bytes failed new. (failed ≡ fails_next k) × (new ≡ after_save k bytes) };
+    ghost saves = { λ k bytes failed new. (failed ≡ next_save_fails k) × (new ≡ after_save k bytes) };
 
     ghost counts = { memory_counts };
 
     ghost keeps = { memory_keeps };
 
     fn save(&mut self, bytes: Bytes) -> Result<(), Failed>
-        ensures is { SaveIs (λ failed new. (failed ≡ fails_next self.old) × (new ≡ after_save self.old bytes)) self.new result }
+        ensures is { SaveIs (λ failed new. (failed ≡ next_save_fails self.old) × (new ≡ after_save self.old bytes)) self.new result }
         ensures bytes { SaveReplaces (Some self.old.kept) (Some self.new.kept) bytes result }
         ensures cause { SaveCounts self.old.faults self.new.faults result }
     {

@@ -10,8 +10,8 @@
 //! - A [`Keeper`] keeps the bytes that were saved last. After a save that fails it keeps those or the ones before. In memory
 //!   ([`MemKeeper`]) exactly the planned saves fail ([`MemKeeper::plan`]).
 //!
-//! What a program is handed tells by a relation which calls were made and what they gave. Its counts never fall. `Failed`
-//! comes only where the count of faults rose, and after want of memory nothing has changed ([`OpenFault`]).
+//! What a program is handed tells by a relation which calls were made and what they gave. Its counts never fall. `Failed` comes
+//! only where the count of faults rose, and after running out of memory nothing has changed ([`OpenFault`]).
 //!
 //! - A [`Clock`] gives nanoseconds below 10^9. One whose moment is known gives that one, and so does another clock of it; in
 //!   memory it is fixed ([`FixedClock`]).
@@ -22,7 +22,7 @@
 //!   exactly the planned calls fail, the links are given in order, none comes exactly where none is left, and those that come
 //!   back are listed. [`Ports::hang_up`] changes no link; in memory nobody is at the other end, and it does nothing.
 //!
-//! Links, clocks and the keepers of a name may go to other threads, and each may be let go.
+//! Links, clocks and the keepers of a name may go to other threads, and each may be dropped.
 //!
 //! Definitions: `specs/Known.antt` (bytes that may be known), `specs/Causes.antt` (faults and their causes), `specs/States.antt`
 //! (what each source and sink is seen as), `specs/Keepers.antt` (what is kept, and which saves fail), `specs/Faults.antt`

@@ -2,7 +2,7 @@
 
 ghost use Rattle.std.specs.Prelude.{◌≡◌, None, Some, IfOk, OnErr, OnOk};
 ghost use Rattle.std.specs.Option.{option_map};
-ghost use Rattle.ivy_io.specs.Keepers.{KeeperState, after_save, fails_next, fresh_keeper, planned, with_plan, SaveCounts, SaveIs, SaveReplaces, LoadCounts, LoadGives};
+ghost use Rattle.ivy_io.specs.Keepers.{KeeperState, after_save, next_save_fails, fresh_keeper_state, planned, with_plan, SaveCounts, SaveIs, SaveReplaces, LoadCounts, LoadGives};
 
 use crate::{Failed, KeepFault, Keeper};
 use ivy_base::{Bytes, Memory};
@@ -47,7 +47,7 @@ impl Model for MemKeeper {
 impl MemKeeper {
     /// A keeper that keeps nothing yet, and of whose saves none is to fail.
     pub fn new(alloc: Global) -> MemKeeper
-        ensures { result ≡ fresh_keeper }
+        ensures { result ≡ fresh_keeper_state }
     {
         MemKeeper {
             kept: None,
@@ -57,7 +57,7 @@ impl MemKeeper {
         }
     }
 
-    /// Has a later save fail; of two plans for one save the later counts. The error is want of memory, and then nothing
+    /// Has a later save fail; of two plans for one save the later counts. The error is: out of memory, and then nothing
     /// has changed.
     pub fn plan(&mut self, leave: Leave) -> Result<(), Memory>
         ensures ok { OnOk result (self.new ≡ with_plan self.old leave.call leave.new) }
@@ -95,14 +95,14 @@ impl Keeper for MemKeeper {
 
     ghost faults = { λ k. k.faults };
 
-    ghost saves = { λ k bytes failed new. (failed ≡ fails_next k) × (new ≡ after_save k bytes) };
+    ghost saves = { λ k bytes failed new. (failed ≡ next_save_fails k) × (new ≡ after_save k bytes) };
 
     ghost counts = { memory_counts };
 
     ghost keeps = { memory_keeps };
 
     fn save(&mut self, bytes: Bytes) -> Result<(), Failed>
-        ensures is { SaveIs (λ failed new. (failed ≡ fails_next self.old) × (new ≡ after_save self.old bytes)) self.new result }
+        ensures is { SaveIs (λ failed new. (failed ≡ next_save_fails self.old) × (new ≡ after_save self.old bytes)) self.new result }
         ensures bytes { SaveReplaces (Some self.old.kept) (Some self.new.kept) bytes result }
         ensures cause { SaveCounts self.old.faults self.new.faults result }
     {

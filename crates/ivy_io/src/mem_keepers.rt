@@ -112,7 +112,7 @@ fn place_of(places: &[Place], name: &[u8]) -> Option<usize>
         .position(|place| place.name.as_slice() == name)
 }
 
-/// The keeper of that name, renewed, for which there is a place from then on. The error is want of memory, and then nothing has
+/// The keeper of that name, renewed, for which there is a place from then on. The error is: out of memory, and then nothing has
 /// changed.
 fn lend(places: &mut Vec<Place>, alloc: Global, name: &[u8]) -> Result<LentKeeper, Memory>
     ensures ok { IfOk result (λ keeper. keeper ≡ keeping (kept_under name.now places.old.items)) }

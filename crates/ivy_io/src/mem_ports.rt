@@ -43,7 +43,7 @@ impl Model for MemPorts {
 
 impl MemPorts {
     /// Ports that give these links. `fails` has the numbers, from 1, of the calls of `listen` and `accept` that fail. The
-    /// error is want of memory.
+    /// error is: out of memory.
     pub fn new(
         alloc: Global,
         links: Vec<(MemSource, MemSink)>,

@@ -29,7 +29,7 @@ pub trait Ports {
     /// How a link may be taken back.
     ghost takes: { Self → Self.Reads → Self.Writes → Self → Type 0 };
 
-    /// From then on links come from that port. After want of memory nothing has changed.
+    /// From then on links come from that port. After running out of memory nothing has changed.
     fn listen(&mut self, alloc: Global, port: u16) -> Result<(), OpenFault>
         ensures links { links self.new ≡ links self.old }
         ensures ends { ends self.new ≡ ends self.old }
@@ -37,7 +37,7 @@ pub trait Ports {
         ensures later { faults self.old ≤ faults self.new };
 
     /// A new link, in the order in which they come. None comes exactly where the count of ends rises, and where the links
-    /// are known, exactly where none is left. After want of memory nothing has changed.
+    /// are known, exactly where none is left. After running out of memory nothing has changed.
     fn accept(&mut self, alloc: Global) -> Result<Option<(Self::Reads, Self::Writes)>, OpenFault>
         ensures is { IfOk result (λ link. gives self.old link self.new) }
         ensures links { IfOk result (λ link. GivesNext (links self.old) (links self.new) link) }

@@ -76,8 +76,9 @@ fn read_retrying<R: Read>(reader: &mut R, into: &mut [u8]) -> io::Result<usize>
     reader.read(into)
 }
 
-/// A sink over any writer. A write that a signal interrupts is tried again; each other error is a fault, but want of
-/// memory. Bytes count as written once the writer took them: a writer that holds bytes back may lose them later.
+/// A sink over any writer. A write that a signal interrupts is tried again; each other error is a fault, but running
+/// out of memory. Bytes count as written once the writer took them: a writer that holds bytes back may lose them
+/// later.
 #[derive(Drop)]
 pub struct StdSink<W> {
     writer: W,

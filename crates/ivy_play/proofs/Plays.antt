@@ -9,9 +9,9 @@ use Rattle.stage_laws.specs.Stage.{KeepsAll, StageStep}
 use Rattle.stage_laws.proofs.FullRuns.{stage_runs_fully, stage_runs_tell}
 use Rattle.stage_laws.proofs.Stage.{stage_begins}
 use Rattle.ivy_play.specs.Status.{status_of}
-use Rattle.ivy_play.specs.Playing.{beginning, ivy_runs, script_lines, IsPlayed, RunsFully}
+use Rattle.ivy_play.specs.Playing.{initial_world, ivy_runs, script_lines, IsPlayed, RunsFully}
 
-pub begins : KeepsAll beginning
+pub begins : KeepsAll initial_world
 begins = stage_begins
 
 -- a run that was told whole ends as each run does
@@ -24,15 +24,15 @@ pub runs_fully : (left : Option (List ℕ)) → IfSome left RunsFully
 runs_fully None = tt
 runs_fully (Some script) = stage_runs_fully 1 (script_lines script)
 
--- what was told is a run, which is the full one or tells why it isn't
+-- what was reported is a run, which is the full one or tells why it isn't
 pub played : (ending : Ending) (left held holds : Option (List ℕ)) (A B : Type 0) → TellsAll ending (ivy_runs left) held holds
     → IfSome left (λ script. A → B → IsPlayed script (status_of ending) held holds)
 played ending None held holds A B t = tt
 played ending (Some script) held holds A B t = λ a b.
-    let runs = runs_without_law StageStep Promise beginning 1 (script_lines script) (ran_of t.told ending) t.run in
-    inl (ran_of t.told ending, stage_runs_tell beginning 1 (script_lines script) (ran_of t.told ending) stage_begins runs, refl, t.sink)
+    let runs = runs_without_law StageStep Promise initial_world 1 (script_lines script) (ran_of t.told ending) t.run in
+    inl (ran_of t.told ending, stage_runs_tell initial_world 1 (script_lines script) (ran_of t.told ending) stage_begins runs, refl, t.sink)
 
--- where a count rose nothing more is said; and memory may be wanting to the player
+-- where a count rose nothing more is said; and the player may run out of memory
 pub read_rose : (left held holds : Option (List ℕ)) (status : ℕ) (Read Write : Type 0) → Read → IfSome left (λ script. (Read → ⊥) → (Write → ⊥) → IsPlayed script status held holds)
 read_rose None held holds status Read Write rose = tt
 read_rose (Some script) held holds status Read Write rose = λ no_read no_write. absurd (no_read rose)

@@ -5,7 +5,7 @@ ghost use Rattle.ivy_io.specs.Causes.{Rose};
 ghost use Rattle.script_driver.specs.Run.{Ran, Ending, Ended, RefusedAt, LimitAt};
 ghost use Rattle.script_driver.specs.Told.{TellsAll, TellsFront, TellsLess, StopsShort};
 ghost use Rattle.stage_laws.specs.Promise.{PromisedStep};
-ghost use Rattle.ivy_play.specs.Playing.{beginning, ivy_runs, IsPlayed, RunsFully};
+ghost use Rattle.ivy_play.specs.Playing.{initial_world, ivy_runs, IsPlayed, RunsFully};
 ghost use Rattle.ivy_play.specs.Status.{status_of};
 
 use ivy_io::{Sink, Source};
@@ -77,7 +77,7 @@ pub fn play<Q: Source, W: Sink>(alloc: Global, source: &mut Q, sink: &mut W) -> 
         (ivy_runs (Q.left source.old)) (W.contents sink.old) (W.contents sink.new) }
     // After a read fault the run isn't over. The bytes that were read are whole lines, each of which was obeyed and went
     // on, and a part of a line. What was written is exactly what these lines show.
-    ensures waits { result ≡ 4 → StopsShort PromisedStep beginning
+    ensures waits { result ≡ 4 → StopsShort PromisedStep initial_world
         (Q.left source.old) (Q.left source.new) (W.contents sink.old) (W.contents sink.new) }
 
     // If neither count rose and each run of the script ends alike, the status is that of the run, or memory ran out.

@@ -10,8 +10,8 @@ use Rattle.dht_ids.specs.declared.peer.Peer.{Peer}
 use Rattle.dht_ids.specs.declared.post.Ack.{Ack}
 use Rattle.dht_ids.specs.declared.post.Post.{Post}
 use Rattle.dhash_model.specs.Signed.{hss_judged}
-use Rattle.session_model.specs.Courses.{Fails, LacksMemory}
-use Rattle.session_model.specs.Courses.Fails.{goes_on as refresh_goes}
+use Rattle.session_model.specs.Executions.{Fails, LacksMemory}
+use Rattle.session_model.specs.Executions.Fails.{goes_on as refresh_goes}
 use Rattle.session_model.specs.Sessions.{Cache, Hears, Over, Publishing, Said, Session}
 use Rattle.ivy_session.specs.declared.session.Next.{Next}
 use Rattle.ivy_session.specs.declared.session.Next.TheVariants as next
@@ -37,7 +37,7 @@ same_answer : (a b : Answer) → ◌≡◌ {A = Result Answer Memory} (Ok a) (Ok
 same_answer a b e = cc e
 
 module _ (place : Place) (here : Driven) (old : Held) (is : IsDriven place here old) where
-  -- what is wanted next of the session, behind the link's cache
+  -- what is wanted next of the session, after the link's cache
   pub wants : (mid : Held) (wanted : Next) → IsNext judges old.session mid.session old.cache mid.cache wanted → NextIs judges old.session mid.session here.session here.cache mid.cache wanted
   wants mid wanted following = subst (λ (c : Cache). NextIs judges old.session mid.session here.session c mid.cache wanted) (sym is.cache) (following.1 here.session is.is)
 
@@ -60,7 +60,7 @@ module _ (place : Place) (here : Driven) (old : Held) (is : IsDriven place here 
     no_turn = no_turn;
   }
 
-  -- what was at hand is taken, and then the session asks that
+  -- what was available is taken, and then the session asks that
   abbrev pub Asks : Held → Peer → Ask → Type 0
   Asks mid node question = AsksThen judges hss_judged place.replicas here.session here.cache mid.session mid.cache node question
 
@@ -103,7 +103,7 @@ module _ {P K S C : Type 0} (setting : Setting P K S C) (here : Driven) (old mid
     driven = driven_then setting.place here old is _ new same session refl (same_flag ∙ whole) (taken_view ∙ ap (λ s. Some s.view) (sym (failed_standing goes ∙ heard_standing hearing))) waits past;
   }
 
-  -- ---- memory was wanting in a refresh
+  -- ---- memory ran out in a refresh
 
   in_vain : (answer : Answer) (t : Session) → later ≡ longer before.marks.trail (told node question answer) → LacksMemory asking.taken t → new.cache ≡ mid.cache → IsSession judges t new.session → new.session.is_cut ≡ mid.session.is_cut → Goes
   in_vain answer t is_later lacking stays session same_flag =
@@ -130,7 +130,7 @@ module _ {P K S C : Type 0} (setting : Setting P K S C) (here : Driven) (old mid
         driven = over_driven (as_session taken t) over.0 over.1 session (sym stays) (same_flag ∙ whole) (lacking_standing lacking);
       }
 
-  -- ---- memory was wanting for a put
+  -- ---- memory ran out for a put
 
   module _ (said : Option Said) (posts : List Post) (acks : List Ack) (at : asking.taken.stage ≡ Publishing said posts acks) (flag : new.session.is_cut ≡ true) (stays : new.cache ≡ mid.cache)
       (session : IsSession judges (record asking.taken { stage = Over said; current = [] }) new.session) where

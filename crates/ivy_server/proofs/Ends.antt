@@ -8,8 +8,8 @@ use Rattle.dhash_model.specs.Signed.{hss_judged}
 use Rattle.log_heads.specs.declared.judge.HssJudge.{HssJudge}
 use Rattle.log_model.specs.View.{View}
 use Rattle.agent_model.specs.Standing.{Standing as ModelStanding, standing_in}
-use Rattle.session_model.specs.Courses.{Begins}
-use Rattle.session_model.specs.Courses.Begins.{alone, refreshes}
+use Rattle.session_model.specs.Executions.{Begins}
+use Rattle.session_model.specs.Executions.Begins.{alone, refreshes}
 use Rattle.session_model.specs.Sessions.{Over, Publishing, Session, TakesSome}
 use Rattle.log_fetch.specs.declared.standing.Standing.{Standing}
 use Rattle.log_fetch.specs.Standings.{standing_of}

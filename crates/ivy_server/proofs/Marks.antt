@@ -1,4 +1,4 @@
--- What acts leave marks on, one behind the other.
+-- What acts leave marks on, one after the other.
 use Rattle.std.proofs.Common.{◌≡◌, ℕ, List, [], ◌∷◌, ◌++◌, Option, Some, None, refl, sym, ap, ◌∙◌, subst}
 use Rattle.std.specs.Prelude.{option_map}
 use Rattle.std.proofs.lemmas.List.{append_assoc, append-nil}
@@ -54,7 +54,7 @@ module _ {C : Type 0} {gives : C → ℕ × ℕ → C → Type 0} where
   pub leave_same : (before after : Marks C) → after ≡ before → Leave gives before [] after
   leave_same before after same = subst (Leave gives before []) (sym same) (leave_none before)
 
-  -- those of acts, one behind the other
+  -- those of acts, one after the other
   pub leave_then : (before between after : Marks C) (acts next : List Act) → Leave gives before acts between → Leave gives between next after → Leave gives before (acts ++ next) after
   leave_then before between after acts next a b = record {
     trail = b.trail ∙ ap (λ l. longer l (trail_of next)) a.trail ∙ longer_then before.trail (trail_of acts) (trail_of next)

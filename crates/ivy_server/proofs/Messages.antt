@@ -9,10 +9,10 @@ use Rattle.dht_ids.specs.declared.post.Ack.{Ack}
 use Rattle.dht_ids.specs.declared.post.Post.{Post}
 use Rattle.log_heads.specs.declared.judge.HssJudge.{HssJudge}
 use Rattle.agent_model.specs.Standing.{Standing}
-use Rattle.session_model.specs.Courses.{Begins, Fails, LacksMemory}
-use Rattle.session_model.specs.Courses.Begins.{alone, refreshes}
-use Rattle.session_model.specs.Courses.Fails.{fails, goes_on}
-use Rattle.session_model.specs.Courses.LacksMemory.{lacks}
+use Rattle.session_model.specs.Executions.{Begins, Fails, LacksMemory}
+use Rattle.session_model.specs.Executions.Begins.{alone, refreshes}
+use Rattle.session_model.specs.Executions.Fails.{fails, goes_on}
+use Rattle.session_model.specs.Executions.LacksMemory.{lacks}
 use Rattle.session_model.specs.Refreshing.{Note}
 use Rattle.session_model.specs.Replies.{missed_reply, said_bare, said_no_memory, said_of}
 use Rattle.session_model.specs.Sessions.{Cache, Hears, Over, Publishing, Refreshing, Said, Session, Stage, acknowledged, after_put}
@@ -23,7 +23,7 @@ use Rattle.ivy_session.proofs.Staying.{taken_same}
 use Rattle.server_model.specs.Acts.{Act, Gave}
 use Rattle.server_model.specs.Driving.{Does, Driven, Makes, Went}
 use Rattle.server_model.specs.Driving.Does.{asks, asks_in_vain, turns, settles}
-use Rattle.server_model.specs.Driving.Makes.{answers, begins_anew, gives_up, lacks_memory as makes_lacking}
+use Rattle.server_model.specs.Driving.Makes.{answers, begins_again, gives_up, lacks_memory as makes_lacking}
 use Rattle.server_model.specs.Driving.Went.{none, more, lacks_memory, is_cut}
 use Rattle.server_model.specs.Serving.{Serves, driven_first}
 use Rattle.server_model.specs.Serving.Serves.{serves}
@@ -32,7 +32,7 @@ use Rattle.server_model.specs.Takers.Follows.{none as follows_none}
 use Rattle.log_model.specs.View.{View}
 use Rattle.ivy_agent.specs.Calls.{Made}
 use Rattle.ivy_server.specs.Passes.{Passes, by_passes}
-use Rattle.ivy_server.specs.Sessions.{BeginsWith, CameOf, Held, IsDriven, IsServingOf, IsUnderWay, Place, Setting, StepsFrom, Touched, outcome_for, place_of, ring_in}
+use Rattle.ivy_server.specs.Sessions.{BeginsWith, CameOf, Held, IsDriven, IsServingOf, IsInProgress, Place, Setting, StepsFrom, Touched, outcome_for, place_of, ring_in}
 use Rattle.ivy_server.specs.declared.message.Outcome.{Outcome}
 use Rattle.ivy_server.proofs.Marks.{leave_none, leave_then}
 use Rattle.ivy_server.proofs.Ways.{WentTo, follows_then, went_then}
@@ -65,7 +65,7 @@ module _ (Q : Option Said → Type 0) (of_reply : (xid : ℕ) (reply : Reply) �
 
   makes_says : (xid : ℕ) (s : Session) (notes : List Note) {gave : Gave} {t : Session} → Makes s notes xid gave t → Says Q s.stage → Says Q t.stage
   makes_says xid s notes (answers reply posts) q = of_reply xid reply
-  makes_says xid s notes (begins_anew standing few) q = q
+  makes_says xid s notes (begins_again standing few) q = q
   makes_says xid s notes (gives_up standing many) q = of_none xid
   makes_says xid s notes (makes_lacking t lacking) q = lacks_says lacking
 
@@ -160,8 +160,8 @@ same_place r e v = λ i. place_of (r i) (e i) (v i)
 
 module _ {P K S C : Type 0} (by : Passes P K S) (gives : C → ℕ × ℕ → C → Type 0) (place later : Place) (same : later ≡ place) (message : List ℕ) (old : Cache) (before now : Touched P C) (held : Held)
     (serving : IsServingOf (record { by = by; gives = gives; place = place }) message old before now held) where
-  pub under_way_still : IsUnderWay later held
-  under_way_still = (serving.there, subst (λ (p : Place). IsDriven p serving.there held) (sym same) serving.driven)
+  pub in_progress_still : IsInProgress later held
+  in_progress_still = (serving.there, subst (λ (p : Place). IsDriven p serving.there held) (sym same) serving.driven)
 
   module _ (after : Touched P C) (new : Held) where
     abbrev StepsIn : Option Served → Place → Type 0

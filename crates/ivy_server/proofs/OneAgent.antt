@@ -10,7 +10,7 @@ use Rattle.ivy_agent.specs.Saves as agents
 use Rattle.server_model.specs.Acts.{Act, Gave, Replied, TurnAsked}
 use Rattle.server_model.specs.Alone.{Saves, SettlesAlone, StandsAlone, TurnsAlone, one_agent}
 use Rattle.server_model.specs.Alone.TurnsAlone.{replies as replies_alone, refuses as refuses_alone, lacks_memory as lacks_alone}
-use Rattle.server_model.specs.Links.{Course, HasServedNext, Link}
+use Rattle.server_model.specs.Links.{Execution, HasServedNext, Link}
 use Rattle.server_model.specs.Links.Link.{done, cut, too_long, not_a_call, read_fault, write_fault, unwritten, was_cut, stopped}
 use Rattle.server_model.specs.Serving.{Answer, Between, Serves, ServesEach}
 use Rattle.server_model.specs.Serving.Serves.{serves}
@@ -67,7 +67,7 @@ module _ {A B : Type 0} (f : A → B) (first : Taker A) (other : Taker B) (does 
   looked_too : {a b : A} → MayHaveLooked first a b → MayHaveLooked other (f a) (f b)
   looked_too {a = a} {b = b} looked = ⊎_elim (λ same. inl (ap f same)) (λ looks. inr (does.looks a b looks)) looked
 
-  pub link_too : {p q : A} {course : Course} {how : Ended} → Link first ring p course how q → Link other ring (f p) course how (f q)
+  pub link_too : {p q : A} {execution : Execution} {how : Ended} → Link first ring p execution how q → Link other ring (f p) execution how (f q)
   link_too (done split served) = done split (each_too served)
   link_too (cut rest some split served) = cut rest some split (each_too served)
   link_too (too_long over served) = too_long over (each_too served)
@@ -112,5 +112,5 @@ module _ {K S : Type 0} (signs : Signing S) (is_whole : S → Type 0) (saves : K
   looks_so p q g = ap owner_of (sym g.left ∙ g.came)
 
   pub alone_is_one_agent : AloneIsOneAgent signs is_whole saves
-  alone_is_one_agent ring p q course how link =
+  alone_is_one_agent ring p q execution how link =
       link_too owner_of (by_passes (itself signs is_whole saves)) (one_agent signs saves) (record { stands = stands_so; takes_turn = turns_so; settles = settles_so; looks = looks_so }) ring link

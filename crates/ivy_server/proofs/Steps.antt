@@ -15,7 +15,7 @@ use Rattle.ivy_session.specs.Stepping.{IsNext}
 use Rattle.ivy_session.proofs.Hearing.{asks_for_data}
 use Rattle.server_model.specs.Driving.{Driven}
 use Rattle.ivy_server.specs.Passes.{GivesSettling}
-use Rattle.ivy_server.specs.Sessions.{GoesOn, HasHadTurn, HasHeardOf, Held, IsDriven, IsOver, IsUnderWay, MayTurn, Place, Setting, Touched, judges}
+use Rattle.ivy_server.specs.Sessions.{GoesOn, HasHadTurn, HasHeardOf, Held, IsDriven, IsOver, IsInProgress, MayTurn, Place, Setting, Touched, judges}
 use Rattle.ivy_server.proofs.Asks.{Asks, ask_goes, asks_then, wants}
 use Rattle.ivy_server.proofs.Ends.{done_is_over, settle_goes}
 use Rattle.ivy_server.proofs.Turns.{may_turn, turn_goes, turns_then}
@@ -25,9 +25,9 @@ use Rattle.ivy_server.proofs.Whole.{more_is_whole}
 abbrev pub Wants : Held → Held → Next → Type 0
 Wants old mid wanted = IsNext judges old.session mid.session old.cache mid.cache wanted
 
-module _ (place : Place) (old : Held) (under_way : IsUnderWay place old) (mid : Held) where
-  asking : (node : Peer) (question : Ask) → Wants old mid (next.Ask node question) → Asks place under_way.0 old under_way.1 mid node question
-  asking node question wanted = asks_then place under_way.0 old under_way.1 mid node question (wants place under_way.0 old under_way.1 mid (next.Ask node question) wanted)
+module _ (place : Place) (old : Held) (in_progress : IsInProgress place old) (mid : Held) where
+  asking : (node : Peer) (question : Ask) → Wants old mid (next.Ask node question) → Asks place in_progress.0 old in_progress.1 mid node question
+  asking node question wanted = asks_then place in_progress.0 old in_progress.1 mid node question (wants place in_progress.0 old in_progress.1 mid (next.Ask node question) wanted)
 
   pub ask_is_awaited : (node : Peer) (question : Ask) → Wants old mid (next.Ask node question) → session_awaited mid.session ≡ None → ⊥
   ask_is_awaited node question wanted nobody = cc (sym (asking node question wanted).awaited ∙ nobody)
@@ -36,7 +36,7 @@ module _ (place : Place) (old : Held) (under_way : IsUnderWay place old) (mid : 
   ask_is_for_data node question wanted = asks_for_data (asking node question wanted).asks
 
   pub turn_may_be : (refresh : Refresh) → Wants old mid (next.Turn refresh) → MayTurn place.view refresh mid.session
-  turn_may_be refresh wanted = may_turn place under_way.0 old under_way.1 mid refresh (turns_then place under_way.0 old under_way.1 mid refresh (wants place under_way.0 old under_way.1 mid (next.Turn refresh) wanted))
+  turn_may_be refresh wanted = may_turn place in_progress.0 old in_progress.1 mid refresh (turns_then place in_progress.0 old in_progress.1 mid refresh (wants place in_progress.0 old in_progress.1 mid (next.Turn refresh) wanted))
 
 module _ {P K S C : Type 0} (setting : Setting P K S C) (old mid new : Held) where
   pub ask_steps : (before : Touched P C) (later : Option (List Heard)) (node : Peer) (question : Ask) → Wants old mid (next.Ask node question) → IsCutAsWanted old.session mid.session (next.Ask node question) → HasHeardOf (node, question) mid new before.marks.trail later → is_turning new.session.stage ≡ false

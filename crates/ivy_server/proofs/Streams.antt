@@ -60,7 +60,7 @@ split_map (m ∷ first) second (f ∷ framed) fit are =
     head_same : (a b : List ℕ) (x y u v : List (List ℕ)) → a ∷ x ≡ b ∷ y → u ≡ v → a ∷ u ≡ b ∷ v
     head_same a b x y u v e same = cc (e, same)
 
--- and what stands behind the first
+-- and what stands after the first
 pub begins_first : (bytes : List ℕ) (first second : List (List ℕ)) (rest : List ℕ) → Begins bytes (first ++ second) rest → (back : List Framed) × (second ≡ map bytes_in back) × Begins bytes first (flat_map marked back ++ rest)
 begins_first bytes first second rest h =
     let s = split_map first second h.framed h.fit h.are in (
@@ -72,7 +72,7 @@ begins_first bytes first second rest h =
 pub reads_first : (bytes : List ℕ) (first second : List (List ℕ)) → HasRead bytes (first ++ second) → HasRead bytes first
 reads_first bytes first second h = let b = begins_first bytes first second h.0 h.1 in (flat_map marked b.0 ++ h.0, b.2)
 
--- where another message follows, something is behind the first
+-- where another message follows, something is after the first
 some_behind : (message rest : List ℕ) (back : List Framed) → message ∷ [] ≡ map bytes_in back → flat_map marked back ++ rest ≡ [] → ⊥
 some_behind message rest [] are e = cc are
 some_behind message rest (f ∷ back) are e = not_empty f (flat_map marked back) rest e
@@ -123,7 +123,7 @@ module _ {P K S C : Type 0} (setting : Setting P K S C) (start : Surroundings P 
     -- no session could begin
     pub ends_before : (p : P) (marks : Marks C) → MayHaveLooked (by_passes setting.by) before.pass p → marks ≡ before.marks → IsServed (server_of setting) start (record before { pass = p; marks = marks }) ended.Memory
     ends_before p marks looked same = let b = begins_before read taken message in_order in record {
-      course = record { read = read; acts = serving.acts; written = sent serving.replies };
+      execution = record { read = read; acts = serving.acts; written = sent serving.replies };
       link = stopped b.0 (inr b.1) b.2 serving.served looked;
       left = serving.left;
       held = serving.held;
@@ -159,7 +159,7 @@ module _ {P K S C : Type 0} (setting : Setting P K S C) (start : Surroundings P 
       pub ends_not_a_call : (is_cut : Bool) × WasServed setting message cache new touched (record { pass = p; marks = marks }) (record { reply = None; is_cut = is_cut })
           → IsServed (server_of setting) start (record before { pass = p; marks = marks }) ended.NotACall
       ends_not_a_call was = record {
-        course = record { read = read; acts = serving.acts ++ was.1.acts; written = sent serving.replies };
+        execution = record { read = read; acts = serving.acts ++ was.1.acts; written = sent serving.replies };
         link = not_a_call was.0 (next_so was.1.acts _ was.1.serves);
         left = serving.left;
         held = serving.held;
@@ -203,7 +203,7 @@ module _ {P K S C : Type 0} (setting : Setting P K S C) (start : Surroundings P 
         -- it was cut
         ends_cut : is_cut ≡ true → held ≡ then before.held (fragment true reply) → before.writes ≤ writes → IsServed (server_of setting) start after ended.Memory
         ends_cut cut_now is later = record {
-          course = record { read = read; acts = serving.acts ++ was.acts; written = sent (serving.replies ++ reply ∷ []) };
+          execution = record { read = read; acts = serving.acts ++ was.acts; written = sent (serving.replies ++ reply ∷ []) };
           link = was_cut reply (next_so was.acts _ (subst (λ (b : Bool). ServedSo was.acts (record { reply = Some reply; is_cut = b })) cut_now was.serves));
           left = serving.left;
           held = whole_now is;
@@ -217,7 +217,7 @@ module _ {P K S C : Type 0} (setting : Setting P K S C) (start : Surroundings P 
             → Link (by_passes setting.by) (ring_in setting.place) start.pass (record { read = read; acts = serving.acts ++ was.acts; written = sent serving.replies ++ take count (fragment true reply) }) how p
             → HasEndCause how start after → IsServed (server_of setting) start after how
         ends_in_part how count is later link cause = record {
-          course = record { read = read; acts = serving.acts ++ was.acts; written = sent serving.replies ++ take count (fragment true reply) };
+          execution = record { read = read; acts = serving.acts ++ was.acts; written = sent serving.replies ++ take count (fragment true reply) };
           link = link;
           left = serving.left;
           held = part_now count is;

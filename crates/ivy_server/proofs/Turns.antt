@@ -8,9 +8,9 @@ use Rattle.log_model.specs.View.{View}
 use Rattle.log_records.specs.Batches.{Batch}
 use Rattle.turn_model.specs.Turn.{Asked as ModelAsked}
 use Rattle.dht_ids.specs.declared.post.Post.{Post}
-use Rattle.agent_model.specs.Standing.{Refresh as ModelRefresh, Standing as ModelStanding, anew_in}
+use Rattle.agent_model.specs.Standing.{Refresh as ModelRefresh, Standing as ModelStanding, begun_again_in}
 use Rattle.agent_model.specs.Turning.{Behind, BelowTide, TurnEnd}
-use Rattle.session_model.specs.Courses.{HasRefreshed, IsRefusal, LacksMemory, anew, answered, ended}
+use Rattle.session_model.specs.Executions.{HasRefreshed, IsRefusal, LacksMemory, anew, answered_by_turn, ended}
 use Rattle.session_model.specs.Refreshing.{Note}
 use Rattle.session_model.specs.Replies.{Asks, said_no_memory, said_of}
 use Rattle.session_model.specs.Sessions.{Over, Publishing, Said, Session, in_publishing_order}
@@ -29,15 +29,15 @@ use Rattle.ivy_session.specs.declared.session.Next.TheVariants as next
 use Rattle.ivy_session.specs.Cutting.{IsCutAsTurned}
 use Rattle.ivy_session.specs.States.{HasAsked, IsSession, is_turning}
 use Rattle.ivy_session.specs.Stepping as code
-use Rattle.ivy_session.specs.Stepping.{IsAnewFor, IsBatchOf, IsSameSession, NextIs, TurnedIs}
-use Rattle.ivy_session.specs.Stepping.IsRefused.{begins_anew as code_begins, lacks_memory as code_lacks, gives_up as code_gives_up}
+use Rattle.ivy_session.specs.Stepping.{IsAgainFor, IsBatchOf, IsSameSession, NextIs, TurnedIs}
+use Rattle.ivy_session.specs.Stepping.IsRefused.{begins_again as code_begins, lacks_memory as code_lacks, gives_up as code_gives_up}
 use Rattle.ivy_session.proofs.Called.{IsAskedOf, asks_as, batch_of_members, refreshed_as, turn_is_asked}
 use Rattle.ivy_session.proofs.Staying.{lacking_standing, taken_same}
 use Rattle.ivy_session.proofs.Wanted.{TurnsThen, then_same, turns_then as session_turns}
 use Rattle.server_model.specs.Acts.{Gave, Lacked, Refused, Replied, TakingTurn, TurnAsked}
 use Rattle.server_model.specs.Driving.{Driven, Makes, as_session, over_with}
 use Rattle.server_model.specs.Driving.Does.{turns}
-use Rattle.server_model.specs.Driving.Makes.{answers, begins_anew, gives_up, lacks_memory as makes_lacking}
+use Rattle.server_model.specs.Driving.Makes.{answers, begins_again, gives_up, lacks_memory as makes_lacking}
 use Rattle.server_model.specs.Driving.Went.{is_cut, lacks_memory}
 use Rattle.server_model.specs.Takers.Follows.{none as follows_none, turns as follows_turns}
 use Rattle.ivy_server.specs.Passes.{GivesTurn}
@@ -60,7 +60,7 @@ some_view view v b is fetched = subst (λ (o : Option View). IsSomeAnd o (λ w. 
 -- ---- where a turn is wanted
 
 module _ (place : Place) (here : Driven) (old : Held) (is : IsDriven place here old) where
-  -- what was at hand is taken, and the refresh is done
+  -- what was available is taken, and the refresh is done
   abbrev pub Turns : Held → Refresh → Type 0
   Turns mid refresh = TurnsThen judges hss_judged place.replicas here.session here.cache mid.session mid.cache refresh
 
@@ -135,7 +135,7 @@ module _ {P K S C : Type 0} (setting : Setting P K S C) (here : Driven) (old mid
       driven = driven_then setting.place here old is (as_session taken t) new same session (sym stays) (same_flag ∙ whole) also (waits_for_none t) past;
     }
 
-    -- and the session is cut behind it
+    -- and the session is cut after it
     goes_cut : (t : Session) (said : Option Said) (posts : List Post) → Makes wanted.taken notes xid gave t → t.stage ≡ Publishing said posts [] → new.session.is_cut ≡ true → IsSession judges (record t { stage = Over said }) new.session
         → setting.place.view ≡ Some t.standing.view → Goes
     goes_cut t said posts makes at flag session also = record {
@@ -147,7 +147,7 @@ module _ {P K S C : Type 0} (setting : Setting P K S C) (here : Driven) (old mid
       driven = driven_then setting.place here old is _ new same session (sym stays) flag also (waits_for_none (record t { stage = Over said })) past;
     }
 
-    -- or memory is wanting then
+    -- or memory runs out then
     goes_lacking : (t u : Session) → Makes wanted.taken notes xid gave t → LacksMemory t u → IsSession judges u new.session → new.session.is_cut ≡ mid.session.is_cut → setting.place.view ≡ Some t.standing.view → Goes
     goes_lacking t u makes lacking session same_flag also = record {
       acts = TakingTurn turn gave ∷ [];
@@ -179,13 +179,13 @@ module _ {P K S C : Type 0} (setting : Setting P K S C) (here : Driven) (old mid
       let acted = replied turned took made in
       let done = done_so a.notes a.given a.refreshed in
       let asks = asks_so a.xid a.asked a.asks in
-      ⊎_elim (λ session. goes_by (Replied took.reply turned.posts) acted a.notes a.xid done asks (answered wanted.taken (said_of a.xid took.reply) a.notes turned.posts) (answers took.reply turned.posts) session
-      (answered_is_whole mid.session new.session (Ok turned) cut_so judges (answered wanted.taken (said_of a.xid took.reply) a.notes turned.posts) session (Some (said_of a.xid took.reply), in_publishing_order turned.posts, [], refl)) viewed)
-      (λ cut. goes_cut (Replied took.reply turned.posts) acted a.notes a.xid done asks (answered wanted.taken (said_of a.xid took.reply) a.notes turned.posts) (Some (said_of a.xid took.reply)) (in_publishing_order turned.posts)
+      ⊎_elim (λ session. goes_by (Replied took.reply turned.posts) acted a.notes a.xid done asks (answered_by_turn wanted.taken (said_of a.xid took.reply) a.notes turned.posts) (answers took.reply turned.posts) session
+      (answered_is_whole mid.session new.session (Ok turned) cut_so judges (answered_by_turn wanted.taken (said_of a.xid took.reply) a.notes turned.posts) session (Some (said_of a.xid took.reply), in_publishing_order turned.posts, [], refl)) viewed)
+      (λ cut. goes_cut (Replied took.reply turned.posts) acted a.notes a.xid done asks (answered_by_turn wanted.taken (said_of a.xid took.reply) a.notes turned.posts) (Some (said_of a.xid took.reply)) (in_publishing_order turned.posts)
       (answers took.reply turned.posts) refl cut.0 cut.1 viewed)
       a.publishes
 
-  -- ---- memory was wanting for it
+  -- ---- memory ran out for it
 
   lacked : Took (Err fault.Memory) → MadeSo (Err fault.Memory) → HasActed Lacked
   lacked took made = record {
@@ -200,7 +200,7 @@ module _ {P K S C : Type 0} (setting : Setting P K S C) (here : Driven) (old mid
   -- ---- it was refused
 
   module _ (end : TurnEnd) (refusal : IsRefusal end) (standing : ModelStanding) (took : TurnsAs setting.by.signs setting.by.is_whole setting.by.saves view (refresh_of refresh) (asked_of had.asked) (moment_of had.moment) had.turn.found false end had.turn.after)
-      (anew_is : standing ≡ anew_in setting.by.signs had.turn.after.agent view) (made : after.marks.made ≡ before.marks.made) (same_flag : new.session.is_cut ≡ mid.session.is_cut) where
+      (anew_is : standing ≡ begun_again_in setting.by.signs had.turn.after.agent view) (made : after.marks.made ≡ before.marks.made) (same_flag : new.session.is_cut ≡ mid.session.is_cut) where
     refused : HasActed (Refused standing)
     refused = record {
       gives = subst (λ (s : ModelStanding). GivesTurn setting.by before.pass turn (Refused s) after.pass) (sym anew_is)
@@ -212,8 +212,8 @@ module _ {P K S C : Type 0} (setting : Setting P K S C) (here : Driven) (old mid
     anew_viewed = viewed ∙ ap (λ (s : ModelStanding). Some s.view) (sym anew_is)
 
     by_refusal : code.IsRefused judges mid.session new.session wanted.taken standing → Goes
-    by_refusal (code_begins few session) = goes_by (Refused standing) refused wanted.notes call.xid wanted.done call.asks (anew wanted.taken standing) (begins_anew standing few) session same_flag anew_viewed
-    by_refusal (code_lacks t few lacking session) = goes_lacking (Refused standing) refused wanted.notes call.xid wanted.done call.asks (anew wanted.taken standing) t (begins_anew standing few) lacking session same_flag anew_viewed
+    by_refusal (code_begins few session) = goes_by (Refused standing) refused wanted.notes call.xid wanted.done call.asks (anew wanted.taken standing) (begins_again standing few) session same_flag anew_viewed
+    by_refusal (code_lacks t few lacking session) = goes_lacking (Refused standing) refused wanted.notes call.xid wanted.done call.asks (anew wanted.taken standing) t (begins_again standing few) lacking session same_flag anew_viewed
     by_refusal (code_gives_up xid notes given other many done asks session) =
         goes_by (Refused standing) refused notes xid (done_so notes given done) (asks_so xid other asks) (ended wanted.taken (said_no_memory xid) notes None) (gives_up standing many) session same_flag viewed
 
@@ -235,12 +235,12 @@ module _ {P K S C : Type 0} (setting : Setting P K S C) (here : Driven) (old mid
 -- ---- what the session is told of its turn
 
 module _ {K S : Type 0} (signs : Signing S) (is_whole : S → Type 0) (saves : K → List ℕ → Bool → K → Type 0) (brought : ModelRefresh) (asked : ModelAsked) (now : Moment) (before after : Holder K S) where
-  anew_so : (v : View) (result : Result Turned TurnFault) → TakesTurn signs is_whole saves v brought asked now before result after → IfErr result IsAnewFor
+  anew_so : (v : View) (result : Result Turned TurnFault) → TakesTurn signs is_whole saves v brought asked now before result after → IfErr result IsAgainFor
   anew_so v (Ok turned) takes = tt
   anew_so v (Err fault.Memory) takes = tt
   anew_so v (Err (fault.Behind standing)) takes = ap (λ (x : ModelStanding). x.to_load) takes.anew
   anew_so v (Err (fault.BelowTide standing)) takes = ap (λ (x : ModelStanding). x.to_load) takes.anew
 
-  pub turn_is_anew : (seen : Option View) (s : Session) (result : Result Turned TurnFault) → seen ≡ Some s.standing.view
-      → IfSome seen (λ v. TakesTurn signs is_whole saves v brought asked now before result after) → IfErr result IsAnewFor
-  turn_is_anew seen s result is takes = anew_so s.standing.view result (subst (λ (o : Option View). IfSome o (λ v. TakesTurn signs is_whole saves v brought asked now before result after)) is takes)
+  pub turn_is_again : (seen : Option View) (s : Session) (result : Result Turned TurnFault) → seen ≡ Some s.standing.view
+      → IfSome seen (λ v. TakesTurn signs is_whole saves v brought asked now before result after) → IfErr result IsAgainFor
+  turn_is_again seen s result is takes = anew_so s.standing.view result (subst (λ (o : Option View). IfSome o (λ v. TakesTurn signs is_whole saves v brought asked now before result after)) is takes)

@@ -136,7 +136,7 @@ module _ {P K S C : Type 0} (setting : Setting P K S C) (start : Surroundings P 
   ends_at_once =
       let serving = serving_first setting start (sym (onto-nil start.left)) in
       record {
-        course = record { read = []; acts = serving.acts; written = _ };
+        execution = record { read = []; acts = serving.acts; written = _ };
         link = stopped [] (inl refl) (record { framed = []; fit = tt; are = refl; spelled = refl }) serving.served (inl refl);
         left = serving.left;
         held = serving.held;
@@ -185,7 +185,7 @@ module _ {P K S C : Type 0} (setting : Setting P K S C) (start : Surroundings P 
       ends_by piece.Fed h how e = absurd (reading_or_not how e)
       ends_by piece.TooLong h how e = absurd (reading_or_not how e)
       ends_by piece.End h how e = subst (IsServed (server_of setting) start now) (same_end ended.Done how e) (record {
-        course = record { read = on.read; acts = on.serving.acts; written = _ };
+        execution = record { read = on.read; acts = on.serving.acts; written = _ };
         link = done h.2 on.serving.served;
         left = left_same h.0;
         held = on.serving.held;
@@ -195,7 +195,7 @@ module _ {P K S C : Type 0} (setting : Setting P K S C) (start : Surroundings P 
         writes = on.serving.writes;
       })
       ends_by piece.CutOff h how e = subst (IsServed (server_of setting) start now) (same_end ended.Cut how e) (record {
-        course = record { read = on.read; acts = on.serving.acts; written = _ };
+        execution = record { read = on.read; acts = on.serving.acts; written = _ };
         link = cut h.2.0 h.2.1 h.2.2 on.serving.served;
         left = left_same h.0;
         held = on.serving.held;
@@ -205,7 +205,7 @@ module _ {P K S C : Type 0} (setting : Setting P K S C) (start : Surroundings P 
         writes = on.serving.writes;
       })
       ends_by piece.Fault h how e = subst (IsServed (server_of setting) start now) (same_end ended.ReadFault how e) (record {
-        course = record { read = on.read; acts = on.serving.acts; written = _ };
+        execution = record { read = on.read; acts = on.serving.acts; written = _ };
         link = read_fault on.between.split.0 on.between.split.1 on.serving.served;
         left = left_same h.0;
         held = on.serving.held;
@@ -215,7 +215,7 @@ module _ {P K S C : Type 0} (setting : Setting P K S C) (start : Surroundings P 
         writes = on.serving.writes;
       })
       ends_by piece.Memory h how e = subst (IsServed (server_of setting) start now) (same_end ended.Memory how e) (record {
-        course = record { read = on.read ++ h.0; acts = on.serving.acts; written = _ };
+        execution = record { read = on.read ++ h.0; acts = on.serving.acts; written = _ };
         link = stopped (on.between.split.0 ++ h.0) (inr (some_more on.between.split.0 h.0 h.2)) (begins_on on.read h.0 on.between.split.0 on.taken on.between.split.1.begins) on.serving.served (inl refl);
         left = left_so h.0 h.1;
         held = on.serving.held;
@@ -258,7 +258,7 @@ module _ {P K S C : Type 0} (setting : Setting P K S C) (start : Surroundings P 
 
         pub ends_too_long : (h : HasReadPiece old_source new_source on.read on.taken frames piece.TooLong) → IsServing setting start after then (on.read ++ h.0) (on.taken ++ frames.waiting) → IsServed (server_of setting) start after ended.TooLong
         ends_too_long h serving = record {
-          course = record { read = on.read ++ h.0; acts = serving.acts; written = _ };
+          execution = record { read = on.read ++ h.0; acts = serving.acts; written = _ };
           link = too_long h.3 serving.served;
           left = serving.left;
           held = serving.held;

@@ -1,4 +1,4 @@
--- The ways of sessions, and what follows them, one behind another.
+-- The ways of sessions, and what follows them, one after another.
 use Rattle.std.proofs.Common.{List, [], ◌∷◌, ◌++◌, sym, subst}
 use Rattle.std.proofs.lemmas.List.{append_assoc, append-nil}
 use Rattle.server_model.specs.Acts.{Act}

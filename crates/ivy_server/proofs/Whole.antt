@@ -10,9 +10,9 @@ use Rattle.dht_ids.specs.declared.peer.Peer.{Peer}
 use Rattle.dht_ids.specs.declared.post.Ack.{Ack}
 use Rattle.dht_ids.specs.declared.post.Post.{Post}
 use Rattle.dhash_client.specs.GetHead.{Judges}
-use Rattle.session_model.specs.Courses.{Fails, LacksMemory}
-use Rattle.session_model.specs.Courses.Fails.{fails, goes_on}
-use Rattle.session_model.specs.Courses.LacksMemory.{lacks}
+use Rattle.session_model.specs.Executions.{Fails, LacksMemory}
+use Rattle.session_model.specs.Executions.Fails.{fails, goes_on}
+use Rattle.session_model.specs.Executions.LacksMemory.{lacks}
 use Rattle.session_model.specs.Sessions.{Cache, Hears, Over, Publishing, Refreshing, Said, Session, Stage, acknowledged, after_put}
 use Rattle.session_model.specs.Sessions.Hears.{gets_on, got, puts_on, puts}
 use Rattle.log_fetch.specs.declared.turned.Turned.{Turned}
@@ -82,7 +82,7 @@ module _ {J : Type 0} (old new : SessionState J) (wanted : Next) (cut : IsCutAsW
   pub refreshing_is_whole : (judges : Judges J) (s : Session) → IsSession judges s old → s.stage ≡ Refreshing → new.is_cut ≡ old.is_cut
   refreshing_is_whole judges s session is = flag_stays old.is_cut new.is_cut _ cut (and_left (is_publishing old.stage) (is_done wanted) (refreshing_at judges s old is old.stage session.at))
 
--- memory was wanting in a refresh
+-- memory ran out in a refresh
 pub lacking_refreshed : {s t : Session} → LacksMemory s t → s.stage ≡ Refreshing
 lacking_refreshed (lacks notes shown given end xid asked at refreshed asks rest front) = at
 
@@ -116,7 +116,7 @@ module _ {J : Type 0} (judges : Judges J) (s : Session) (old new : SessionState 
       → (t : Session) → Fails heard t → IsSession judges t new → new.is_cut ≡ old.is_cut
   heard_is_whole hearing t goes is = ⊎_elim (λ at. get_is_whole at) (λ at. put_is_whole t is (publishes_on goes at)) (hearing_at hearing)
 
-  -- memory was wanting for it in a refresh
+  -- memory ran out for it in a refresh
   pub lacking_is_whole : {t : Session} → LacksMemory s t → new.is_cut ≡ old.is_cut
   lacking_is_whole lacking = get_is_whole (lacking_refreshed lacking)
 
@@ -127,6 +127,6 @@ module _ {J : Type 0} (old new : SessionState J) (turned : Result Turned TurnFau
   pub answered_is_whole : (judges : Judges J) (t : Session) → IsSession judges t new → Publishes t.stage → new.is_cut ≡ old.is_cut
   answered_is_whole judges t is at = flag_stays old.is_cut new.is_cut _ cut (and_right (is_ok turned) (is_over new.stage) (publishing_at judges t new at new.stage is.at))
 
-  -- it was refused, or memory was wanting
+  -- it was refused, or memory ran out
   pub refused_is_whole : is_ok turned ≡ false → new.is_cut ≡ old.is_cut
   refused_is_whole refused = flag_stays old.is_cut new.is_cut _ cut (and_left (is_ok turned) (is_over new.stage) refused)

@@ -9,14 +9,14 @@ use Rattle.rpc_wire.proofs.FrameRuns.{whole_are_split}
 use Rattle.rpc_wire.specs.Frames.{Fits, Framed, IsOver, IsSplit, IsTooLong, fragment, header, marked, message as bytes_in}
 use Rattle.agent_model.specs.Standing.{Standing}
 use Rattle.dht_ids.specs.declared.peer.Peer.{Peer}
-use Rattle.session_model.specs.Courses.{Begins as BeginsSession}
-use Rattle.session_model.specs.Courses.Begins.{alone, refreshes}
+use Rattle.session_model.specs.Executions.{Begins as BeginsSession}
+use Rattle.session_model.specs.Executions.Begins.{alone, refreshes}
 use Rattle.session_model.specs.Replies.{IsByMessage, said_bare, said_no_memory, said_of}
 use Rattle.session_model.specs.Replies.IsByMessage.{no_call, other_version, no_program, no_version, no_procedure, no_caller, no_arguments, alone as answered_alone}
 use Rattle.session_model.specs.Sessions.{Said, Session}
 use Rattle.log_model.specs.View.{View}
 use Rattle.server_model.specs.Acts.{Act}
-use Rattle.server_model.specs.Links.{Course, HasRead, Link}
+use Rattle.server_model.specs.Links.{Execution, HasRead, Link}
 use Rattle.server_model.specs.Links.Link.{done, cut, too_long, not_a_call, read_fault, write_fault, unwritten, was_cut, stopped}
 use Rattle.server_model.specs.Serving.{Answer, Between, Serves}
 use Rattle.server_model.specs.Serving.Serves.{serves}
@@ -85,7 +85,7 @@ last_of Q (f ∷ front) (m ∷ messages) message e all = last_of Q front message
     tail_is : (a b : List ℕ) (x y : List (List ℕ)) → a ∷ x ≡ b ∷ y → x ≡ y
     tail_is a b x y e = cc e
 
--- ---- more bytes behind
+-- ---- more bytes after
 
 longer_over : (bytes more : List ℕ) → IsOver bytes → IsOver (bytes ++ more)
 longer_over bytes more o = record {
@@ -133,7 +133,7 @@ module _ {P C : Type 0} (taker : Taker P) (ring : Ring) (framed : List Framed) (
       last_of IsAnyCall h.1.framed messages message h.1.are
       (among IsAnyCall framed h.1.framed (h.0 ++ more) fit h.1.fit (is ∙ ap (λ l. l ++ more) h.1.spelled ∙ append_assoc (flat_map marked h.1.framed) h.0 more) calls)
 
-  by_link : {course : Course} {how : Ended} {q : P} → Link taker ring p course how q → before.left ≡ onto course.read after.left → HasEndCause how before after → (how ≡ ended.Done) ⊎ (how ≡ ended.Memory)
+  by_link : {execution : Execution} {how : Ended} {q : P} → Link taker ring p execution how q → before.left ≡ onto execution.read after.left → HasEndCause how before after → (how ≡ ended.Done) ⊎ (how ≡ ended.Memory)
   by_link (done split served) left cause = inl refl
   by_link (cut {read = read} {messages = messages} rest some split served) left cause =
       let k = left_known all read after.left (sym known ∙ left) in

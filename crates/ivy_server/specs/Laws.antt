@@ -7,7 +7,7 @@ use Rattle.wire_model.specs.Rpc.{CallMessage, IsCall, IsOtherVersion}
 use Rattle.log_model.specs.Signing.{Signing}
 use Rattle.ivy_agent.specs.Holders.{Holder}
 use Rattle.server_model.specs.Alone.{Owner, one_agent}
-use Rattle.server_model.specs.Links.{Course, Link}
+use Rattle.server_model.specs.Links.{Execution, Link}
 use Rattle.server_model.specs.Takers.{Ring, Taker}
 use Rattle.server_model.specs.declared.ended.Ended.{Ended}
 use Rattle.server_model.specs.declared.ended.Ended.TheVariants as ended
@@ -32,9 +32,9 @@ itself signs is_whole saves = record {
 
 -- Over `Single` a link is that of one agent, whose turns follow one another by the definitions.
 abbrev pub AloneIsOneAgent : {K S : Type 0} → Signing S → (S → Type 0) → (K → List ℕ → Bool → K → Type 0) → Type 0
-AloneIsOneAgent {K = K} {S = S} signs is_whole saves = (ring : Ring) (p q : Holder K S) (course : Course) (how : Ended)
-    → Link (by_passes (itself signs is_whole saves)) ring p course how q
-    → Link (one_agent signs saves) ring (owner_of p) course how (owner_of q)
+AloneIsOneAgent {K = K} {S = S} signs is_whole saves = (ring : Ring) (p q : Holder K S) (execution : Execution) (how : Ended)
+    → Link (by_passes (itself signs is_whole saves)) ring p execution how q
+    → Link (one_agent signs saves) ring (owner_of p) execution how (owner_of q)
 
 -- ---- whole calls
 
@@ -42,8 +42,8 @@ AloneIsOneAgent {K = K} {S = S} signs is_whole saves = (ring : Ring) (p q : Hold
 abbrev pub IsAnyCall : List ℕ → Type 0
 IsAnyCall bytes = ((call : CallMessage) × IsCall bytes call) ⊎ ((xid : ℕ) × IsOtherVersion bytes xid)
 
--- Over a source of whole messages within the limit, each of them a call, and a sink, neither of which fails, a link ends with Done, or for
--- want of memory.
+-- Over a source of whole messages within the limit, each of them a call, and a sink, neither of which fails, a link ends with Done, or
+-- because memory ran out.
 abbrev pub WholeCallsAreDone : {P C : Type 0} → Taker P → (C → ℕ × ℕ → C → Type 0) → Type 0
 WholeCallsAreDone {P = P} {C = C} taker gives = (ring : Ring) (framed : List Framed) (before after : Surroundings P C) (how : Ended)
     → AllByRecursion Fits framed → AllByRecursion (λ f. IsAnyCall (message f)) framed → before.left ≡ Some (flat_map marked framed)

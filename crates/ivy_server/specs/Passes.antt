@@ -5,9 +5,9 @@ use Rattle.log_model.specs.Signing.{Signing}
 use Rattle.nfs_model.specs.declared.replies.Reply.{Reply}
 use Rattle.dht_ids.specs.declared.post.Ack.{Ack}
 use Rattle.log_fetch.specs.declared.turned.Turned.{Turned}
-use Rattle.agent_model.specs.Standing.{Standing, anew_in, standing_in}
+use Rattle.agent_model.specs.Standing.{Standing, begun_again_in, standing_in}
 use Rattle.agent_model.specs.Turning.{TurnEnd, Answered}
-use Rattle.session_model.specs.Courses.{IsRefusal}
+use Rattle.session_model.specs.Executions.{IsRefusal}
 use Rattle.ivy_agent.specs.Calls.{Settles}
 use Rattle.ivy_agent.specs.Holders.{Holder}
 use Rattle.ivy_agent.specs.Turns.{Gives, TurnsAs}
@@ -37,7 +37,7 @@ module _ {P K S : Type 0} (by : Passes P K S) where
     pub in_view : found.agent.view ≡ Some view
     pub stands : standing ≡ standing_in by.signs found.agent view
 
-  -- A turn of such an agent, for some answer to whether its save fails, and what it gave. Where memory is wanting the agent stays as it is.
+  -- A turn of such an agent, for some answer to whether its save fails, and what it gave. Where memory runs out the agent stays as it is.
   pub data GivesTurn (p : P) (turn : TurnAsked) : Gave → P → Type 0 where
     replies : (found after : Holder K S) (view : View) (fails : Bool) (reply : Reply) (turned : Turned) (q : P) → by.comes p found
         → by.leaves q after → found.agent.view ≡ Some view
@@ -46,7 +46,7 @@ module _ {P K S : Type 0} (by : Passes P K S) where
     refuses : (found after : Holder K S) (view : View) (end : TurnEnd) (q : P) → by.comes p found → by.leaves q after
         → found.agent.view ≡ Some view → IsRefusal end
         → TurnsAs by.signs by.is_whole by.saves view turn.brought turn.asked turn.now found false end after
-        → GivesTurn p turn (Refused (anew_in by.signs after.agent view)) q
+        → GivesTurn p turn (Refused (begun_again_in by.signs after.agent view)) q
     lacks_memory : (found : Holder K S) (q : P) → by.comes p found → by.leaves q found → GivesTurn p turn Lacked q
 
   -- the posts that are acknowledged are dropped

@@ -9,7 +9,7 @@ use Rattle.dht_ids.specs.Asked.{longer}
 use Rattle.dht_ids.specs.declared.ask.Heard.{Heard}
 use Rattle.ivy_agent.specs.Calls.{Made}
 use Rattle.server_model.specs.Acts.{Act, TurnAnswered, moments_of, trail_of, turns_of}
-use Rattle.server_model.specs.Links.{Course, Link}
+use Rattle.server_model.specs.Links.{Execution, Link}
 use Rattle.server_model.specs.Takers.{Ring, Taker}
 use Rattle.server_model.specs.declared.ended.Ended.{Ended}
 use Rattle.server_model.specs.declared.ended.Ended.TheVariants as ended
@@ -82,11 +82,11 @@ pub record Server (P C : Type 0) : Type 1 where
 
 -- A link was served: its bytes were read and written, its acts left their marks, and it ended with cause.
 pub record IsServed {P C : Type 0} (server : Server P C) (before after : Surroundings P C) (how : Ended) : Type 0 where
-  pub course : Course
-  pub link : Link server.taker server.ring before.pass course how after.pass
-  pub left : before.left ≡ onto course.read after.left
-  pub held : after.held ≡ then before.held course.written
-  pub marks : Leave server.gives before.marks course.acts after.marks
+  pub execution : Execution
+  pub link : Link server.taker server.ring before.pass execution how after.pass
+  pub left : before.left ≡ onto execution.read after.left
+  pub held : after.held ≡ then before.held execution.written
+  pub marks : Leave server.gives before.marks execution.acts after.marks
   pub cause : HasEndCause how before after
   pub reads : before.reads ≤ after.reads
   pub writes : before.writes ≤ after.writes

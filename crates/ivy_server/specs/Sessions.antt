@@ -13,7 +13,7 @@ use Rattle.dhash_client.specs.GetHead.{Judges}
 use Rattle.dhash_model.specs.Signed.{hss_judged}
 use Rattle.log_heads.specs.declared.judge.HssJudge.{HssJudge}
 use Rattle.agent_model.specs.Standing.{Standing}
-use Rattle.session_model.specs.Courses.{Begins}
+use Rattle.session_model.specs.Executions.{Begins}
 use Rattle.session_model.specs.Sessions.{Cache, Over, Said, Session}
 use Rattle.log_fetch.specs.declared.asked.Asked.{Asked}
 use Rattle.log_fetch.specs.declared.refresh.Refresh.{Refresh}
@@ -95,8 +95,8 @@ pub record IsDriven (place : Place) (here : Driven) (held : Held) : Type 0 where
   pub no_turn : is_turning held.session.stage ≡ false
 
 -- some session of the definitions may be it
-abbrev pub IsUnderWay : Place → Held → Type 0
-IsUnderWay place held = (here : Driven) × IsDriven place here held
+abbrev pub IsInProgress : Place → Held → Type 0
+IsInProgress place held = (here : Driven) × IsDriven place here held
 
 -- ---- beginning
 
@@ -109,7 +109,7 @@ module _ {P K S : Type 0} (by : Passes P K S) (place : Place) where
     pub begins : Begins [] message place.entries standing session
     pub driven : IsDriven place (driven_first session held.cache) held
 
-  -- None is want of memory.
+  -- None means out of memory.
   abbrev pub BeginsWith : List ℕ → P → P → Option (SessionState HssJudge) → Type 0
   BeginsWith message p q None = GivesNothing by p q
   BeginsWith message p q (Some st) = (cache : Cache) → HasBegun message p q (record { session = st; cache = cache })
@@ -163,7 +163,7 @@ module _ {P K S C : Type 0} (setting : Setting P K S C) where
     pub leave : Leave setting.gives before.marks acts after.marks
     pub driven : IsDriven setting.place there new
 
-  -- It was over, or memory was wanting and it is over, and that was told.
+  -- It was over, or memory ran out and it is over, and that was told.
   pub record IsOver (here : Driven) (new : Held) (told : Served) : Type 0 where
     pub there : Driven
     pub said : Option Said

@@ -7,7 +7,7 @@ ghost use Rattle.dht_ids.specs.Asked.{IsForData};
 ghost use Rattle.ivy_session.specs.Left.{session_left};
 ghost use Rattle.ivy_session.specs.States.{is_turning, session_awaited};
 ghost use Rattle.ivy_server.specs.Passes.{passes};
-ghost use Rattle.ivy_server.specs.Sessions.{BeginsWith, HasHadTurn, HasHeardOf, IsUnderWay, MayTurn, StepsFrom, place_of};
+ghost use Rattle.ivy_server.specs.Sessions.{BeginsWith, HasHadTurn, HasHeardOf, IsInProgress, MayTurn, StepsFrom, place_of};
 
 use block_cache::BlockCache;
 use dht_ids::{Ask, Mesh, Peer, Peers};
@@ -21,7 +21,7 @@ use log_heads::HssJudge;
 use std::alloc::Global;
 use std::sync::Wait;
 
-/// A session with that message, of an agent that the pass comes to. None is want of memory.
+/// A session with that message, of an agent that the pass comes to. None means out of memory.
 pub(crate) fn begin<R: Wait, K: Keeper, S: Signs + Drop, T: Turns<K, S>>(
     rt: &R,
     alloc: Global,
@@ -66,7 +66,7 @@ pub(crate) fn step<R: Wait, K: Keeper, S: Signs + Drop, T: Turns<K, S>, M: Mesh,
     clock: &mut C,
 ) -> Option<Served>
     requires fits { T.fits turns.now pass.old }
-    requires under_way { IsUnderWay (place_of (M.owners_of_a_key mesh.old) (M.made mesh.old) (T.view turns.now pass.old))
+    requires in_progress { IsInProgress (place_of (M.owners_of_a_key mesh.old) (M.made mesh.old) (T.view turns.now pass.old))
         (record { session = session.old; cache = cache.old }) }
     ensures fits { T.fits turns.now pass.new }
     ensures view { T.view turns.now pass.new ≡ T.view turns.now pass.old }

@@ -13,7 +13,7 @@ pub fn links_of_one_agent<K: Keeper, S: Signs>()
 {}
 
 /// A law and no code: where neither source nor sink fails, whole messages within the limit, each of them a call, end a link
-/// with Done, or for want of memory.
+/// with Done, or because memory ran out.
 pub fn whole_calls_are_done<K: Keeper, S: Signs, T: Turns<K, S>, C: Clock>(turns: &T)
     ensures { WholeCallsAreDone (by_passes (passes S.signing S.is_whole K.saves (T.comes turns.now) (T.leaves turns.now))) C.gives }
 {}

@@ -8,7 +8,7 @@
 //! - The bytes written are the replies to the messages of the bytes read, in order, each as one fragment.
 //! - The turns are those of the pass (`specs/Passes.antt`), each at a moment that the clock gave for it.
 //! - The asks went through the mesh, which tells them where it tells its trail.
-//! - A link whose session is cut ends with Memory behind its reply. Else it ends with Memory only before a byte was read,
+//! - A link whose session is cut ends with Memory after its reply. Else it ends with Memory only before a byte was read,
 //!   within a reply, or with bytes read that aren't served. So after Done no session was cut.
 //! - It waits where the turns wait, and for the source and the sink, which no bound shows.
 //!
@@ -19,7 +19,7 @@
 //! way). What is said of a session alone, whoever drives it, is in the lemmas of `ivy_session`.
 //!
 //! Lemmas, each file on those before it:
-//! - `proofs/Ways.antt`, `proofs/Marks.antt`, `proofs/Whole.antt`: ways and marks one behind another, and sessions that
+//! - `proofs/Ways.antt`, `proofs/Marks.antt`, `proofs/Whole.antt`: ways and marks one after another, and sessions that
 //!   aren't cut;
 //! - `proofs/Asks.antt`, `proofs/Turns.antt`, `proofs/Ends.antt`, `proofs/Steps.antt`: whatever a session wants next, it
 //!   is an act of the definitions;

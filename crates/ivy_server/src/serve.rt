@@ -40,7 +40,7 @@ pub(crate) enum Piece {
     CutOff,
     /// The source failed.
     Fault,
-    /// Want of memory for the piece.
+    /// Running out of memory for the piece.
     Memory,
 }
 
@@ -550,7 +550,7 @@ fn header_of(length: usize) -> Option<[u8; 4]>
     Some(header.to_be_bytes())
 }
 
-/// Both, one behind the other. The error is want of memory.
+/// Both, one after the other. The error is: out of memory.
 fn joined(alloc: Global, header: &[u8], reply: &[u8]) -> Result<Vec<u8>, AllocError>
     ensures { IfOk result (λ bytes. bytes.items ≡ header.now ++ reply.now) }
 {

@@ -49,7 +49,7 @@ pub record ServiceAsked : Type 0 where
 
 -- ---- statuses
 
--- the status where something outside is refused: it failed, or memory was wanting
+-- the status where something outside is refused: it failed, or memory ran out
 abbrev pub status_refused : OpenFault → ℕ
 status_refused refusal.Failed = 8
 status_refused refusal.Memory = 6
@@ -85,7 +85,7 @@ pub record AskedToListen {P Q W : Type 0} (ports : PortsKind P Q W) (before now 
   pub ends : ports.ends now ≡ ports.ends before
   pub faults : ports.faults before ≤ ports.faults now
 
--- they don't: their count of faults rose, or memory was wanting and they are as they were
+-- they don't: their count of faults rose, or memory ran out and they are as they were
 pub record RefusesToListen {P Q W : Type 0} (ports : PortsKind P Q W) (why : OpenFault) (before now : P) : Type 0 where
   pub asked : AskedToListen ports before now
   pub cause : Refuses ports.faults before now why
@@ -95,7 +95,7 @@ pub record TellsLine {P : Type 0} (port : ℕ) (before after : Around P) : Type 
   pub told : after.held ≡ then before.held (serving_line port)
   pub writes : before.writes ≤ after.writes
 
--- a part of it was told, and the sink's count of faults rose, or memory was wanting
+-- a part of it was reported, and the sink's count of faults rose, or memory ran out
 pub record TellsPart {P : Type 0} (port : ℕ) (why : SinkFault) (before after : Around P) : Type 0 where
   pub count : ℕ
   pub less : count < length (serving_line port)
@@ -107,7 +107,7 @@ pub record TellsPart {P : Type 0} (port : ℕ) (why : SinkFault) (before after :
 
 module _ {P K Q W C : Type 0} (ports : PortsKind P Q W) (serving : ServingKind K Signer Q W C) (moment : C → Option (ℕ × ℕ)) where
   -- The agent was behind a gate while the links of the ports were served, over a new ring of 5 nodes, of which 3 own a key. Then the gate
-  -- was closed, and this is the agent behind all turns.
+  -- was closed, and this is the agent after all turns.
   pub record HasServed (clock : C) (opening closed : Holder K Signer) (before now : P) (outcome : Outcome) : Type 0 where
     pub gate : Gate K Signer
     pub opens : gate.opening ≡ opening
@@ -124,13 +124,13 @@ module _ {P K Q W C : Type 0} (ports : PortsKind P Q W) (serving : ServingKind K
   -- How the serving of an agent goes: the agent afterwards, the status, and what is around.
   pub data Serves (port : ℕ) (clock : C) (opening : Holder K Signer) (before : Around P)
       : Option (Holder K Signer) → ℕ → Around P → Type 0 where
-    -- memory was wanting before the ports were asked to listen
+    -- memory ran out before the ports were asked to listen
     idle : Serves port clock opening before (Some opening) 6 before
     unheard : {now : P} (why : OpenFault) → RefusesToListen ports why before.ports now
         → Serves port clock opening before (Some opening) (status_refused why) (record before { ports = now })
     untold : {after : Around P} (why : SinkFault) → AskedToListen ports before.ports after.ports → TellsPart port why before after
         → Serves port clock opening before (Some opening) (status_untold why) after
-    -- memory was wanting for the gate, and the agent is lost
+    -- memory ran out for the gate, and the agent is lost
     ungated : {after : Around P} → AskedToListen ports before.ports after.ports → TellsLine port before after
         → Serves port clock opening before None 6 after
     served : {listening : P} {closed : Holder K Signer} {after : Around P} (outcome : Outcome)
@@ -156,7 +156,7 @@ module _ {P Ks K Q W C : Type 0} (kind : ServiceKind P Ks K Q W C) where
   pub data Goes (asked : ServiceAsked) (before : Outside P Ks C) : ℕ → Outside P Ks C → Type 0 where
     no_keeper : {now : Ks} (why : OpenFault) → Refuses kind.keepers.faults before.keepers now why
         → Goes asked before (status_refused why) (record before { keepers = now })
-    -- no agent could be opened: its keeper failed, so that the keepers' count of faults rose, or memory was wanting
+    -- no agent could be opened: its keeper failed, so that the keepers' count of faults rose, or memory ran out
     unopened : {keeper left : K} {lent now : Ks} {moment : ℕ × ℕ} {clock : C} (why : OpenFault)
         → HasKeeper asked before keeper lent moment clock → kind.keepers.takes lent asked.name left now
         → (why ≡ refusal.Failed → Rose (kind.keepers.faults before.keepers) (kind.keepers.faults now))

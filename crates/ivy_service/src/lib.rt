@@ -8,8 +8,8 @@
 //!   given back once, the keeper was given back, and no session wanted memory.
 //! - Status 8 comes only where the ports or the keepers failed, and then the ports' count of ends didn't rise. Links that were
 //!   given came back then too.
-//! - Status 5 comes only where the sink failed, before any link was given. Any other end is want of memory, status 6. The
-//!   keeper isn't given back where memory was wanting for the gate.
+//! - Status 5 comes only where the sink failed, before any link was given. Any other end means out of memory, status 6. The
+//!   keeper isn't given back where memory ran out for the gate.
 //!
 //! Definitions: `specs/Opening.antt` (the agent as it is opened), `specs/Service.antt` (the rest).
 //! Costs: the agent's key is grown by the caller; a ring of five nodes is made before the ports are asked to listen. The key and

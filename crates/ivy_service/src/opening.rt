@@ -13,7 +13,7 @@ use ring_run::{RememberedKey, Verdicts};
 use std::alloc::Global;
 use view_blocks::View;
 
-/// The view of one member alone. The error is want of memory.
+/// The view of one member alone. The error is: out of memory.
 fn view_of(alloc: Global, member: PubKey) -> Result<View, Memory>
     ensures { IfOk result (λ view. view ≡ record { members = member ∷ []; former = [] }) }
 {
@@ -48,7 +48,7 @@ pub(crate) struct Opened<K: Keeper + Drop> {
     pub(crate) verdicts: Verdicts,
 }
 
-/// The key, which keeps verdicts on its signatures, and these verdicts. The error is want of memory.
+/// The key, which keeps verdicts on its signatures, and these verdicts. The error is: out of memory.
 fn remembered(alloc: Global, signer: Hss) -> Result<(RememberedKey, Verdicts), Memory>
     ensures { IfOk result (λ made. made.0 ≡ signer) }
 {
@@ -57,7 +57,7 @@ fn remembered(alloc: Global, signer: Hss) -> Result<(RememberedKey, Verdicts), M
 }
 
 /// An agent that opens its log at that moment, over the keeper, and enters the view of its log alone. With the error the keeper
-/// comes back: it failed, or memory was wanting.
+/// comes back: it failed, or memory ran out.
 pub(crate) fn open<K: Keeper + Drop>(
     alloc: Global,
     keeper: K,
@@ -78,7 +78,7 @@ pub(crate) fn open<K: Keeper + Drop>(
 }
 
 /// An agent with this key that opens its log at that moment, over the keeper, and enters the view of its log alone. With the
-/// error the keeper comes back: it failed, or memory was wanting.
+/// error the keeper comes back: it failed, or memory ran out.
 fn create<K: Keeper + Drop>(
     alloc: Global,
     keeper: K,

@@ -32,7 +32,7 @@ const STATUS_ENDED: u8 = 0;
 /// That of one whose sink failed.
 const STATUS_WRITE: u8 = 5;
 
-/// That of one for which memory was wanting.
+/// That of one for which memory ran out.
 const STATUS_MEMORY: u8 = 6;
 
 /// That of one whose ports or keepers failed.
@@ -70,7 +70,7 @@ fn status_served(why: Result<(), ServeFault>, lacked: bool) -> u8
     }
 }
 
-/// The line that tells of the port. The error is want of memory.
+/// The line that tells of the port. The error is: out of memory.
 fn line_of(alloc: Global, port: u16) -> Result<Bytes, Memory>
     ensures { IfOk result (λ line. line ≡ serving_line port) }
 {
@@ -85,8 +85,8 @@ fn moment<C: Clock>(clock: &mut C) -> Moment
     Moment { sec, nsec }
 }
 
-/// Serves the links of ports that listen, over a ring, with an agent behind a gate, and gives the agent behind all turns, and the
-/// status. None is want of memory for the gate.
+/// Serves the links of ports that listen, over a ring, with an agent behind a gate, and gives the agent after all turns, and the
+/// status. None means out of memory for the gate.
 fn serve_behind_gate<R: Threads + Wait + Sync, K: Keeper + Drop + Send, P: Ports + Send, C: Clock>(
     rt: &R,
     alloc: Global,
@@ -122,7 +122,7 @@ fn serve_behind_gate<R: Threads + Wait + Sync, K: Keeper + Drop + Send, P: Ports
 }
 
 /// Asks the ports to listen, tells the sink of the port, and serves the links of the ports with the agent, over a ring with these
-/// verdicts. The agent is none where memory was wanting for its gate.
+/// verdicts. The agent is none where memory ran out for its gate.
 fn serve_agent<
     R: Threads + Wait + Sync,
     W: Sink,
@@ -168,7 +168,7 @@ fn serve_agent<
 /// nodes of which three own a key, and given back; and so is the keeper at the end.
 ///
 /// The status is 0 where the line `serving PORT` was told, the ports came to their end and no session wanted memory; 5 where the
-/// sink failed; 8 where the ports or the keepers failed; and else 6, which is want of memory.
+/// sink failed; 8 where the ports or the keepers failed; and else 6, which means out of memory.
 pub fn serve<R: Threads + Wait + Sync, W: Sink, C: Clock, P: Ports + Send, N: Keepers>(
     rt: &R,
     alloc: Global,

@@ -2,7 +2,7 @@
 use Rattle.std.proofs.Common.{◌≡◌, ℕ, ◌≤◌, arith, List, [], ◌∷◌, ◌++◌, Option, ap, ◌∙◌, refl}
 use Rattle.std.specs.Prelude.{Result, Ok, Err}
 use Rattle.ivy_io.specs.Causes.{Rose, counted}
-use Rattle.job_desk.specs.Chains.{CameBack, Course, Stops, Went, begun, gave, stopped, took}
+use Rattle.job_desk.specs.Chains.{CameBack, Execution, Stops, Went, begun, gave, stopped, took}
 use Rattle.ivy_serving.specs.declared.fault.ServeFault.{ServeFault}
 use Rattle.ivy_serving.specs.declared.fault.ServeFault.TheVariants as fault
 use Rattle.ivy_serving.specs.Jobs.{Done, Job, Pass, ServingKind}
@@ -67,7 +67,7 @@ module _ {P K S Q W C : Type 0} (ports : PortsKind P Q W) (serving : ServingKind
   stop-counted p (Err _) _ memory = (refl, tt, omega arith)
   stop-counted p (Err _) _ no_part = (refl, tt, omega arith)
 
-  pub counted-by : (p q : P) (c : Course (Job K S Q W C) (Done K S Q W C) ServeFault) → Went (at_ports ports serving moment base first) p c q → Counted p c.stops q
+  pub counted-by : (p q : P) (c : Execution (Job K S Q W C) (Done K S Q W C) ServeFault) → Went (at_ports ports serving moment base first) p c q → Counted p c.stops q
   counted-by p _ _ begun = record { ends = refl; fails = tt; never_falls = omega arith }
   counted-by p _ _ (gave {c = c} {d = d} {e = e} j h is) =
       let s = counted-by p d c h in record {

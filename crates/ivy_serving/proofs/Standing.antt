@@ -7,7 +7,7 @@ use Rattle.std.proofs.lemmas.List.Elements.{All-append, All-cons, All-head, All-
 use Rattle.std.proofs.lemmas.List.Folds.{list_any-append}
 use Rattle.std.proofs.lemmas.List.Sorted.{All-permutation, length_permutation}
 use Rattle.value_gate.specs.Passes.{IsPassOf, parts_of, with_parts}
-use Rattle.job_desk.specs.Chains.{CameBack, Course, Stops, Went, begun, gave, stopped, took}
+use Rattle.job_desk.specs.Chains.{CameBack, Execution, Stops, Went, begun, gave, stopped, took}
 use Rattle.ivy_serving.specs.declared.fault.ServeFault.{ServeFault}
 use Rattle.ivy_serving.specs.Jobs.{Done, IsServedLink, Job, Pass, ServingKind}
 use Rattle.ivy_serving.specs.Serving.{Base, Counts, IsFresh, Outcome, PortsKind, ServesLinks, Stand, at_ports, lacked_memory}
@@ -34,7 +34,7 @@ or-more false false false = refl
 
 module _ {P K S Q W C : Type 0} (ports : PortsKind P Q W) (serving : ServingKind K S Q W C) (moment : C → Option (ℕ × ℕ)) where
   -- where the desk stands after these calls
-  pub record Stood (b : DeskState P K S) (c : Course (Job K S Q W C) (Done K S Q W C) ServeFault) (d : DeskState P K S) : Type 0 where
+  pub record Stood (b : DeskState P K S) (c : Execution (Job K S Q W C) (Done K S Q W C) ServeFault) (d : DeskState P K S) : Type 0 where
     pub base : d.base ≡ b.base
     pub first : d.first ≡ with_parts b.first d.first.parts
     pub parts : d.first.parts + length c.given ≡ b.first.parts
@@ -58,7 +58,7 @@ module _ {P K S Q W C : Type 0} (ports : PortsKind P Q W) (serving : ServingKind
   stops-at b d e (Ok _) s = s
   stops-at b d e (Err f) s = s
 
-  pub stood : (b d : DeskState P K S) (c : Course (Job K S Q W C) (Done K S Q W C) ServeFault) → Went (link_desk ports serving moment) b c d → Stood b c d
+  pub stood : (b d : DeskState P K S) (c : Execution (Job K S Q W C) (Done K S Q W C) ServeFault) → Went (link_desk ports serving moment) b c d → Stood b c d
   stood b _ _ begun = record { base = refl; first = refl; parts = omega arith; passes = sym (append-nil b.passes); lacked = or-none b.lacked; went = begun }
   stood b _ _ (gave {c = c} {d = d} {e = e} j h p) =
       let s = stood b d c h in
@@ -101,7 +101,7 @@ module _ {P K S Q W C : Type 0} (ports : PortsKind P Q W) (serving : ServingKind
 
 -- all links that were given are fresh
 module _ {P K S Q W C : Type 0} (ports : PortsKind P Q W) (serving : ServingKind K S Q W C) (moment : C → Option (ℕ × ℕ)) (base : Base K S) (first : Pass K S) where
-  pub all-fresh : (p q : P) (c : Course (Job K S Q W C) (Done K S Q W C) ServeFault) → Went (at_ports ports serving moment base first) p c q
+  pub all-fresh : (p q : P) (c : Execution (Job K S Q W C) (Done K S Q W C) ServeFault) → Went (at_ports ports serving moment base first) p c q
       → All (IsFresh moment base first) c.given
   all-fresh p _ _ begun = All-nil (IsFresh moment base first)
   all-fresh p _ _ (gave {c = c} {d = d} j h is) = All-push (IsFresh moment base first) c.given j (all-fresh p d c h) is.1
@@ -133,7 +133,7 @@ pub parts-append : {K S : Type 0} (xs ys : List (Pass K S)) → parts_of (xs ++ 
 parts-append [] ys = omega arith
 parts-append (x ∷ xs) ys = let rest = parts-append xs ys in omega (arith, rest)
 
--- ---- behind the end
+-- ---- after the end
 
 module _ {P K S Q W C : Type 0} (ports : PortsKind P Q W) (serving : ServingKind K S Q W C) (moment : C → Option (ℕ × ℕ)) where
   -- what serve_links says

@@ -74,7 +74,7 @@ module _ {K S Q W C : Type 0} (serving : ServingKind K S Q W C) where
     gives = serving.moments;
   }
 
-  -- what a session touches of a link: the turns that were made with its pass are the pass's calls; of the asks nothing is told
+  -- what a session touches of a link: the turns that were made with its pass are the pass's calls; of the asks nothing is reported
   abbrev pub surroundings_of : OnLink K S Q W C → Surroundings (Pass K S) C
   surroundings_of l = record {
     left = serving.ends.left l.reads;

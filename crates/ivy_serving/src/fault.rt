@@ -8,7 +8,7 @@ pub enum ServeFault {
     /// The ports failed, and their count of faults rose.
     #[error("the ports failed")]
     Failed,
-    /// Want of memory. No clause ties this to a cause, and the ports are as they were.
+    /// Out of memory. No clause ties this to a cause, and the ports are as they were.
     #[error("out of memory")]
     Memory,
     /// The first pass has a single part left, so none can be split from it; the ports are as they were.

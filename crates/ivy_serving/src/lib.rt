@@ -5,7 +5,7 @@
 //! For the layers above: [`serve_links`] serves each link that the ports give, until there is no further one or none can be
 //! accepted, and says so by `ServesLinks` (`specs/Serving.antt`).
 //! - The ports went from their first state to their last by exactly these calls: they gave these links, took each back once,
-//!   and stopped once, with the result that is told. Behind a failure too all links that were out came back.
+//!   and stopped once, with the result that is returned. After a failure too all links that were out came back.
 //! - Each link was served from its first byte to its end, as `IsServed` of `ivy_server` says it (`IsServedLink` in
 //!   `specs/Jobs.antt`): by the agents behind the gate, over the nodes of the ring, at moments of a clock of its own.
 //! - Each link had a pass of one part that had made no call. The turns that it was answered are the calls of this pass, which

@@ -23,7 +23,7 @@ use std::thread::Threads;
 pub struct LinksServed<K: Keeper + Drop, S: Signs + Drop> {
     /// The passes: those that were given, and one for each link.
     pub passes: Vec<Pass<K, S>>,
-    /// Whether a link's session ended for want of memory.
+    /// Whether a link's session ended because memory ran out.
     pub lacked_memory: bool,
     /// Why it ended: there was no further link, or none could be accepted.
     pub why: Result<(), ServeFault>,

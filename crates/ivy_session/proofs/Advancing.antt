@@ -1,4 +1,4 @@
--- What a session's refresh wants behind what is at hand.
+-- What a session's refresh wants after what is available.
 use Rattle.std.proofs.Common.{◌≡◌, ◌≢◌, ◌⊎◌, ⊎_elim, inl, inr, ℕ, Bool, Option, Some, None, List, Result, Ok, Err, IfOk, refl, sym, ◌∙◌, subst}
 use Rattle.ivy_base.specs.declared.memory.Memory.{Memory}
 use Rattle.dht_ids.specs.declared.ask.Ask.{Ask}
@@ -15,26 +15,26 @@ use Rattle.view_refresh.specs.States.{Refreshing as RefreshState, refresh_awaite
 use Rattle.view_refresh.specs.Steps.{AsksFor, Brings, Ends, HasNoRoute, RefreshIsWanted}
 use Rattle.ivy_session.specs.States.{IsRefreshingBy}
 use Rattle.ivy_session.specs.Stepping.AsksOf.{gets}
-use Rattle.ivy_session.specs.Taking.{Advances, AtHand, IsSameCall, TakesHand}
+use Rattle.ivy_session.specs.Taking.{Advances, Available, IsSameCall, TakesHand}
 use Rattle.ivy_session.proofs.Refreshes.{has_come, wants_so}
 
 some_or_none : {T : Type 0} (x : T) → Some x ≡ None → ⊥
 some_or_none x e = cc e
 
 module _ {J : Type 0} (judges : Judges J) (old mid new : RefreshState J) (before after : Cache) (hand : TakesHand judges old mid before after (Ok tt)) where
-  -- how a session is once what is at hand was taken
+  -- how a session is once what is available was taken
   record Behind (s : Session) : Type 0 where
     pub now : Session
-    pub at_hand : AtHand judges old s now before after
+    pub available : Available judges old s now before after
     pub same : IsSameCall s now
     pub refreshing : IsRefreshingBy judges now mid
 
   behind_by : (s : Session) → IsRefreshingBy judges s old → (o : Option (Peer × Ask)) → refresh_awaited old ≡ o → Behind s
-  behind_by s is None e = let w = hand.2 s e is in record { now = w.0; at_hand = inl w.1; same = w.2; refreshing = w.3 }
+  behind_by s is None e = let w = hand.2 s e is in record { now = w.0; available = inl w.1; same = w.2; refreshing = w.3 }
   behind_by s is (Some x) e =
       let some : refresh_awaited old ≢ None = λ none. some_or_none x (sym e ∙ none) in
       let stays = hand.1 some in
-      record { now = s; at_hand = inr (some, refl, stays.1); same = refl; refreshing = subst (IsRefreshingBy judges s) (sym stays.0) is }
+      record { now = s; available = inr (some, refl, stays.1); same = refl; refreshing = subst (IsRefreshingBy judges s) (sym stays.0) is }
 
   behind : (s : Session) → IsRefreshingBy judges s old → Behind s
   behind s is = behind_by s is (refresh_awaited old) refl
@@ -50,7 +50,7 @@ module _ {J : Type 0} (judges : Judges J) (old mid new : RefreshState J) (before
         let t = b.now in
         let l = w.3 t.standing t.parts t.current b.refreshing.after in (
           t,
-          b.at_hand,
+          b.available,
           b.same,
           record { stage = b.refreshing.stage; entries = w.0.2 ∙ b.refreshing.entries; unmissed = b.refreshing.unmissed; after = l.0; unfailed = w.2 },
           gets l.1.want (wants_so t l.1.want (judges old.judge) old.replicas b.refreshing.stage l.1.needed) (next_as t b.refreshing.entries l.1),
@@ -73,13 +73,13 @@ module _ {J : Type 0} (judges : Judges J) (old mid new : RefreshState J) (before
       let e = w t.standing t.parts t.current b.refreshing.after in
       let how : Brings t.standing t.parts given ⊎ HasNoRoute mid.entries t.standing t.parts given = subst (λ (f : Bool). Ends f mid.entries t.standing t.parts given) b.refreshing.unfailed e.2 in (
         t,
-        ⊎_elim (λ all. all) (λ waits. absurd (waits.0 (subst (λ (r : RefreshState J). refresh_awaited r ≡ None) (hand.1 waits.0).0 e.0))) b.at_hand,
+        ⊎_elim (λ all. all) (λ waits. absurd (waits.0 (subst (λ (r : RefreshState J). refresh_awaited r ≡ None) (hand.1 waits.0).0 e.0))) b.available,
         b.same,
         e.1,
         subst (λ (es : List Peer). Brings t.standing t.parts given ⊎ HasNoRoute es t.standing t.parts given) b.refreshing.entries how,
       )
 
-  -- ---- memory is wanting
+  -- ---- memory runs out
 
   some_of_all : {s t : Session} {c d : Cache} → TakesAll (judges old.judge) old.replicas s c t d → TakesSome (judges old.judge) old.replicas s c t d
   some_of_all (TakesAll.none nothing) = some_none
@@ -90,7 +90,7 @@ module _ {J : Type 0} (judges : Judges J) (old mid new : RefreshState J) (before
       let b = behind s is in (
         b.now,
         ⊎_elim (λ all. some_of_all all)
-            (λ waits. subst (λ (c : Cache). TakesSome (judges old.judge) old.replicas s before b.now c) (sym waits.2) (subst (λ (t : Session). TakesSome (judges old.judge) old.replicas s before t before) (sym waits.1) some_none)) b.at_hand,
+            (λ waits. subst (λ (c : Cache). TakesSome (judges old.judge) old.replicas s before b.now c) (sym waits.2) (subst (λ (t : Session). TakesSome (judges old.judge) old.replicas s before t before) (sym waits.1) some_none)) b.available,
         b.same,
         has_come judges b.now mid b.refreshing,
       )

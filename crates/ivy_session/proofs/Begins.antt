@@ -6,7 +6,7 @@ use Rattle.dhash_client.specs.GetHead.{Judges}
 use Rattle.agent_model.specs.Standing.{Standing}
 use Rattle.session_model.specs.Replies.{IsByMessage, said_bare}
 use Rattle.session_model.specs.Sessions.{Over, Refreshing}
-use Rattle.session_model.specs.Courses.{Begins, fresh_session}
+use Rattle.session_model.specs.Executions.{Begins, fresh_session}
 use Rattle.ivy_session.specs.Reading.{AsksWell}
 use Rattle.log_fetch.specs.declared.asked.Asked.{Asked}
 use Rattle.log_fetch.specs.declared.note.Note.{Note as Noted}

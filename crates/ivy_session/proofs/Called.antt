@@ -16,11 +16,11 @@ use Rattle.rpc_wire.specs.Callers.{identity_of}
 use Rattle.turn_model.specs.Turn.{Asked as ModelAsked}
 use Rattle.agent_model.specs.Standing.{Refresh as ModelRefresh, Standing as ModelStanding}
 use Rattle.session_model.specs.Brought.{brought_in}
-use Rattle.session_model.specs.Courses.{HasRefreshed}
+use Rattle.session_model.specs.Executions.{HasRefreshed}
 use Rattle.session_model.specs.Refreshing.{Done, Note}
 use Rattle.session_model.specs.Replies.{Asks}
 use Rattle.session_model.specs.Sessions.{Session}
-use Rattle.session_laws.proofs.OneRefresh.{refresh_is_one}
+use Rattle.session_laws.proofs.OneRefresh.{refresh_is_deterministic}
 use Rattle.log_fetch.specs.declared.asked.Asked.{Asked}
 use Rattle.log_fetch.specs.Standings.{asked_of}
 use Rattle.ivy_session.specs.declared.session.Stage.{Stage}
@@ -67,7 +67,7 @@ asks_as view message xid number asked other a b = subst (λ (n : ℕ). Asks view
 -- a refresh that is done has noted one thing
 pub refreshed_as : (s : Session) (notes others : List Note) (given other : ModelRefresh) → HasRefreshed s notes given → HasRefreshed s others other → HasRefreshed s others given
 refreshed_as s notes others given other done also =
-    subst (λ (ns : List Note). HasRefreshed s ns given) (refresh_is_one s.standing (brought_in s.parts) notes others given other Done Done done.1 also.1).0 done
+    subst (λ (ns : List Note). HasRefreshed s ns given) (refresh_is_deterministic s.standing (brought_in s.parts) notes others given other Done Done done.1 also.1).0 done
 
 all_members : (members : List PubKey) (chains : List (Stamp × List Record)) → ((owner : PubKey) → Contains (owners_in chains) owner → Contains members owner) → AllByRecursion (λ c. Contains members (owner_of c.1)) chains
 all_members members [] named = tt

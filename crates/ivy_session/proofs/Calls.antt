@@ -12,8 +12,8 @@ use Rattle.dhash_client.specs.GetHead.{Judges}
 use Rattle.session_model.specs.Refreshing.{Needs}
 use Rattle.session_model.specs.Replies.{missed_reply, said_no_memory, said_of}
 use Rattle.session_model.specs.Sessions.{Cache, Hears, Refreshing, Session, TakesAll, TakesSome}
-use Rattle.session_model.specs.Courses.{ended}
-use Rattle.session_model.specs.Courses.Fails.{fails as has_failed, goes_on as still_goes_on}
+use Rattle.session_model.specs.Executions.{ended}
+use Rattle.session_model.specs.Executions.Fails.{fails as has_failed, goes_on as still_goes_on}
 use Rattle.log_fetch.specs.declared.refresh.Refresh.{Refresh}
 use Rattle.log_fetch.specs.Standings.{asked_of, refresh_of}
 use Rattle.view_refresh.specs.declared.refresh.Refreshed.{Refreshed}
@@ -28,7 +28,7 @@ use Rattle.ivy_session.specs.States.{IsCallOf, IsRefreshingBy, IsSession, Sessio
 use Rattle.ivy_session.specs.Stepping.{AsksOf, HeardIs, IsBatchOf, IsHeard, IsNext, NextIs}
 use Rattle.ivy_session.specs.Stepping.NextIs.{asks as next_asks, asks_again, turns, lacks_memory as next_lacks, is_unrouted}
 use Rattle.ivy_session.specs.Stepping.HeardIs.{hears as heard_so, lacks_memory as heard_lacks}
-use Rattle.ivy_session.specs.Taking.{Advances, AtHand, HasCome, IsSameCall, RefreshHears}
+use Rattle.ivy_session.specs.Taking.{Advances, Available, HasCome, IsSameCall, RefreshHears}
 use Rattle.ivy_session.specs.Ending.{ConcludesAs, EndsAs, TellsMiss, lacking, missing}
 use Rattle.ivy_session.proofs.Refreshes.{fails_not, has_come, lacks_so}
 
@@ -68,7 +68,7 @@ module _ {J : Type 0} (judges : Judges J) (st : SessionState J) (c : Call) where
     pub asks_next : (q : RefreshState J) (node : Peer) (question : Ask) → Advances judges r q before after (Ok (want.Ask node question)) → IsNext judges (At r) (At q) before after (next.Ask node question)
     asks_next q node question a = ((refl, refl, refl), λ s is. by s is (a.2 s is.at.refreshing))
       where
-        by : (s : Session) (is : IsSession judges s (At r)) → (t : Session) × AtHand judges r s t before after × IsSameCall s t × IsRefreshingBy judges t q × AsksOf (judges r.judge) r.replicas t node question
+        by : (s : Session) (is : IsSession judges s (At r)) → (t : Session) × Available judges r s t before after × IsSameCall s t × IsRefreshingBy judges t q × AsksOf (judges r.judge) r.replicas t node question
             → NextIs judges (At r) (At q) s before after (next.Ask node question)
         by s is w =
             let asks = by_same (λ (j : J) (n : ℕ). AsksOf (judges j) n w.0 node question) r.judge st.judge r.replicas st.replicas is.at.judge is.at.replicas w.4 in
@@ -77,7 +77,7 @@ module _ {J : Type 0} (judges : Judges J) (st : SessionState J) (c : Call) where
             (λ waits. asks_again node question waits.0 a.1 (subst (λ (x : Session). IsSession judges x (At q)) waits.1 at) (subst (λ (x : Session). AsksOf (judges st.judge) st.replicas x node question) waits.1 asks) waits.2)
             w.1
 
-    -- memory is wanting
+    -- memory runs out
     pub lacks_next : (new : SessionState J) → new.judge ≡ st.judge → new.replicas ≡ st.replicas → new.entries ≡ st.entries → new.notes ≡ st.notes → (q : RefreshState J) (lacks : Memory) → Advances judges r q before after (Err lacks)
         → IsNext judges (At r) new before after (next.Done (lacking c))
     lacks_next new judge replicas entries notes q lacks a = ((judge, replicas, entries), λ s is. by s is (a s is.at.refreshing))
@@ -152,7 +152,7 @@ module _ {J : Type 0} (judges : Judges J) (st : SessionState J) (c : Call) where
   -- ---- what is heard
 
   module _ (r q : RefreshState J) (before after : Cache) (given : Result Answer Memory) where
-    -- memory is wanting
+    -- memory runs out
     lacks_heard : (s : Session) (node : Peer) (question : Ask) → IsSession judges s (At r) → after ≡ before → HeardIs judges (At r) (record st { stage = stage.Over (lacking c) }) s before after node question given
     lacks_heard s node question is same =
         heard_lacks (ended s (said_no_memory c.xid) [] None) (lacks_so s c.xid (asked_of c.asked) is.at.refreshing.stage (has_come judges s r is.at.refreshing) is.at.call.asks) same

@@ -20,7 +20,7 @@ use Rattle.ivy_session.specs.declared.session.Next.TheVariants as next
 use Rattle.ivy_session.specs.declared.session.Stage.{Stage}
 use Rattle.ivy_session.specs.declared.session.Stage.TheVariants as stage
 use Rattle.ivy_session.specs.States.{SessionState}
-use Rattle.ivy_session.specs.Ending.{BeginsAnew, ConcludesAs, EndsAs, TellsMiss}
+use Rattle.ivy_session.specs.Ending.{BeginsAgain, ConcludesAs, EndsAs, TellsMiss}
 use Rattle.ivy_session.specs.InPlace.{EndsRefresh, PutHeard, is_publishing, is_refreshing, told_at}
 use Rattle.ivy_session.specs.Cutting.{IsCutAsHeard, IsCutAsTurned, IsCutAsWanted, is_done, is_over}
 
@@ -55,7 +55,7 @@ module _ {J : Type 0} (old new : SessionState J) where
   ends_as_whole : (judges : Judges J) (c : Call) (r : RefreshState J) (told : Served) → EndsAs judges old new c r told → new.is_cut ≡ old.is_cut
   ends_as_whole judges c r told h = ⊎_elim (λ lacks. ap (λ (x : SessionState J). x.is_cut) lacks.1) (λ missed. ap (λ (x : SessionState J). x.is_cut) missed.4) h
 
-  pub anew_whole : (judges : Judges J) (standing : Standing) (begun : Option (RefreshState J)) → BeginsAnew judges old new standing begun → new.is_cut ≡ old.is_cut
+  pub anew_whole : (judges : Judges J) (standing : Standing) (begun : Option (RefreshState J)) → BeginsAgain judges old new standing begun → new.is_cut ≡ old.is_cut
   anew_whole judges standing (Some r) h = ap (λ (x : SessionState J). x.is_cut) h.0.1
   anew_whole judges standing None h = ⊎_elim (λ is_new. ap (λ (x : SessionState J). x.is_cut) is_new.1) (λ stays. ap (λ (x : SessionState J). x.is_cut) stays.1) h
 

@@ -5,8 +5,8 @@ use Rattle.dht_ids.specs.declared.post.Post.{Post}
 use Rattle.dhash_model.specs.declared.miss.Miss.{Miss}
 use Rattle.dhash_client.specs.GetHead.{Judges}
 use Rattle.log_fetch.specs.Standings.{notes_of}
-use Rattle.session_model.specs.Courses.{LacksMemory}
-use Rattle.session_model.specs.Courses.LacksMemory.{lacks}
+use Rattle.session_model.specs.Executions.{LacksMemory}
+use Rattle.session_model.specs.Executions.LacksMemory.{lacks}
 use Rattle.session_model.specs.Refreshing.{Note}
 use Rattle.session_model.specs.Replies.{said_no_memory}
 use Rattle.session_model.specs.Sessions.{Over, Publishing, Refreshing, Said, Session}
@@ -82,6 +82,6 @@ module _ {J : Type 0} (judges : Judges J) (t : Session) (st : SessionState J) wh
       pub over_alike : IsSession judges t st → IsSession judges u st
       over_alike h = record { entries = h.entries ∙ sym entries; starts = h.starts ∙ sym starts; at = other_at st.stage h.at }
 
--- one behind which memory was wanting is over
+-- one after which memory ran out is over
 pub lacking_is_over : {s t : Session} → LacksMemory s t → (said : Option Said) × (t.stage ≡ Over said)
 lacking_is_over (lacks notes shown given end xid asked at refreshed asks rest front) = (Some (said_no_memory xid), refl)

@@ -25,7 +25,7 @@ use Rattle.ivy_session.specs.declared.session.Next.TheVariants as next
 use Rattle.ivy_session.specs.declared.session.Stage.{Stage}
 use Rattle.ivy_session.specs.declared.session.Stage.TheVariants as stage
 use Rattle.ivy_session.specs.States.{SessionState, is_turning}
-use Rattle.ivy_session.specs.Ending.{BeginsAnew, ConcludesAs, lacking}
+use Rattle.ivy_session.specs.Ending.{BeginsAgain, ConcludesAs, lacking}
 use Rattle.ivy_session.specs.InPlace.{EndsRefresh, PutHeard, PutWants, RefreshHeard, call_at, is_refreshing, told_at}
 use Rattle.ivy_session.specs.Left.{FallsLeft, LeavesNoMore, StaysLeft, left_at, most_puts, session_left}
 use Rattle.ivy_session.proofs.TurnsInPlace.{at_turn}
@@ -35,26 +35,26 @@ use Rattle.ivy_session.proofs.TurnsInPlace.{at_turn}
 at_least : (n : ℕ) → 0 ≤ n
 at_least n = omega arith
 
-module _ (puts anew : ℕ) where
+module _ (puts again : ℕ) where
   -- the refresh goes on
-  asks_stay : (old new : ℕ) → new ≤ old → new + 2 + puts + anew ≤ old + 2 + puts + anew
+  asks_stay : (old new : ℕ) → new ≤ old → new + 2 + puts + again ≤ old + 2 + puts + again
   asks_stay old new no_more = omega (arith, no_more)
 
-  asks_fall : (old new : ℕ) → new < old → new + 2 + puts + anew < old + 2 + puts + anew
+  asks_fall : (old new : ℕ) → new < old → new + 2 + puts + again < old + 2 + puts + again
   asks_fall old new less = omega (arith, less)
 
   -- it is over
-  turn_falls : (left : ℕ) → 2 + puts + anew ≤ left + 2 + puts + anew
+  turn_falls : (left : ℕ) → 2 + puts + again ≤ left + 2 + puts + again
   turn_falls left = omega arith
 
-  some_asks : (left : ℕ) → 0 < left + 2 + puts + anew
+  some_asks : (left : ℕ) → 0 < left + 2 + puts + again
   some_asks left = omega arith
 
   -- the turn was answered
-  some_turn : 0 < 2 + puts + anew
+  some_turn : 0 < 2 + puts + again
   some_turn = omega arith
 
-  puts_fall : (left : ℕ) → left ≤ puts → 1 + left < 2 + puts + anew
+  puts_fall : (left : ℕ) → left ≤ puts → 1 + left < 2 + puts + again
   puts_fall left no_more = omega (arith, no_more)
 
 some_puts : (left : ℕ) → 0 < 1 + left
@@ -235,7 +235,7 @@ module _ {J : Type 0} (st : SessionState J) where
         by (stage.Over told) is = cc is
         by stage.Told is = cc is
 
-    -- memory is wanting, or it doesn't begin anew
+    -- memory runs out, or it doesn't begin again
     pub turn_ends : (new : SessionState J) (told : Served) → new.stage ≡ stage.Over told → Falls (With at) new
     turn_ends new told is = (ap (λ (x : Stage J). is_turning x) is, subst (λ (n : ℕ). n < left_at st.starts at) (sym (ap (left_at new.starts) is)) some_left)
 
@@ -258,8 +258,8 @@ module _ {J : Type 0} (st : SessionState J) where
       answer_falls told p now few is =
           at_its_turn (With now) (subst (λ (x : Stage J). Falls (With (stage.Turning c)) (With x)) (sym is) (refl, puts_fall most_puts (most_refresh * (2 - st.starts)) (puts_left p) few))
 
-      -- it begins anew
-      pub anew_is_less : (judges : Judges J) (between : Stage J) (given : Standing) (mid : SessionState J) (r : RefreshState J) (now : Stage J) → BeginsAnew judges (With between) mid given (Some r) → now ≡ stage.Refreshing c r
+      -- it begins again
+      pub anew_is_less : (judges : Judges J) (between : Stage J) (given : Standing) (mid : SessionState J) (r : RefreshState J) (now : Stage J) → BeginsAgain judges (With between) mid given (Some r) → now ≡ stage.Refreshing c r
           → Falls (With at) (record mid { stage = now })
       anew_is_less judges between given mid r now h is =
           at_its_turn (record mid { stage = now })

@@ -1,7 +1,7 @@
 -- What a call of this version of RPC comes to, by the parts of it that were read.
 use Rattle.std.proofs.Common.{◌≡◌, ℕ, ◌<◌, ◌≤◌, List, Option, Some, None, sym, ◌∙◌, subst}
 use Rattle.log_model.specs.View.{View}
-use Rattle.wire_model.specs.Rpc.{IsCaller, Outcome, ProgramUnavailable, ProgramMismatch, ProcedureUnavailable, BadCredential, GarbageArguments, Success, reply}
+use Rattle.wire_model.specs.Rpc.{IsCaller, CallOutcome, ProgramUnavailable, ProgramMismatch, ProcedureUnavailable, BadCredential, GarbageArguments, Success, reply}
 use Rattle.rpc_wire.specs.Callers.{IsGoodCall, IsCallerOf, identity_of}
 use Rattle.rpc_wire.specs.ReplyHead.{head_bytes}
 use Rattle.rpc_wire.specs.declared.call.Call.{Call}
@@ -21,7 +21,7 @@ use Rattle.ivy_session.proofs.Callers.{caller_is_identity}
 
 module _ (view : View) (message : List ℕ) (given : Call) (good : IsGoodCall message given) where
   -- the reply is under the number that was read
-  under : (o : Outcome) → IsByMessage view message (Some (reply good.call.xid o)) → IsByMessage view message (Some (reply given.xid o))
+  under : (o : CallOutcome) → IsByMessage view message (Some (reply good.call.xid o)) → IsByMessage view message (Some (reply given.xid o))
   under o h = subst (λ (xid : ℕ). IsByMessage view message (Some (reply xid o))) (sym good.xid) h
 
   program : (o : Option ℕ) → procedures_of given.program ≡ o → procedures_of good.call.program ≡ o

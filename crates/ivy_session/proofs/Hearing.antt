@@ -12,8 +12,8 @@ use Rattle.dht_ids.specs.declared.post.Post.{Post}
 use Rattle.session_model.specs.Asking.{AsksNext}
 use Rattle.session_model.specs.Sessions.{Cache, Hears, IsPut, Publishing, Refreshing, Said, Session, Stage, acknowledged, after_put, put_question, wanted_key}
 use Rattle.session_model.specs.Sessions.Hears.{gets_on, got, puts_on, puts}
-use Rattle.session_laws.proofs.AskedGets.{gets_are_one}
-use Rattle.session_laws.proofs.AskedPuts.{puts_are_one}
+use Rattle.session_laws.proofs.AskedGets.{gets_are_deterministic}
+use Rattle.session_laws.proofs.AskedPuts.{puts_are_deterministic}
 use Rattle.ivy_session.specs.Stepping.{AsksOf}
 use Rattle.ivy_session.specs.Stepping.AsksOf.{gets as asks_get, puts as asks_put}
 use Rattle.ivy_session.proofs.AskSteps.{put_is_for_data}
@@ -56,13 +56,13 @@ module _ (judged : Key → List ℕ → Option Judged) (r : ℕ) (s : Session) (
   put_hears_some said p posts acks at next = ⊎_elim
       (λ whole. record { heard = _; hears = puts said p posts acks whole.0 at next whole.1; publishes = put_publishes said p posts acks (acknowledged whole.0); entries = refl; starts = refl; notes = refl; missed = refl })
       (λ begun. record { heard = _; hears = puts_on said p posts acks at next begun.0; publishes = (p ∷ posts, acks, at); entries = refl; starts = refl; notes = refl; missed = refl })
-      ((puts_are_one judged r s p).2 s.current node question given next)
+      ((puts_are_deterministic judged r s p).2 s.current node question given next)
 
   pub hears_some : AsksOf judged r s node question → HearsSome judged r s cache node question given
   hears_some (asks_get want wants next) = ⊎_elim
       (λ whole. (_, _, got want whole.0 wants next whole.1))
       (λ begun. (_, _, gets_on want wants next begun.0))
-      ((gets_are_one judged r s.entries want).2 s.current node question given next)
+      ((gets_are_deterministic judged r s.entries want).2 s.current node question given next)
   hears_some (asks_put said p posts acks at next) = let h = put_hears_some said p posts acks at next in (h.heard, cache, h.hears)
 
   pub publishing_hears : (said : Option Said) (posts : List Post) (acks : List Ack) → s.stage ≡ Publishing said posts acks → AsksOf judged r s node question → PutHears judged r s cache (node, question) given said

@@ -12,7 +12,7 @@ use Rattle.dht_ids.specs.declared.peer.Peer.{Peer}
 use Rattle.dhash_client.specs.GetHead.{Judges}
 use Rattle.dhash_model.specs.Cache.{kept}
 use Rattle.session_model.specs.Asking.{AsksNext}
-use Rattle.session_model.specs.Brought.{Brought, Part, Want}
+use Rattle.session_model.specs.Brought.{Brought, Part, WantedOfRing}
 use Rattle.session_model.specs.Sessions.{Cache, Gets, Hears, IsGet, Session, keeping, wanted_key, with_part}
 use Rattle.session_model.specs.Sessions.Hears.{gets_on, got}
 use Rattle.log_fetch.specs.Fetching.{block_in}
@@ -32,7 +32,7 @@ pub there_is : {T : Type 0} (o : Option T) → o ≢ None → (x : T) × (o ≡ 
 there_is None some = absurd (some refl)
 there_is (Some x) some = (x, refl)
 
-module _ (judged : Key → List ℕ → Option Judged) (r : ℕ) (entries : List Peer) {want : Want} {asks : List Heard} (brought : Brought) (gets : Gets judged r entries want asks brought) (cache : Cache) where
+module _ (judged : Key → List ℕ → Option Judged) (r : ℕ) (entries : List Peer) {want : WantedOfRing} {asks : List Heard} (brought : Brought) (gets : Gets judged r entries want asks brought) (cache : Cache) where
   keeps_so : (block : Option (Key × List ℕ)) → block_in brought ≡ block → kept_back block cache ≡ keeping judged r brought cache
   keeps_so None e = sym (none_kept brought cache judged r e)
   keeps_so (Some block) e =
@@ -76,7 +76,7 @@ module _ {J : Type 0} (judges : Judges J) (old new : RefreshState J) (before : C
         (got a.want o.brought (wants_so s a.want (judges old.judge) old.replicas is.stage a.needed) (next a) gets)
 
     -- a refresh that failed gave back no block
-    none_back : (want : Want) (o : IsOver judges s.standing s.parts asks want new block) → has_failed new ≡ true → (b : Option (Key × List ℕ)) → block ≡ b → kept_back b before ≡ before
+    none_back : (want : WantedOfRing) (o : IsOver judges s.standing s.parts asks want new block) → has_failed new ≡ true → (b : Option (Key × List ℕ)) → block ≡ b → kept_back b before ≡ before
     none_back want o failed None e = refl
     none_back want o failed (Some given) e =
         let part : Part = record { brought = o.brought; asks = asks } in

@@ -3,7 +3,7 @@ mod AskSteps
 mod Bringing
 mod Nobody
 mod Taken
-mod AtHand
+mod Available
 mod Hears
 mod Failing
 mod Advancing

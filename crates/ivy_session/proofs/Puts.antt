@@ -16,7 +16,7 @@ use Rattle.session_model.specs.Asking.{AsksNext}
 use Rattle.session_model.specs.Sessions.{Cache, IsPut, IsPutOfPost, Publishing, Refreshing, Said, Session, Stage, Takes, TakesAll, acknowledged, after_put, put_question}
 use Rattle.session_model.specs.Sessions.Hears.{puts_on, puts}
 use Rattle.session_model.specs.Sessions.Takes.{posted, cached}
-use Rattle.session_model.specs.Courses.{Fails}
+use Rattle.session_model.specs.Executions.{Fails}
 use Rattle.ivy_session.specs.Publishing.{Passes, PublishingIsAfter, PublishingIsWanted, PublishingState, PutHears as Hearing, posts_of, publishing_awaited, stage_of}
 use Rattle.ivy_session.specs.Publishing.PutHears.{puts_on as put_goes_on, puts as put_is_over}
 use Rattle.session_laws.specs.Laws.{IsWholePutOfPost}

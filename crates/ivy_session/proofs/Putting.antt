@@ -14,7 +14,7 @@ use Rattle.dht_ids.specs.declared.post.Post.{Post}
 use Rattle.dht_ids.specs.declared.post.PostKind.{PostKind}
 use Rattle.dht_ids.specs.declared.post.PostKind.TheVariants as kind
 use Rattle.dhash_model.specs.declared.miss.Miss.{Miss}
-use Rattle.dhash_model.specs.Course.{IsCourse}
+use Rattle.dhash_model.specs.Execution.{IsExecution}
 use Rattle.dhash_model.specs.Puts.{EndsPut}
 use Rattle.dhash_client.specs.declared.put.PutKind.{PutKind}
 use Rattle.dhash_client.specs.Puts.{PutIsAfter, PutIsWanted, PutHasHeard, IsPutOf, put_kind, question_of}
@@ -22,7 +22,7 @@ use Rattle.dhash_client.proofs.DrivenGets.{put_begins}
 use Rattle.session_model.specs.Sessions.{IsPutOfPost, ack_of, put_question}
 use Rattle.ivy_session.specs.Putting.{Putting, PuttingIsAfter, PuttingIsWanted, PuttingHasHeard, IsSamePutting, putting, post_of}
 
--- behind no ask it begins
+-- after no ask it begins
 pub putting_begins : (p : Post) (r : ℕ) (entries : List Peer) → PuttingIsAfter r entries [] (putting p r entries)
 putting_begins p r entries = record { what = refl; named = refl; replicas = refl; after = put_begins (put_kind p.kind) p.bytes p.key r entries }
 
@@ -46,10 +46,10 @@ stays_behind r entries trail longer old new same step behind = record {
 }
 
 whole_of_post : (r : ℕ) (entries : List Peer) (trail : List Heard) (s : Putting) (came : Result Bool Miss) → PuttingIsAfter r entries trail s
-    → IsPutOf s.put.what s.put.bytes s.put.course.look.key s.put.course.replicas entries trail came → IsPutOfPost r entries (post_of s) trail came
+    → IsPutOf s.put.what s.put.bytes s.put.execution.look.key s.put.execution.replicas entries trail came → IsPutOfPost r entries (post_of s) trail came
 whole_of_post r entries trail s came behind whole =
-    let key : Key = s.put.course.look.key in
-    subst (λ (q : Ask). IsCourse key q entries (EndsPut r) trail came) (asks_owners s.kind s.put.bytes key)
+    let key : Key = s.put.execution.look.key in
+    subst (λ (q : Ask). IsExecution key q entries (EndsPut r) trail came) (asks_owners s.kind s.put.bytes key)
     (subst (λ (k : PutKind). IsPutOf k s.put.bytes key r entries trail came) behind.what
     (subst (λ (n : ℕ). IsPutOf s.put.what s.put.bytes key n entries trail came) behind.replicas whole))
 

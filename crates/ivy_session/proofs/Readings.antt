@@ -1,4 +1,4 @@
--- What is read of a message, whether or not memory was wanting for it.
+-- What is read of a message, whether or not memory ran out for it.
 use Rattle.std.proofs.Common.{◌≡◌, ℕ, List, Option, Some, None, refl, sym, ap, subst}
 use Rattle.std.specs.Prelude.{Result, Ok, Err, IfOk, option_map}
 use Rattle.ivy_base.specs.declared.memory.Memory.{Memory}

@@ -6,18 +6,18 @@ use Rattle.dhash_model.specs.declared.miss.Miss.{Miss}
 use Rattle.dhash_client.specs.GetHead.{Judges}
 use Rattle.turn_model.specs.Turn.{Asked}
 use Rattle.agent_model.specs.Standing.{Refresh, Standing}
-use Rattle.session_model.specs.Brought.{Content, Want, brought_in}
+use Rattle.session_model.specs.Brought.{Content, WantedOfRing, brought_in}
 use Rattle.session_model.specs.Refreshing.{Done, FailsBy, Needs, Note, RefreshEnd, Refreshes}
 use Rattle.session_model.specs.Sessions.{Refreshing, Session, Wants}
 use Rattle.session_model.specs.Replies.{Asks, said_no_memory}
-use Rattle.session_model.specs.Courses.{LacksMemory, ended}
+use Rattle.session_model.specs.Executions.{LacksMemory, ended}
 use Rattle.session_laws.proofs.Going.{refresh_begins}
 use Rattle.log_fetch.specs.Fetching.{is_miss}
 use Rattle.view_refresh.specs.States.{Refreshing as RefreshState, refresh_awaited, refresh_wanted}
 use Rattle.view_refresh.specs.Steps.{Stands}
 use Rattle.ivy_session.specs.States.{IsRefreshingBy}
 use Rattle.ivy_session.specs.Taking.{HasCome, IsFailing}
-use Rattle.session_laws.proofs.OneRefresh.{refresh_is_one}
+use Rattle.session_laws.proofs.OneRefresh.{refresh_is_deterministic}
 use Rattle.view_refresh.proofs.Laws.{refresh_stands}
 use Rattle.view_refresh.proofs.Wants.{refresh_wants}
 
@@ -25,7 +25,7 @@ false_or_true : false ≡ true → ⊥
 false_or_true e = cc e
 
 -- what it needs, the session wants
-pub wants_so : (s : Session) (want : Want) (judged : Key → List ℕ → Option Judged) (replicas : ℕ) → s.stage ≡ Refreshing → Stands s.standing s.parts (Needs want) → Wants judged replicas s want
+pub wants_so : (s : Session) (want : WantedOfRing) (judged : Key → List ℕ → Option Judged) (replicas : ℕ) → s.stage ≡ Refreshing → Stands s.standing s.parts (Needs want) → Wants judged replicas s want
 wants_so s want judged replicas stage needs = (stage, needs.notes, needs.given, needs.refreshes)
 
 -- before anything was brought it has come to something
@@ -40,7 +40,7 @@ module _ {J : Type 0} (judges : Judges J) (s : Session) (r : RefreshState J) whe
   pub fails_not : IsRefreshingBy judges s r → (notes : List Note) (given : Refresh) (miss : Miss) → Refreshes s.standing (brought_in s.parts) notes given (FailsBy miss) → ⊥
   fails_not h notes given miss fails =
       let w = refresh_stands judges r s.standing s.parts s.current h.after in
-      let one = refresh_is_one s.standing (brought_in s.parts) w.1.notes notes w.1.given given w.0 (FailsBy miss) w.1.refreshes fails in
+      let one = refresh_is_deterministic s.standing (brought_in s.parts) w.1.notes notes w.1.given given w.0 (FailsBy miss) w.1.refreshes fails in
       false_or_true (sym h.unfailed ∙ sym w.2 ∙ ap is_miss one.2)
 
   misses : (end : RefreshEnd) → Stands s.standing s.parts end → is_miss end ≡ true → (miss : Miss) × Stands s.standing s.parts (FailsBy miss)
@@ -56,6 +56,6 @@ module _ {J : Type 0} (judges : Judges J) (s : Session) (r : RefreshState J) whe
   pub wants_block : (key : Key) (judged : Key → List ℕ → Option Judged) (replicas : ℕ) → IsRefreshingBy judges s r → refresh_awaited r ≡ None → Wants judged replicas s (Content key) → refresh_wanted r ≡ Some key
   wants_block key judged replicas h free wants = refresh_wants judges r s.standing s.parts s.current key h.after free h.unfailed (record { notes = wants.1; given = wants.2; refreshes = wants.3 })
 
--- memory may be wanting
+-- memory may run out
 pub lacks_so : (s : Session) (xid : ℕ) (asked : Asked) → s.stage ≡ Refreshing → HasCome s → Asks s.standing.view s.message xid asked → LacksMemory s (ended s (said_no_memory xid) [] None)
 lacks_so s xid asked stage come asks = LacksMemory.lacks come.1.notes [] come.1.given come.0 xid asked stage come.1.refreshes asks come.1.notes refl

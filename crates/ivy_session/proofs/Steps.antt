@@ -13,7 +13,7 @@ use Rattle.dht_ids.specs.declared.post.Ack.{Ack}
 use Rattle.dht_ids.specs.declared.post.Post.{Post}
 use Rattle.dht_ids.specs.declared.post.PostKind.{PostKind}
 use Rattle.dhash_model.specs.declared.miss.Miss.{Miss}
-use Rattle.dhash_client.specs.Course.{asks_left}
+use Rattle.dhash_client.specs.Execution.{asks_left}
 use Rattle.dhash_client.specs.Puts.{put_awaited}
 use Rattle.ring_model.proofs.Lists.{some_same, none_some}
 use Rattle.agent_model.specs.Agent.{is_head}
@@ -101,7 +101,7 @@ module _ (r : ℕ) (entries : List Peer) (left : List Post) (acks : List Ack) wh
   hears p heard given h now (inl a) = hears_on p heard given h now a
   hears p heard given h now (inr o) = hears_over p heard given h now o
 
-  less_heard : (p heard : Putting) → asks_left heard.put.course < asks_left p.put.course → (now : PublishingState) → PutGoesOn heard free now → puts_left now < puts_left (on_way p)
+  less_heard : (p heard : Putting) → asks_left heard.put.execution < asks_left p.put.execution → (now : PublishingState) → PutGoesOn heard free now → puts_left now < puts_left (on_way p)
   less_heard p heard less now (inl a) = subst (λ (s : PublishingState). puts_left s < puts_left (on_way p)) (sym a.now_is) (let fewer = a.left in omega (arith, fewer, less))
   less_heard p heard less now (inr o) =
       subst (λ (s : PublishingState). puts_left s < puts_left (on_way p)) (sym o.now_is) (let behind = past_less heard (acknowledged o.came) in omega (arith, behind, less))
@@ -112,7 +112,7 @@ module _ (r : ℕ) (entries : List Peer) (left : List Post) (acks : List Ack) wh
   state_hears old p heard is given h now (Ok u) g = subst (λ (s : PublishingState). PublishingHasHeard s now given) is (hears p heard given h now g)
   state_hears old p heard is given h now (Err e) g = tt
 
-  pub state_less : (old : PublishingState) (p heard : Putting) → on_way p ≡ old → asks_left heard.put.course < asks_left p.put.course → (now : PublishingState) (result : Result (Unit {0}) Memory)
+  pub state_less : (old : PublishingState) (p heard : Putting) → on_way p ≡ old → asks_left heard.put.execution < asks_left p.put.execution → (now : PublishingState) (result : Result (Unit {0}) Memory)
       → OnOk result (PutGoesOn heard free now) → IfOk result (λ _. puts_left now < puts_left old)
   state_less old p heard is less now (Ok u) g = subst (λ (s : PublishingState). puts_left now < puts_left s) is (less_heard p heard less now g)
   state_less old p heard is less now (Err e) g = tt
@@ -220,7 +220,7 @@ none_next old now on none after after_is = subst (HasBegun old) (ap (λ (left : 
 
 -- ---- a put goes on
 
-pub goes_asking : (old new : Putting) (wanted : Want (Result Bool Miss)) (node : Peer) (question : Ask) → PuttingIsWanted old new wanted → wanted ≡ want.Ask node question → asks_left new.put.course ≤ asks_left old.put.course
+pub goes_asking : (old new : Putting) (wanted : Want (Result Bool Miss)) (node : Peer) (question : Ask) → PuttingIsWanted old new wanted → wanted ≡ want.Ask node question → asks_left new.put.execution ≤ asks_left old.put.execution
     → (before : PublishingState) (put : Putting) → put ≡ new → (now : PublishingState) → now ≡ record before { put = Some put } → PutGoesOn old before now
 goes_asking old new wanted node question wants is left before put put_is now now_is =
     let w : PuttingIsWanted old new (want.Ask node question) = subst (PuttingIsWanted old new) is wants in

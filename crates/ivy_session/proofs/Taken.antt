@@ -1,4 +1,4 @@
--- Blocks at hand are taken, one after the other, until none is that is wanted.
+-- Blocks available are taken, one after the other, until none is that is wanted.
 use Rattle.std.proofs.Common.{◌≡◌, ◌≢◌, ℕ, List, [], Option, Some, None, Ok, Err, refl, sym, ap, ◌∙◌, subst}
 use Rattle.ivy_base.specs.declared.key.Key.{Key}
 use Rattle.ivy_base.specs.declared.memory.Memory.{Memory}
@@ -46,7 +46,7 @@ unasked r key e = unasked_at r.state key e
 -- ---- one block
 
 module _ {J : Type 0} (judges : Judges J) (old new : RefreshState J) (key : Key) (bytes : List ℕ) where
-  -- how the session is, behind the block
+  -- how the session is, after the block
   given_to : (s : Session) → refresh_wanted old ≡ Some key → RefreshWasGiven judges old new bytes → IsRefreshingBy judges s old
       → (s.current ≡ []) × Wants (judges old.judge) old.replicas s (Content key) × IsRefreshingBy judges (with_part s (BlockOf key (Ok bytes)) []) new
   given_to s want given h =
@@ -82,18 +82,18 @@ module _ {J : Type 0} (judges : Judges J) (old new : RefreshState J) (key : Key)
     ),
   )
 
--- ---- none is at hand
+-- ---- none is available
 
 away_at : (wanted : Option Key) (posts : List Post) (cache : Cache) (key : Key) → IsAway wanted posts cache → wanted ≡ Some key → (pending_block key posts ≡ None) × (block_of key cache ≡ None)
 away_at None posts cache key away e = absurd (some_or_none key (sym e))
 away_at (Some other) posts cache key away e = subst (λ (k : Key). (pending_block k posts ≡ None) × (block_of k cache ≡ None)) (cc e) away
 
 module _ {J : Type 0} (judges : Judges J) (r : RefreshState J) (judged : Key → List ℕ → Option Judged) (replicas : ℕ) where
-  none_at_hand : (s : Session) (cache : Cache) → IsRefreshingBy judges s r → refresh_awaited r ≡ None → IsAway (refresh_wanted r) r.pending cache → {t : Session} {after : Cache} → Takes judged replicas s cache t after → ⊥
-  none_at_hand s cache h free away (posted key bytes wants none found) =
+  none_available : (s : Session) (cache : Cache) → IsRefreshingBy judges s r → refresh_awaited r ≡ None → IsAway (refresh_wanted r) r.pending cache → {t : Session} {after : Cache} → Takes judged replicas s cache t after → ⊥
+  none_available s cache h free away (posted key bytes wants none found) =
       let gone = away_at (refresh_wanted r) r.pending cache key away (wants_block judges s r key judged replicas h free wants) in
       some_or_none bytes (sym found ∙ ap (pending_block key) (sym h.after.pending) ∙ gone.0)
-  none_at_hand s cache h free away (cached key bytes wants none unpended found) =
+  none_available s cache h free away (cached key bytes wants none unpended found) =
       let gone = away_at (refresh_wanted r) r.pending cache key away (wants_block judges s r key judged replicas h free wants) in
       some_or_none bytes (sym found ∙ gone.1)
 
@@ -146,13 +146,13 @@ module _ {J : Type 0} (judges : Judges J) where
     λ s free is.
         let w = h.takes s free is in (
           w.0,
-          all_of_some (judges old.judge) old.replicas w.1 (λ u more takes. none_at_hand judges new (judges old.judge) old.replicas w.0 after w.3 (h.free free) away takes),
+          all_of_some (judges old.judge) old.replicas w.1 (λ u more takes. none_available judges new (judges old.judge) old.replicas w.0 after w.3 (h.free free) away takes),
           w.2,
           w.3,
         ),
   )
 
-  -- want of memory ends it
+  -- running out of memory ends it
   pub some_taken : (old mid new : RefreshState J) (before between after : Cache) (lacks : Memory) → HasTakenSome judges old mid before between → after ≡ between → TakesHand judges old new before after (Err lacks)
   some_taken old mid new before between after lacks h same s is = by (refresh_awaited old) refl
     where

@@ -13,7 +13,7 @@ use Rattle.dhash_client.specs.GetHead.{Judges}
 use Rattle.agent_model.specs.Standing.{Standing}
 use Rattle.session_model.specs.Replies.{alone_answer, said_no_memory, said_of}
 use Rattle.session_model.specs.Sessions.{Over, Session}
-use Rattle.session_model.specs.Courses.{LacksMemory, anew, answered, ended}
+use Rattle.session_model.specs.Executions.{LacksMemory, anew, answered_by_turn, ended}
 use Rattle.log_fetch.specs.declared.standing.Standing.{Standing as Given}
 use Rattle.log_fetch.specs.declared.turned.Turned.{Turned}
 use Rattle.log_fetch.specs.declared.turned.TurnFault.TheVariants as fault
@@ -26,7 +26,7 @@ use Rattle.ivy_session.specs.declared.session.Stage.{Stage}
 use Rattle.ivy_session.specs.declared.session.Stage.TheVariants as stage
 use Rattle.ivy_session.specs.States.{IsCallOf, IsSession, SessionState, served_of}
 use Rattle.ivy_session.specs.Stepping.{IsRefused, IsTurned, TurnedIs}
-use Rattle.ivy_session.specs.Ending.{BeginsAnew, IsRefreshFor, lacking, replying}
+use Rattle.ivy_session.specs.Ending.{BeginsAgain, IsRefreshFor, lacking, replying}
 use Rattle.ivy_session.proofs.Refreshes.{begun_comes, lacks_so}
 
 -- ---- what needs no turn needs none in any view
@@ -57,8 +57,8 @@ module _ {J : Type 0} (judges : Judges J) (st : SessionState J) (c : Call) where
 
   module _ (turned : Turned) where
     answers : (new : SessionState J) → ((s : Session) (is : IsSession judges s At) (answer : Reply) → turned.reply ≡ bytes_of answer
-        → IsSession judges (answered s (said_of c.xid answer) is.at.notes turned.posts) new
-        ⊎ ((new.is_cut ≡ true) × IsSession judges (record (answered s (said_of c.xid answer) is.at.notes turned.posts) { stage = Over (Some (said_of c.xid answer)) }) new))
+        → IsSession judges (answered_by_turn s (said_of c.xid answer) is.at.notes turned.posts) new
+        ⊎ ((new.is_cut ≡ true) × IsSession judges (record (answered_by_turn s (said_of c.xid answer) is.at.notes turned.posts) { stage = Over (Some (said_of c.xid answer)) }) new))
         → (s : Session) → IsSession judges s At → TurnedIs judges At new s (Ok turned)
     answers new by s is answer e = record { xid = c.xid; asked = asked_of c.asked; asks = is.at.call.asks; notes = is.at.notes; given = is.at.given; refreshed = is.at.refreshed; publishes = by s is answer e }
 
@@ -95,7 +95,7 @@ module _ {J : Type 0} (judges : Judges J) (st : SessionState J) (c : Call) where
       )),
     )
 
-  -- ---- memory is wanting
+  -- ---- memory runs out
 
   over_by : (s : Session) (is : IsSession judges s At) → IsSession judges (ended s (said_no_memory c.xid) is.at.notes None) (record st { stage = stage.Over (lacking c) })
   over_by s is = record { entries = is.entries; starts = is.starts; at = record { said = Some (said_no_memory c.xid); is_told = refl; stage = refl; noted = is.at.noted } }
@@ -116,12 +116,12 @@ module _ {J : Type 0} (judges : Judges J) (st : SessionState J) (c : Call) where
     gives_up : (s : Session) → IsSession judges s At → 2 ≤ st.starts → IsRefused judges At (record st { stage = stage.Over (lacking c) }) s (standing_of given)
     gives_up s is many = IsRefused.gives_up c.xid is.at.notes is.at.given (asked_of c.asked) (subst (λ (n : ℕ). 2 ≤ n) is.starts many) is.at.refreshed is.at.call.asks (over_by s is)
 
-    -- the state in which it begins anew
+    -- the state in which it begins again
     abbrev New : Stage J → SessionState J
     New at = record st { starts = st.starts + 1; notes = []; stage = at }
 
     begins_by : (r : RefreshState J) (s : Session) → IsSession judges s At → st.starts < 2 → IsRefreshFor judges st given r → IsRefused judges At (New (stage.Refreshing c r)) s (standing_of given)
-    begins_by r s is few h = IsRefused.begins_anew (subst (λ (n : ℕ). n < 2) is.starts few) (record {
+    begins_by r s is few h = IsRefused.begins_again (subst (λ (n : ℕ). n < 2) is.starts few) (record {
       entries = is.entries;
       starts = ap (λ (n : ℕ). n + 1) is.starts;
       at = record {
@@ -144,10 +144,10 @@ module _ {J : Type 0} (judges : Judges J) (st : SessionState J) (c : Call) where
     abbrev With : SessionState J → Stage J → SessionState J
     With x at = record x { stage = at }
 
-    pub begins_anew : (new : SessionState J) (r : RefreshState J) → BeginsAnew judges st new given (Some r) → IsTurned judges At (With new (stage.Refreshing c r)) (Err (fault.Behind given))
-    begins_anew new r h = subst (λ (x : SessionState J). IsTurned judges At (With x (stage.Refreshing c r)) (Err (fault.Behind given))) (sym h.0.1) ((refl, refl, refl), λ s is. begins_by r s is h.0.0 h.1)
+    pub begins_again : (new : SessionState J) (r : RefreshState J) → BeginsAgain judges st new given (Some r) → IsTurned judges At (With new (stage.Refreshing c r)) (Err (fault.Behind given))
+    begins_again new r h = subst (λ (x : SessionState J). IsTurned judges At (With x (stage.Refreshing c r)) (Err (fault.Behind given))) (sym h.0.1) ((refl, refl, refl), λ s is. begins_by r s is h.0.0 h.1)
 
-    pub lacks_anew : (new : SessionState J) → BeginsAnew judges st new given None → IsTurned judges At (With new (stage.Over (lacking c))) (Err (fault.Behind given))
+    pub lacks_anew : (new : SessionState J) → BeginsAgain judges st new given None → IsTurned judges At (With new (stage.Over (lacking c))) (Err (fault.Behind given))
     lacks_anew new h = ⊎_elim
         (λ begun. subst (λ (x : SessionState J). IsTurned judges At (With x (stage.Over (lacking c))) (Err (fault.Behind given))) (sym begun.1) ((refl, refl, refl), λ s is. lacks_by s is begun.0))
         (λ many. subst (λ (x : SessionState J). IsTurned judges At (With x (stage.Over (lacking c))) (Err (fault.Behind given))) (sym many.1) ((refl, refl, refl), λ s is. gives_up s is many.0))

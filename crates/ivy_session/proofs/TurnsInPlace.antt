@@ -16,9 +16,9 @@ use Rattle.ivy_session.specs.declared.session.Stage.TheVariants as stage
 use Rattle.ivy_session.specs.States.{SessionState, awaited_at, is_told, is_turning}
 use Rattle.ivy_session.specs.Stepping.{IsNext, IsTurned, NextIs}
 use Rattle.ivy_session.specs.Stepping.NextIs.{is_over}
-use Rattle.ivy_session.specs.Ending.{BeginsAnew, lacking, replying}
+use Rattle.ivy_session.specs.Ending.{BeginsAgain, lacking, replying}
 use Rattle.ivy_session.specs.InPlace.{call_at, is_publishing, told_at}
-use Rattle.ivy_session.proofs.Turns.{begins_anew, is_cut_then, lacks_anew, lacks_turn, publishes_then}
+use Rattle.ivy_session.proofs.Turns.{begins_again, is_cut_then, lacks_anew, lacks_turn, publishes_then}
 
 some_or_none : {T : Type 0} (x : T) → Some x ≡ None → ⊥
 some_or_none x e = cc e
@@ -61,20 +61,20 @@ module _ {J : Type 0} (judges : Judges J) (st : SessionState J) (at : Stage J) (
       subst (λ (x : Stage J). IsTurned judges (With at) (record st { is_cut = true; stage = x }) (Ok turned)) (sym (is ∙ ap (λ (x : Served). stage.Over x) (e ∙ ap (replying c) reply)))
       (at_its_turn (record st { is_cut = true; stage = stage.Over (replying c turned.reply) }) (Ok turned) (is_cut_then judges st c turned))
 
-  -- ---- memory is wanting
+  -- ---- memory runs out
 
   pub turn_lacks : (now : Stage J) → now ≡ stage.Over (lacking c) → IsTurned judges (With at) (With now) (Err fault.Memory)
   turn_lacks now e = subst (λ (x : Stage J). IsTurned judges (With at) (With x) (Err fault.Memory)) (sym e) (at_its_turn (With (stage.Over (lacking c))) (Err fault.Memory) (lacks_turn judges st c))
 
   -- ---- it was refused
 
-  pub refresh_anew : (between : Stage J) (given : Standing) (mid : SessionState J) (r : RefreshState J) (now : Stage J) → BeginsAnew judges (With between) mid given (Some r) → now ≡ stage.Refreshing c r
+  pub refresh_anew : (between : Stage J) (given : Standing) (mid : SessionState J) (r : RefreshState J) (now : Stage J) → BeginsAgain judges (With between) mid given (Some r) → now ≡ stage.Refreshing c r
       → IsTurned judges (With at) (record mid { stage = now }) (Err (fault.Behind given))
   refresh_anew between given mid r now h is =
       subst (λ (x : Stage J). IsTurned judges (With at) (record mid { stage = x }) (Err (fault.Behind given))) (sym is)
-      (at_its_turn (record mid { stage = stage.Refreshing c r }) (Err (fault.Behind given)) (begins_anew judges (With between) c given mid r h))
+      (at_its_turn (record mid { stage = stage.Refreshing c r }) (Err (fault.Behind given)) (begins_again judges (With between) c given mid r h))
 
-  pub end_anew : (between : Stage J) (given : Standing) (mid : SessionState J) (told : Served) (now : Stage J) → BeginsAnew judges (With between) mid given None → told ≡ lacking c → now ≡ stage.Over told
+  pub end_anew : (between : Stage J) (given : Standing) (mid : SessionState J) (told : Served) (now : Stage J) → BeginsAgain judges (With between) mid given None → told ≡ lacking c → now ≡ stage.Over told
       → IsTurned judges (With at) (record mid { stage = now }) (Err (fault.Behind given))
   end_anew between given mid told now h e is =
       subst (λ (x : Stage J). IsTurned judges (With at) (record mid { stage = x }) (Err (fault.Behind given))) (sym (is ∙ ap (λ (x : Served). stage.Over x) e))
@@ -117,7 +117,7 @@ is_to_put (stage.Publishing told p) refreshing waits = refl
 is_to_put (stage.Over told) refreshing waits = absurd (waits refl)
 is_to_put stage.Told refreshing waits = absurd (waits refl)
 
--- the call is told that memory is wanting
+-- the call is told that memory runs out
 pub lack_at_turn : {J : Type 0} (judges : Judges J) (st : SessionState J) (at now : Stage J) (given : Result Turned TurnFault) (why : TurnFault) → is_turning at ≡ true → given ≡ Err why → why ≡ fault.Memory → IfSome (call_at at) (λ call. now ≡ stage.Over (lacking call))
     → IsTurned judges (record st { stage = at }) (record st { stage = now }) given
 lack_at_turn judges st (stage.Turning c) now given why turning is is_memory over =

@@ -9,8 +9,8 @@ use Rattle.dht_ids.specs.declared.ask.Heard.{Heard}
 use Rattle.dht_ids.specs.declared.peer.Peer.{Peer}
 use Rattle.dht_ids.specs.declared.post.Post.{Post}
 use Rattle.dhash_model.specs.declared.miss.Miss.{Miss}
-use Rattle.dhash_model.specs.Course.{Told, IsCourse, told_all}
-use Rattle.dhash_model.specs.Course.IsCourse.{no_route, of_owners}
+use Rattle.dhash_model.specs.Execution.{Told, IsExecution, told_all}
+use Rattle.dhash_model.specs.Execution.IsExecution.{no_route, of_owners}
 use Rattle.dhash_model.specs.Puts.{EndsPut}
 use Rattle.dhash_client.specs.Machine.{Trail}
 use Rattle.ring_model.specs.Members.{IsAmong}
@@ -35,6 +35,6 @@ nobody_looked key entries (l ∷ looks) rest found is looked = absurd (nil_cons 
 pub nobody_asked : (r : ℕ) (entries : List Peer) (p : Post) (came : Result Bool Miss) → IsPutOfPost r entries p [] came → entries ≡ []
 nobody_asked r entries p came whole = by whole
   where
-    by : IsCourse p.key (put_question p) entries (EndsPut r) [] came → entries ≡ []
+    by : IsExecution p.key (put_question p) entries (EndsPut r) [] came → entries ≡ []
     by (no_route looks found is looked nobody result_is) = nobody_looked p.key entries looks [] found (is ∙ sym (append-nil (told_all (ask.Route p.key) looks))) looked
     by (of_owners looks asks found owners is looked nodes ends) = nobody_looked p.key entries looks (told_all (put_question p) asks) found is looked

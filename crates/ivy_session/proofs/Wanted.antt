@@ -1,11 +1,11 @@
--- What a session in code wants next: what was at hand is taken, and then it asks a node, or its agent's turn.
+-- What a session in code wants next: what was available is taken, and then it asks a node, or its agent's turn.
 use Rattle.std.proofs.Common.{◌≡◌, ℕ, true, List, Option, Some, sym, ◌∙◌, subst}
 use Rattle.ivy_base.specs.declared.key.Key.{Key}
 use Rattle.dht_ids.specs.declared.ask.Ask.{Ask}
 use Rattle.dht_ids.specs.declared.judge.Judged.{Judged}
 use Rattle.dht_ids.specs.declared.peer.Peer.{Peer}
 use Rattle.dhash_client.specs.GetHead.{Judges}
-use Rattle.session_model.specs.Courses.{HasRefreshed}
+use Rattle.session_model.specs.Executions.{HasRefreshed}
 use Rattle.session_model.specs.Refreshing.{Note}
 use Rattle.session_model.specs.Sessions.{Cache, Session, TakesAll}
 use Rattle.log_fetch.specs.declared.refresh.Refresh.{Refresh}
@@ -20,7 +20,7 @@ pub then_same : {J : Type 0} (a b c : SessionState J) → IsSameSession a b → 
 then_same a b c first second = (second.0 ∙ first.0, second.1 ∙ first.1, second.2 ∙ first.2)
 
 module _ {J : Type 0} (judges : Judges J) (judged : Key → List ℕ → Option Judged) (r : ℕ) (s : Session) (cache : Cache) where
-  -- What was at hand is taken, and then the session asks that.
+  -- What was available is taken, and then the session asks that.
   pub record AsksThen (mid : SessionState J) (between : Cache) (node : Peer) (question : Ask) : Type 0 where
     pub taken : Session
     pub takes : TakesAll judged r s cache taken between
@@ -28,7 +28,7 @@ module _ {J : Type 0} (judges : Judges J) (judged : Key → List ℕ → Option 
     pub awaited : session_awaited mid ≡ Some (node, question)
     pub asks : AsksOf judged r taken node question
 
-  -- What was at hand is taken, and the refresh is done.
+  -- What was available is taken, and the refresh is done.
   pub record TurnsThen (mid : SessionState J) (between : Cache) (refresh : Refresh) : Type 0 where
     pub taken : Session
     pub notes : List Note

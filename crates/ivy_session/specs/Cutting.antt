@@ -1,4 +1,4 @@
--- Where a session's publishing is cut: memory was wanting for it, and posts are left.
+-- Where a session's publishing is cut: memory ran out for it, and posts are left.
 use Rattle.std.specs.Prelude.{◌≡◌, Bool, true, false, ◌||◌, ◌&&◌, Result, is_ok}
 use Rattle.log_fetch.specs.declared.turned.Turned.{Turned}
 use Rattle.log_fetch.specs.declared.turned.TurnFault.{TurnFault}

@@ -23,7 +23,7 @@ use Rattle.ivy_session.specs.declared.session.Stage.TheVariants as stage
 use Rattle.ivy_session.specs.States.{SessionState}
 use Rattle.ivy_session.specs.Taking.{IsFailure}
 
--- memory is wanting
+-- memory runs out
 abbrev pub lacking : Call → Served
 lacking c = served.Reply (reply c.xid SystemError)
 
@@ -35,7 +35,7 @@ replying c bytes = served.Reply (reply c.xid (Success bytes))
 abbrev pub missing : Call → Miss → Served
 missing c miss = served.Reply (reply c.xid (Success (bytes_of (missed_reply (asked_of c.asked) miss))))
 
--- the miss is told, and this is noted; or that memory is wanting, and nothing is noted
+-- the miss is told, and this is noted; or that memory runs out, and nothing is noted
 abbrev pub TellsMiss : {J : Type 0} → SessionState J → SessionState J → Call → Miss → List Noted → Served → Type 0
 TellsMiss old new c miss notes told = ((told ≡ missing c miss) × (new ≡ record old { notes = notes })) ⊎ ((told ≡ lacking c) × (new ≡ old))
 
@@ -46,7 +46,7 @@ ConcludesAs old new c given (next.Turn refresh) =
 ConcludesAs old new c given (next.Done told) = (miss : Miss) × (given.result ≡ Err miss) × TellsMiss old new c miss given.notes told
 ConcludesAs old new c given _ = ⊥
 
--- it is told why its refresh failed; or that memory is wanting, and nothing is noted
+-- it is told why its refresh failed; or that memory runs out, and nothing is noted
 abbrev pub EndsAs : {J : Type 0} → Judges J → SessionState J → SessionState J → Call → RefreshState J → Served → Type 0
 EndsAs judges old new c r told =
     ((told ≡ lacking c) × (new ≡ old))
@@ -69,10 +69,10 @@ pub record IsRefreshFor {J : Type 0} (judges : Judges J) (st : SessionState J) (
   pub unfailed : has_failed r ≡ false
   pub left : refresh_left r < most_refresh
 
--- it began anew with this refresh, or without memory for one; or it did so twice before, and stays as it is
+-- it began again with this refresh, or without memory for one; or it did so twice before, and stays as it is
 abbrev pub IsNew : {J : Type 0} → SessionState J → SessionState J → Type 0
 IsNew old new = (old.starts < 2) × (new ≡ record old { starts = old.starts + 1; notes = [] })
 
-abbrev pub BeginsAnew : {J : Type 0} → Judges J → SessionState J → SessionState J → Standing → Option (RefreshState J) → Type 0
-BeginsAnew judges old new standing (Some r) = IsNew old new × IsRefreshFor judges old standing r
-BeginsAnew judges old new standing None = IsNew old new ⊎ ((2 ≤ old.starts) × (new ≡ old))
+abbrev pub BeginsAgain : {J : Type 0} → Judges J → SessionState J → SessionState J → Standing → Option (RefreshState J) → Type 0
+BeginsAgain judges old new standing (Some r) = IsNew old new × IsRefreshFor judges old standing r
+BeginsAgain judges old new standing None = IsNew old new ⊎ ((2 ≤ old.starts) × (new ≡ old))

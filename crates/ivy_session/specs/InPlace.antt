@@ -63,7 +63,7 @@ abbrev pub PutHeard : {J : Type 0} → Stage J → Stage J → Result Answer Mem
 PutHeard (stage.Publishing told p) now given result = (q : PublishingState) × (now ≡ stage.Publishing told q) × PutHears p q given result
 PutHeard _ now given result = ⊥
 
--- the refresh takes what is at hand, and says what it wants then
+-- the refresh takes what is available, and says what it wants then
 abbrev pub RefreshWants : {J : Type 0} → Judges J → Stage J → Stage J → Cache → Cache → Result (Want Refreshed) Memory → Type 0
 RefreshWants {J} judges (stage.Refreshing c r) now before after result =
     (q : RefreshState J) × (now ≡ stage.Refreshing c q) × Advances judges r q before after result
@@ -80,7 +80,7 @@ abbrev pub FailureAt : {J : Type 0} → Judges J → Stage J → Stage J → Opt
 FailureAt {J} judges (stage.Refreshing c r) now why = (q : RefreshState J) × (now ≡ stage.Refreshing c q) × IfSome why (IsFailure judges r)
 FailureAt judges _ now why = ⊥
 
--- it is told why; or that memory is wanting, and nothing is noted
+-- it is told why; or that memory runs out, and nothing is noted
 abbrev pub TellsWhy : {J : Type 0} → SessionState J → SessionState J → Call → Option (Miss × List Noted) → Served → Type 0
 TellsWhy old new c None told = (told ≡ lacking c) × (new ≡ old)
 TellsWhy old new c (Some why) told = TellsMiss old new c why.0 why.1 told

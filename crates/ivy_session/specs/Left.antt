@@ -12,7 +12,7 @@ use Rattle.ivy_session.specs.States.{SessionState}
 unfoldable pub most_puts : ℕ
 most_puts = most_asks * 2 ^ 64
 
--- that far, where it began anew so often
+-- that far, where it began again so often
 abbrev pub left_at : {J : Type 0} → ℕ → Stage J → ℕ
 left_at starts (stage.Refreshing c r) = refresh_left r + 2 + most_puts + most_refresh * (2 - starts)
 left_at starts (stage.Turning c) = 2 + most_puts + most_refresh * (2 - starts)
@@ -24,7 +24,7 @@ left_at starts stage.Told = 0
 abbrev pub session_left : {J : Type 0} → SessionState J → ℕ
 session_left st = left_at st.starts st.stage
 
--- no more is left, however often it began anew
+-- no more is left, however often it began again
 abbrev pub StaysLeft : {J : Type 0} → Stage J → Stage J → Type 0
 StaysLeft old new = (starts : ℕ) → left_at starts new ≤ left_at starts old
 

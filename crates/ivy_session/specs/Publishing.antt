@@ -12,13 +12,13 @@ use Rattle.dht_ids.specs.declared.post.Ack.{Ack}
 use Rattle.dht_ids.specs.declared.post.Post.{Post}
 use Rattle.dht_ids.specs.declared.post.PostKind.{PostKind}
 use Rattle.dhash_model.specs.declared.miss.Miss.{Miss}
-use Rattle.dhash_client.specs.Course.{asks_left}
+use Rattle.dhash_client.specs.Execution.{asks_left}
 use Rattle.dhash_client.specs.Puts.{put_awaited}
 use Rattle.agent_model.specs.Agent.{is_head}
 use Rattle.session_model.specs.Sessions.{Said, Stage, Publishing, IsPutOfPost, in_publishing_order, is_log, after_put, acknowledged}
 use Rattle.ivy_session.specs.Putting.{Putting, PuttingIsAfter, IsSamePutting, post_of}
 
--- posts that are put: with how many answers each put is content, at which nodes it begins its look-up, the put on its way, the posts behind
+-- posts that are put: with how many answers each put is content, at which nodes it begins its look-up, the put on its way, the posts after
 -- it in their order, and the acknowledgements so far
 pub record PublishingState : Type 0 where
   pub replicas : ℕ
@@ -49,7 +49,7 @@ abbrev pub PutIsBehind : ℕ → List Peer → List Heard → Option Putting →
 PutIsBehind r entries trail None = trail ≡ []
 PutIsBehind r entries trail (Some p) = PuttingIsAfter r entries trail p
 
--- it may be in this state behind this trail of the put on its way
+-- it may be in this state after this trail of the put on its way
 abbrev pub PublishingIsAfter : List Heard → PublishingState → Type 0
 PublishingIsAfter trail s = PutIsBehind s.replicas s.entries trail s.put
 
@@ -124,9 +124,9 @@ most_asks = 2 ^ 64 + 512
 
 abbrev pub left_in : Option Putting → ℕ
 left_in None = 0
-left_in (Some p) = asks_left p.put.course
+left_in (Some p) = asks_left p.put.execution
 
--- those of the put on its way, and of a put of each post behind it
+-- those of the put on its way, and of a put of each post after it
 abbrev pub puts_left : PublishingState → ℕ
 puts_left s = left_in s.put + most_asks * length s.left
 
@@ -138,7 +138,7 @@ next_post (Some p) left = None
 next_post None [] = None
 next_post None (p ∷ left) = Some p
 
--- and the posts behind it
+-- and the posts after it
 abbrev pub left_behind : Option Putting → List Post → List Post
 left_behind (Some p) left = left
 left_behind None [] = []
@@ -160,7 +160,7 @@ pub record PutAsks (old : Putting) (before now : PublishingState) : Type 0 where
   pub same : IsSamePutting old new
   pub asks : put_awaited new.put ≢ None
   pub keeps : (r : ℕ) (entries : List Peer) (trail : List Heard) → PuttingIsAfter r entries trail old → PuttingIsAfter r entries trail new
-  pub left : asks_left new.put.course ≤ asks_left old.put.course
+  pub left : asks_left new.put.execution ≤ asks_left old.put.execution
 
 -- the put is over
 pub record PutIsOver (old : Putting) (before now : PublishingState) : Type 0 where

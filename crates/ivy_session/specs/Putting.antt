@@ -21,7 +21,7 @@ pub record Putting : Type 0 where
   pub put : PutState
 
 abbrev pub post_of : Putting → Post
-post_of s = record { key = s.put.course.look.key; bytes = s.put.bytes; kind = s.kind }
+post_of s = record { key = s.put.execution.look.key; bytes = s.put.bytes; kind = s.kind }
 
 -- one that begins
 abbrev pub putting : Post → ℕ → List Peer → Putting
@@ -31,11 +31,11 @@ putting p r entries = record { kind = p.kind; ack = ack_of p; put = put_begun (p
 abbrev pub IsSamePutting : Putting → Putting → Type 0
 IsSamePutting old new = (new.kind ≡ old.kind) × (new.ack ≡ old.ack) × IsSamePut old.put new.put
 
--- it puts its post, and may be in this state behind this trail
+-- it puts its post, and may be in this state after this trail
 pub record PuttingIsAfter (r : ℕ) (entries : List Peer) (trail : List Heard) (s : Putting) : Type 0 where
   pub what : s.put.what ≡ put_kind s.kind
   pub named : s.ack ≡ ack_of (post_of s)
-  pub replicas : s.put.course.replicas ≡ r
+  pub replicas : s.put.execution.replicas ≡ r
   pub after : PutIsAfter entries trail s.put
 
 -- what it wants: to ask a node, which is then to be heard, or nothing more, since its trail is a whole put of its post

@@ -10,7 +10,7 @@ use Rattle.agent_model.specs.Standing.{Refresh, Standing}
 use Rattle.session_model.specs.Refreshing.{Note}
 use Rattle.session_model.specs.Replies.{Asks}
 use Rattle.session_model.specs.Sessions.{Said, Session, Refreshing, Over}
-use Rattle.session_model.specs.Courses.{Begins, HasRefreshed}
+use Rattle.session_model.specs.Executions.{Begins, HasRefreshed}
 use Rattle.log_fetch.specs.declared.asked.Asked.{Asked}
 use Rattle.log_fetch.specs.declared.note.Note.{Note as Noted}
 use Rattle.log_fetch.specs.Standings.{asked_of, notes_of}
@@ -23,7 +23,7 @@ use Rattle.ivy_session.specs.declared.session.Stage.TheVariants as stage
 use Rattle.ivy_session.specs.declared.served.Served.{Served}
 use Rattle.ivy_session.specs.declared.served.Served.TheVariants as served
 
--- by which judge, from how many owners and at which nodes it asks; how often it began anew, what is noted, whether its publishing ended
+-- by which judge, from how many owners and at which nodes it asks; how often it began again, what is noted, whether its publishing ended
 -- before all puts were made, and how far it has come
 pub record SessionState (J : Type 0) : Type 0 where
   pub judge : J

@@ -19,12 +19,12 @@ use Rattle.log_records.specs.Batches.{Batch, AreUnder, owners_in}
 use Rattle.turn_model.specs.Turn.{Asked}
 use Rattle.agent_model.specs.Standing.{Refresh as ModelRefresh, Standing as ModelStanding}
 use Rattle.session_model.specs.Asking.{AsksNext}
-use Rattle.session_model.specs.Brought.{Want}
+use Rattle.session_model.specs.Brought.{WantedOfRing}
 use Rattle.session_model.specs.Refreshing.{Note}
 use Rattle.session_model.specs.Replies.{Asks, missed_reply, said_no_memory, said_of}
 use Rattle.session_model.specs.Sessions.{Said, Session, Cache, Publishing, Over, Hears, IsGet, IsPut, TakesAll, TakesSome, Wants}
 use Rattle.session_model.specs.Sessions.{put_question, wanted_key}
-use Rattle.session_model.specs.Courses.{Fails, HasRefreshed, LacksMemory, anew, answered, ended}
+use Rattle.session_model.specs.Executions.{Fails, HasRefreshed, LacksMemory, anew, answered_by_turn, ended}
 use Rattle.log_fetch.specs.declared.refresh.Refresh.{Refresh}
 use Rattle.log_fetch.specs.declared.turned.Turned.{Turned}
 use Rattle.log_fetch.specs.declared.turned.TurnFault.{TurnFault}
@@ -45,7 +45,7 @@ IsSameSession old new = (new.judge ≡ old.judge) × (new.replicas ≡ old.repli
 module _ (judged : Key → List ℕ → Option Judged) (replicas : ℕ) (s : Session) (node : Peer) (question : Ask) where
   -- The session asks that node next: for what its refresh wants, or for the first post that it has still to put.
   pub data AsksOf : Type 0 where
-    gets : (want : Want) → Wants judged replicas s want
+    gets : (want : WantedOfRing) → Wants judged replicas s want
         → AsksNext (wanted_key want) (ask.Get (wanted_key want)) (IsGet judged replicas s.entries want) s.current node question → AsksOf
     puts : (said : Option Said) (p : Post) (posts : List Post) (acks : List Ack) → s.stage ≡ Publishing said (p ∷ posts) acks
         → AsksNext p.key (put_question p) (IsPut judged replicas s p) s.current node question → AsksOf
@@ -92,8 +92,8 @@ module _ {J : Type 0} (judges : Judges J) (old new : SessionState J) (s : Sessio
     is_unrouted : (t : Session) (told : Served) → TakesAll (judges old.judge) old.replicas s before t after → IsUnrouted t told
         → NextIs before after (next.Done told)
 
-  -- The answer was heard: a step of the session, behind which it waits for a node only where the get or put on its way has made asks; or
-  -- memory is wanting, and it has no turn, or publishes no more.
+  -- The answer was heard: a step of the session, after which it waits for a node only where the get or put on its way has made asks; or
+  -- memory runs out, and it has no turn, or publishes no more.
   pub data HeardIs (before after : Cache) (node : Peer) (question : Ask) (given : Result Answer Memory) : Type 0 where
     hears : (answer : Answer) (heard t : Session) → given ≡ Ok answer
         → Hears (judges old.judge) old.replicas s before node question answer heard after → Fails heard t → IsSession judges t new
@@ -104,15 +104,15 @@ module _ {J : Type 0} (judges : Judges J) (old new : SessionState J) (s : Sessio
         → after ≡ before
         → IsSession judges (record s { stage = Over said; current = [] }) new → HeardIs before after node question given
 
-  -- Its turn was refused, and it begins anew from that standing, at most twice; else memory is wanting.
+  -- Its turn was refused, and it begins again from that standing, at most twice; else memory runs out.
   pub data IsRefused (standing : ModelStanding) : Type 0 where
-    begins_anew : s.starts < 2 → IsSession judges (anew s standing) new → IsRefused standing
+    begins_again : s.starts < 2 → IsSession judges (anew s standing) new → IsRefused standing
     lacks_memory : (t : Session) → s.starts < 2 → LacksMemory (anew s standing) t → IsSession judges t new → IsRefused standing
     gives_up : (xid : ℕ) (notes : List Note) (given : ModelRefresh) (asked : Asked) → 2 ≤ s.starts → HasRefreshed s notes given
         → Asks s.standing.view s.message xid asked
         → IsSession judges (ended s (said_no_memory xid) notes None) new → IsRefused standing
 
-  -- Its turn was answered: it publishes what is pending; or memory is wanting for that, and it is over.
+  -- Its turn was answered: it publishes what is pending; or memory runs out for that, and it is over.
   pub record IsAnswered (turned : Turned) (answer : Reply) : Type 0 where
     pub xid : ℕ
     pub asked : Asked
@@ -120,9 +120,9 @@ module _ {J : Type 0} (judges : Judges J) (old new : SessionState J) (s : Sessio
     pub notes : List Note
     pub given : ModelRefresh
     pub refreshed : HasRefreshed s notes given
-    pub publishes : IsSession judges (answered s (said_of xid answer) notes turned.posts) new
+    pub publishes : IsSession judges (answered_by_turn s (said_of xid answer) notes turned.posts) new
         ⊎ ((new.is_cut ≡ true) × IsSession judges
-        (record (answered s (said_of xid answer) notes turned.posts) { stage = Over (Some (said_of xid answer)) }) new)
+        (record (answered_by_turn s (said_of xid answer) notes turned.posts) { stage = Over (Some (said_of xid answer)) }) new)
 
   abbrev pub TurnedIs : Result Turned TurnFault → Type 0
   TurnedIs (Ok turned) = (answer : Reply) → turned.reply ≡ bytes_of answer → IsAnswered turned answer
@@ -146,8 +146,8 @@ module _ {J : Type 0} (judges : Judges J) (old new : SessionState J) where
   abbrev pub IsTurned : Result Turned TurnFault → Type 0
   IsTurned turned = IsSameSession old new × ((s : Session) → IsSession judges s old → TurnedIs judges old new s turned)
 
--- the session is to begin anew without a snapshot to load
-abbrev pub IsAnewFor : TurnFault → Type 0
-IsAnewFor fault.Memory = Unit {0}
-IsAnewFor (fault.Behind standing) = standing.basis ≡ None
-IsAnewFor (fault.BelowTide standing) = standing.basis ≡ None
+-- the session is to begin again without a snapshot to load
+abbrev pub IsAgainFor : TurnFault → Type 0
+IsAgainFor fault.Memory = Unit {0}
+IsAgainFor (fault.Behind standing) = standing.basis ≡ None
+IsAgainFor (fault.BelowTide standing) = standing.basis ≡ None

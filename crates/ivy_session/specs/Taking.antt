@@ -1,4 +1,4 @@
--- What a session's refresh takes of what is at hand, and hears.
+-- What a session's refresh takes of what is available, and hears.
 use Rattle.std.specs.Prelude.{◌≡◌, ◌≢◌, ◌⊎◌, ◌<◌, Bool, true, false, ℕ, List, [], Option, Some, None, Result, Ok, Err}
 use Rattle.ivy_base.specs.declared.key.Key.{Key}
 use Rattle.ivy_base.specs.declared.memory.Memory.{Memory}
@@ -33,25 +33,25 @@ IsSameCall s t = t ≡ record s { parts = t.parts; current = t.current }
 abbrev pub HasCome : Session → Type 0
 HasCome s = (end : RefreshEnd) × Stands s.standing s.parts end
 
--- the block is at hand, and was taken
+-- the block is available, and was taken
 abbrev pub HasTaken : {J : Type 0} → Judges J → RefreshState J → RefreshState J → Cache → Cache → Type 0
 HasTaken judges old new before after =
     IsSameRefresh old new × (refresh_awaited old ≡ None) × (refresh_awaited new ≡ None)
     × ((s : Session) → IsRefreshingBy judges s old
     → (t : Session) × Takes (judges old.judge) old.replicas s before t after × IsSameCall s t × IsRefreshingBy judges t new)
 
--- the block that is wanted isn't at hand
+-- the block that is wanted isn't available
 abbrev pub IsAway : Option Key → List Post → Cache → Type 0
 IsAway None posts cache = Unit {0}
 IsAway (Some key) posts cache = (pending_block key posts ≡ None) × (block_of key cache ≡ None)
 
--- one block was taken, and fewer are left; or the one that is wanted isn't at hand; or memory is wanting
+-- one block was taken, and fewer are left; or the one that is wanted isn't available; or memory runs out
 abbrev pub TakesOne : {J : Type 0} → Judges J → RefreshState J → RefreshState J → Cache → Cache → Result Bool Memory → Type 0
 TakesOne judges old new before after (Ok true) = HasTaken judges old new before after × (refresh_left new < refresh_left old)
 TakesOne judges old new before after (Ok false) = (new ≡ old) × (after ≡ before) × IsAway (refresh_wanted old) old.pending before
 TakesOne judges old new before after (Err lacks) = after ≡ before
 
--- what was at hand was taken, or some of it where memory is wanting: without a node to be heard
+-- what was available was taken, or some of it where memory runs out: without a node to be heard
 abbrev pub TakesHand : {J : Type 0} → Judges J → RefreshState J → RefreshState J → Cache → Cache → Result (Unit {0}) Memory → Type 0
 TakesHand judges old new before after (Ok done) =
     IsSameRefresh old new × (refresh_awaited old ≢ None → (new ≡ old) × (after ≡ before))
@@ -77,7 +77,7 @@ abbrev pub IsHeardTo : {J : Type 0} → Judges J → Session → RefreshState J 
 IsHeardTo judges t new before after false = IsRefreshingBy judges t new × (refresh_awaited new ≢ None → t.current ≢ [])
 IsHeardTo judges t new before after true = IsFailing judges t new × (after ≡ before)
 
--- Where memory is wanting the cache is the same.
+-- Where memory runs out the cache is the same.
 abbrev pub RefreshHears : {J : Type 0} → Judges J → RefreshState J → RefreshState J → Cache → Cache → Result Answer Memory
     → Result Bool Memory → Type 0
 RefreshHears judges old new before after given (Ok failed) =
@@ -90,17 +90,17 @@ RefreshHears judges old new before after given (Err lacks) = after ≡ before
 
 -- ---- what is wanted then
 
--- what was at hand was taken; or the session is the same, and a node is to be heard
-abbrev pub AtHand : {J : Type 0} → Judges J → RefreshState J → Session → Session → Cache → Cache → Type 0
-AtHand judges old s t before after =
+-- what was available was taken; or the session is the same, and a node is to be heard
+abbrev pub Available : {J : Type 0} → Judges J → RefreshState J → Session → Session → Cache → Cache → Type 0
+Available judges old s t before after =
     TakesAll (judges old.judge) old.replicas s before t after ⊎ ((refresh_awaited old ≢ None) × (t ≡ s) × (after ≡ before))
 
--- what is at hand is taken, and then a node is asked, or all was brought; or memory is wanting
+-- what is available is taken, and then a node is asked, or all was brought; or memory runs out
 abbrev pub Advances : {J : Type 0} → Judges J → RefreshState J → RefreshState J → Cache → Cache → Result (Want Refreshed) Memory → Type 0
 Advances judges old new before after (Ok (want.Ask node question)) =
     IsSameRefresh old new × (refresh_awaited new ≡ Some (node, question))
     × ((s : Session) → IsRefreshingBy judges s old
-    → (t : Session) × AtHand judges old s t before after × IsSameCall s t × IsRefreshingBy judges t new
+    → (t : Session) × Available judges old s t before after × IsSameCall s t × IsRefreshingBy judges t new
     × AsksOf (judges old.judge) old.replicas t node question)
 Advances judges old new before after (Ok (want.Done given)) =
     (s : Session) → IsRefreshingBy judges s old

@@ -13,7 +13,7 @@ use nfs3_objects::handle_of;
 use std::alloc::Global;
 use view_blocks::View;
 
-/// What NULL and the procedures of MOUNT answer (RFC 1813, sections 3.3.0 and 5.2); none to other calls. The error is want of
+/// What NULL and the procedures of MOUNT answer (RFC 1813, sections 3.3.0 and 5.2); none to other calls. The error is: out of
 /// memory.
 pub fn alone_answer(alloc: Global, view: &View, args: &Args) -> Result<Option<Reply>, Memory>
     ensures { IfOk result (λ given. given ≡ alone_answer view.now args.now) }
@@ -30,7 +30,7 @@ pub fn alone_answer(alloc: Global, view: &View, args: &Args) -> Result<Option<Re
 }
 
 /// What MNT answers (section 5.2.1): the handle of the root where the path is its own, else that there is no such path. The
-/// error is want of memory.
+/// error is: out of memory.
 fn mounted(alloc: Global, view: &View, path: &[u8]) -> Result<Reply, Memory>
     ensures { IfOk result (λ reply. reply ≡ (if same_bytes path.now (47 ∷ []) then Reply.Mounted (handle_of view.now root_number) else Reply.NoSuchPath)) }
 {

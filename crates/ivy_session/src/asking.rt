@@ -1,7 +1,7 @@
 //! A put whose ask is to be heard.
 
 ghost use Rattle.std.specs.Prelude.{◌≡◌, ◌<◌, Some, IfOk};
-ghost use Rattle.dhash_client.specs.Course.{asks_left};
+ghost use Rattle.dhash_client.specs.Execution.{asks_left};
 ghost use Rattle.dhash_client.specs.Puts.{put_awaited};
 ghost use Rattle.ivy_session.specs.Putting.{PuttingHasHeard};
 
@@ -45,17 +45,17 @@ impl Asking {
         }
     }
 
-    /// The node that is to be heard, and what it is asked. The error is want of memory.
+    /// The node that is to be heard, and what it is asked. The error is: out of memory.
     pub(crate) fn wanted(&self, alloc: Global) -> Result<(Peer, Ask), Memory>
         ensures { IfOk result (λ asked. put_awaited self.now.put ≡ Some asked) }
     {
         Ok((self.node, self.question.copy(alloc)?))
     }
 
-    /// The put, which heard this answer. The error is want of memory.
+    /// The put, which heard this answer. The error is: out of memory.
     pub(crate) fn heard(self, answer: Answer) -> Result<Put, Memory>
         ensures heard { IfOk result (λ put. PuttingHasHeard self put answer) }
-        ensures left { IfOk result (λ put. asks_left put.put.course < asks_left self.put.course) }
+        ensures left { IfOk result (λ put. asks_left put.put.execution < asks_left self.put.execution) }
     {
         let mut put = self.put;
         put.heard(answer)?;

@@ -1,4 +1,4 @@
-//! Blocks that are at hand without asking.
+//! Blocks that are available without asking.
 
 ghost use Rattle.std.specs.Prelude.{◌≤◌, OnOk};
 ghost use Rattle.view_refresh.specs.States.{refresh_left};
@@ -9,8 +9,8 @@ use dht_ids::Judge;
 use ivy_base::Memory;
 use view_refresh::ViewRefresh;
 
-/// Gives the refresh what it wants of what is at hand, as long as it wants a block that is: from what is pending, or else from
-/// the cache. The error is want of memory; the refresh isn't used after it.
+/// Gives the refresh what it wants of what is available, as long as it wants a block that is: from what is pending, or else
+/// from the cache. The error is: out of memory; the refresh isn't used after it.
 pub fn take_all<J: Judge>(
     refresh: &mut ViewRefresh<J>,
     cache: &mut BlockCache,
@@ -22,7 +22,8 @@ pub fn take_all<J: Judge>(
     Ok(())
 }
 
-/// Gives the refresh the block that it wants, where it is at hand, and says whether it is. The error is want of memory.
+/// Gives the refresh the block that it wants, where it is available, and says whether it is. The error is: out of
+/// memory.
 fn take_one<J: Judge>(refresh: &mut ViewRefresh<J>, cache: &mut BlockCache) -> Result<bool, Memory>
     ensures { TakesOne J.judges refresh.old refresh.new cache.old cache.new result }
 {

@@ -12,7 +12,7 @@ use rpc_wire::{LONGEST_HEAD, ReplyHead, write_head};
 use std::alloc::Global;
 use xdr_codec::XdrWrite;
 
-/// A message with nothing written and room for any head. The error is want of memory.
+/// A message with nothing written and room for any head. The error is: out of memory.
 pub fn room_for_head(alloc: Global) -> Result<XdrWrite, Memory>
     ensures empty { IfOk result (λ out. out.written ≡ []) }
     ensures room { IfOk result (λ out. LONGEST_HEAD ≤ out.spare) }
@@ -33,14 +33,14 @@ pub fn head_within(mut room: XdrWrite, xid: u32, head: &ReplyHead) -> Bytes
     room.into_bytes()
 }
 
-/// The reply to the call `xid` that is that head alone. The error is want of memory.
+/// The reply to the call `xid` that is that head alone. The error is: out of memory.
 pub fn head_alone(alloc: Global, xid: u32, head: &ReplyHead) -> Result<Bytes, Memory>
     ensures { IfOk result (λ bytes. bytes ≡ head_bytes xid head.now) }
 {
     Ok(head_within(room_for_head(alloc)?, xid, head))
 }
 
-/// The reply to the call `xid` of success with that result. The error is want of memory.
+/// The reply to the call `xid` of success with that result. The error is: out of memory.
 pub fn success(alloc: Global, xid: u32, reply: &Reply) -> Result<Bytes, Memory>
     ensures { IfOk result (λ bytes. bytes ≡ reply_bytes xid (Success (bytes_of reply.now))) }
 {

@@ -54,7 +54,7 @@
 //! - `proofs/AskSteps.antt` and `proofs/Nobody.antt`: what a put asks, and that nobody is asked where no node
 //!   is known;
 //! - `proofs/Bringing.antt`: what is kept of what was brought;
-//! - `proofs/Taken.antt` and `proofs/AtHand.antt`: the blocks that are available without an ask;
+//! - `proofs/Taken.antt` and `proofs/Available.antt`: the blocks that are available without an ask;
 //! - `proofs/Hears.antt`, `proofs/Failing.antt`, `proofs/Advancing.antt`, and over them `proofs/Calls.antt`,
 //!   `proofs/Puts.antt`, `proofs/Begins.antt`, `proofs/Turns.antt`;
 //! - `proofs/InPlace.antt`, `proofs/Refreshed.antt`, `proofs/TurnsInPlace.antt`: stages that are changed in
@@ -64,7 +64,7 @@
 //! For whoever drives a session, over its contracts:
 //! - `proofs/Staying.antt` and `proofs/Ended.antt`: what stays of a session, and sessions that are over;
 //! - `proofs/Hearing.antt`: whatever is answered may be heard, and what is asked is for data;
-//! - `proofs/Wanted.antt`: what was at hand is taken, and then a node is asked, or a turn;
+//! - `proofs/Wanted.antt`: what was available is taken, and then a node is asked, or a turn;
 //! - `proofs/Called.antt`: what a turn is asked is what the message asks for.
 //!
 //! Costs:

@@ -15,7 +15,7 @@ use nfs3_objects::bare_tail;
 use std::alloc::Global;
 
 /// The reply to the call `xid` after a refresh that failed by that miss: the procedure's refusal without attributes, with
-/// JUKEBOX, or IO where a block was damaged. The error is want of memory.
+/// JUKEBOX, or IO where a block was damaged. The error is: out of memory.
 pub fn missed(alloc: Global, xid: u32, asked: &Asked, miss: &Miss) -> Result<Bytes, Memory>
     ensures { IfOk result (λ bytes. bytes ≡ reply_bytes xid (Success (bytes_of (missed_reply (asked_of asked.now) miss.now)))) }
 {

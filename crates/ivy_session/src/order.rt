@@ -10,7 +10,7 @@ use std::alloc::Global;
 use std::collections::VecDeque;
 
 /// Copies of the posts in the order in which they are put: records, then blocks of snapshots, then heads; within a kind as
-/// they stand. The error is want of memory.
+/// they stand. The error is: out of memory.
 pub(crate) fn in_order(alloc: Global, posts: &[Post]) -> Result<VecDeque<Post>, Memory>
     ensures { IfOk result (λ ordered. ordered.items ≡ in_publishing_order posts.now) }
 {
@@ -21,7 +21,7 @@ pub(crate) fn in_order(alloc: Global, posts: &[Post]) -> Result<VecDeque<Post>, 
     Ok(VecDeque::from(ordered))
 }
 
-/// Adds copies of the posts of that kind. The error is want of memory.
+/// Adds copies of the posts of that kind. The error is: out of memory.
 fn copy_kind(
     alloc: Global,
     kind: PostKind,

@@ -51,7 +51,7 @@ impl Model for Publishing {
 
 impl Publishing {
     /// Publishes copies of these posts. Each put begins its look-up at these nodes and is content with that many answers.
-    /// The error is want of memory.
+    /// The error is: out of memory.
     pub fn start(
         alloc: Global,
         replicas: u32,
@@ -72,7 +72,7 @@ impl Publishing {
 
     /// What is wanted next: an ask of the put on its way, or else of the first post that is left, or nothing more, since
     /// all posts were put: the acknowledgements, in the order of the puts. An ask that was not yet heard is wanted again.
-    /// Where a node is known no put is over here: it is over with its last answer. The error is want of memory; nothing is
+    /// Where a node is known no put is over here: it is over with its last answer. The error is: out of memory; nothing is
     /// published after it, nor after the acknowledgements.
     pub fn next(&mut self) -> Result<Want<Acks>, Memory>
         ensures wanted { IfOk result (λ want. PublishingIsWanted self.old self.new want) }
@@ -89,7 +89,7 @@ impl Publishing {
     }
 
     /// Hears what the node answered that was asked last: the put on its way goes on, or is over. It is called once after
-    /// each ask. The error is want of memory; nothing is published after it.
+    /// each ask. The error is: out of memory; nothing is published after it.
     pub fn heard(&mut self, answer: Answer) -> Result<(), Memory>
         requires { publishing_awaited self.old ≢ None }
         ensures heard { IfOk result (λ _. PublishingHasHeard self.old self.new answer) }
@@ -104,7 +104,7 @@ impl Publishing {
         }
     }
 
-    /// Begins puts of the first posts that are left until one asks a node, where none is on its way. The error is want of
+    /// Begins puts of the first posts that are left until one asks a node, where none is on its way. The error is: out of
     /// memory.
     fn begin(&mut self) -> Result<(), Memory>
         ensures begun { OnOk result (HasBegun self.old self.new) }
@@ -136,7 +136,7 @@ impl Publishing {
         Acks::of(mem::replace(&mut self.acks, Vec::new(self.alloc)))
     }
 
-    /// Goes on with the put: it asks a node and is the one on its way, or it is over. The error is want of memory.
+    /// Goes on with the put: it asks a node and is the one on its way, or it is over. The error is: out of memory.
     fn go_on(&mut self, mut put: Put) -> Result<(), Memory>
         ensures { OnOk result (PutGoesOn put self.old self.new) }
     {
@@ -150,7 +150,7 @@ impl Publishing {
     }
 
     /// Concludes a put of such a post, of which this came: its acknowledgement is kept, or else, after a record, no head is
-    /// put. The error is want of memory.
+    /// put. The error is: out of memory.
     fn conclude(
         &mut self,
         kind: PostKind,

@@ -1,7 +1,7 @@
 //! The put of one post.
 
 ghost use Rattle.std.specs.Prelude.{◌≡◌, ◌≢◌, ◌<◌, ◌≤◌, None, IfOk};
-ghost use Rattle.dhash_client.specs.Course.{asks_left};
+ghost use Rattle.dhash_client.specs.Execution.{asks_left};
 ghost use Rattle.dhash_client.specs.Puts.{put_awaited};
 ghost use Rattle.session_model.specs.Sessions.{ack_of};
 ghost use Rattle.ivy_session.specs.Putting.{putting, PuttingIsWanted, PuttingHasHeard};
@@ -39,7 +39,7 @@ fn ack_of(post: &Post) -> Ack
 }
 
 impl Put {
-    /// A put of the post that begins its look-up at these nodes and is content with that many answers. The error is want
+    /// A put of the post that begins its look-up at these nodes and is content with that many answers. The error is: out
     /// of memory.
     pub(crate) fn start(
         alloc: Global,
@@ -70,23 +70,23 @@ impl Put {
         self.ack
     }
 
-    /// What the put wants next: an ask, or nothing more, since it has its result. The error is want of memory; the put
+    /// What the put wants next: an ask, or nothing more, since it has its result. The error is: out of memory; the put
     /// isn't used after it, nor after its result.
     pub(crate) fn next(&mut self) -> Result<Want<Result<bool, Miss>>, Memory>
         ensures kind { self.new.kind ≡ self.old.kind }
         ensures ack { self.new.ack ≡ self.old.ack }
         ensures wanted { IfOk result (λ want. PuttingIsWanted self.old self.new want) }
-        ensures left { IfOk result (λ _. asks_left self.new.put.course ≤ asks_left self.old.put.course) }
+        ensures left { IfOk result (λ _. asks_left self.new.put.execution ≤ asks_left self.old.put.execution) }
     {
         self.machine.next()
     }
 
-    /// Hears what the node answered that was asked last. It is called once after each ask. The error is want of memory;
+    /// Hears what the node answered that was asked last. It is called once after each ask. The error is: out of memory;
     /// the put isn't used after it.
     pub(crate) fn heard(&mut self, answer: Answer) -> Result<(), Memory>
         requires { put_awaited self.old.put ≢ None }
         ensures heard { IfOk result (λ _. PuttingHasHeard self.old self.new answer) }
-        ensures left { IfOk result (λ _. asks_left self.new.put.course < asks_left self.old.put.course) }
+        ensures left { IfOk result (λ _. asks_left self.new.put.execution < asks_left self.old.put.execution) }
     {
         self.machine.heard(answer)
     }

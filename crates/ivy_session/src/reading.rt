@@ -38,7 +38,7 @@ pub enum Reading {
 
 /// Reads a message (RFC 5531, section 9). No call has no reply. A call of another version of RPC, of a program, a version or
 /// a procedure that isn't here, of no caller or with arguments that can't be read is refused, by the first of these that
-/// holds; NULL and all of MOUNT are answered; any other call asks for a turn. The error is want of memory.
+/// holds; NULL and all of MOUNT are answered; any other call asks for a turn. The error is: out of memory.
 pub fn read_message(alloc: Global, view: &View, message: &[u8]) -> Result<Reading, Memory>
     ensures { IfOk result (IsReading view.now message.now) }
 {
@@ -49,7 +49,7 @@ pub fn read_message(alloc: Global, view: &View, message: &[u8]) -> Result<Readin
     }
 }
 
-/// What a call of this version of RPC comes to. The error is want of memory.
+/// What a call of this version of RPC comes to. The error is: out of memory.
 fn read_good(alloc: Global, view: &View, call: &Call<'_>) -> Result<Reading, Memory>
     ensures { (message : List ℕ) → IsGoodCall message call.now → IfOk result (IsReading view.now message) }
 {
@@ -89,7 +89,7 @@ fn procedures_of(program: u32) -> Option<u32>
     }
 }
 
-/// What an admitted call comes to. The error is want of memory.
+/// What an admitted call comes to. The error is: out of memory.
 fn read_admitted(
     alloc: Global,
     view: &View,
@@ -107,7 +107,7 @@ fn read_admitted(
     }
 }
 
-/// What the call `xid`, which asks for that, comes to. The error is want of memory.
+/// What the call `xid`, which asks for that, comes to. The error is: out of memory.
 fn read_asked(alloc: Global, view: &View, xid: u32, asked: Asked) -> Result<Reading, Memory>
     ensures { IfOk result (λ reading. reading ≡ reading_by (alone_answer view.now asked.args) xid asked) }
 {
@@ -117,7 +117,7 @@ fn read_asked(alloc: Global, view: &View, xid: u32, asked: Asked) -> Result<Read
     }
 }
 
-/// The reply to the call `xid` with these arguments, where it needs no turn. The error is want of memory.
+/// The reply to the call `xid` with these arguments, where it needs no turn. The error is: out of memory.
 fn answered_alone(
     alloc: Global,
     view: &View,
@@ -132,7 +132,7 @@ fn answered_alone(
     }
 }
 
-/// The refusal of the call `xid`. The error is want of memory.
+/// The refusal of the call `xid`. The error is: out of memory.
 fn refused(alloc: Global, xid: u32, head: &ReplyHead) -> Result<Reading, Memory>
     ensures { IfOk result (λ reading. reading ≡ Reading.Alone (Some (head_bytes xid head.now))) }
 {

@@ -23,7 +23,7 @@ use std::alloc::Global;
 use view_refresh::{Refreshed, ViewRefresh};
 
 /// How far a session is that begins with that message: its refresh begins, or the message reaches no turn, and what is said
-/// of it is to be told. The error is want of memory.
+/// of it is to be told. The error is: out of memory.
 pub(crate) fn first_stage<J: Judge>(
     alloc: Global,
     judge: J,
@@ -64,7 +64,7 @@ fn told(reply: Option<Bytes>) -> Served
     }
 }
 
-/// The call, with room for its reply. The error is want of memory.
+/// The call, with room for its reply. The error is: out of memory.
 fn call_of(alloc: Global, xid: u32, asked: Asked) -> Result<Call, Memory>
     ensures xid { IfOk result (λ call. call.xid ≡ xid) }
     ensures asked { IfOk result (λ call. call.asked ≡ asked) }
@@ -78,7 +78,7 @@ fn call_of(alloc: Global, xid: u32, asked: Asked) -> Result<Call, Memory>
     }
 }
 
-/// The refresh for that standing. The error is want of memory.
+/// The refresh for that standing. The error is: out of memory.
 pub(crate) fn refresh_for<J: Judge>(
     alloc: Global,
     judge: J,
@@ -102,7 +102,8 @@ pub(crate) fn refresh_for<J: Judge>(
     }
 }
 
-/// What the refresh wants once it took what is at hand. The error is want of memory; the refresh isn't used after it.
+/// What the refresh wants once it took what is available. The error is: out of memory; the refresh isn't used after
+/// it.
 pub(crate) fn advance<J: Judge>(
     refresh: &mut ViewRefresh<J>,
     cache: &mut BlockCache,
@@ -114,7 +115,7 @@ pub(crate) fn advance<J: Judge>(
     refresh.next()
 }
 
-/// The refresh hears the answer, and a block that it brought is kept; says whether the refresh has failed. The error is want
+/// The refresh hears the answer, and a block that it brought is kept; says whether the refresh has failed. The error is: out
 /// of memory; the refresh isn't used after it.
 pub(crate) fn hear<J: Judge>(
     refresh: &mut ViewRefresh<J>,
@@ -130,7 +131,7 @@ pub(crate) fn hear<J: Judge>(
     Ok(refresh.failed())
 }
 
-/// Keeps the block that was given back, where one was, under its name. The error is want of memory.
+/// Keeps the block that was given back, where one was, under its name. The error is: out of memory.
 fn keep_back(cache: &mut BlockCache, block: Option<(Key, Bytes)>) -> Result<(), Memory>
     ensures kept { OnOk result (cache.new ≡ kept_back block cache.old) }
     ensures same { OnErr result (cache.new ≡ cache.old) }
@@ -146,7 +147,7 @@ fn keep_back(cache: &mut BlockCache, block: Option<(Key, Bytes)>) -> Result<(), 
     }
 }
 
-/// Why the refresh failed, which did, and what is noted then. None is want of memory.
+/// Why the refresh failed, which did, and what is noted then. None means out of memory.
 pub(crate) fn failure<J: Judge>(refresh: &mut ViewRefresh<J>) -> Option<(Miss, Notes)>
     ensures { IfSome result (IsFailure J.judges refresh.old) }
 {

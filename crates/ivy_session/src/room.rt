@@ -25,7 +25,7 @@ pub struct ReplyRoom {
 }
 
 impl ReplyRoom {
-    /// Takes the room. The error is want of memory.
+    /// Takes the room. The error is: out of memory.
     pub fn take(alloc: Global) -> Result<ReplyRoom, Memory> {
         Ok(ReplyRoom {
             head: room_for_head(alloc)?,

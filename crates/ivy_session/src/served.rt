@@ -51,7 +51,7 @@ impl Call {
     }
 }
 
-/// Tells that memory is wanting. It takes none.
+/// Tells that memory runs out. It takes none.
 pub(crate) fn no_memory(call: Call) -> Served
     ensures { result ≡ lacking call }
 {

@@ -3,13 +3,13 @@
 ghost use Rattle.std.specs.Prelude.{◌≡◌, ◌≢◌, ℕ, ◌+◌, ◌<◌, ◌≤◌, ◌^◌, List, [], true, false, length, nat_lt, Some, None, IfOk, IfErr, IfSome, option_map};
 ghost use Rattle.std.specs.List.{AllByRecursion};
 ghost use Rattle.agent_model.specs.Standing.{Standing as ModelStanding};
-ghost use Rattle.session_model.specs.Courses.{publishing_session};
+ghost use Rattle.session_model.specs.Executions.{publishing_session};
 ghost use Rattle.log_fetch.specs.Standings.{standing_of};
 ghost use Rattle.ivy_session.specs.States.{BeginsAs, IsSession, asked_at, awaited_at, begun, is_told, is_turning, session_awaited};
-ghost use Rattle.ivy_session.specs.Stepping.{IsAnewFor, IsHeard, IsNext, IsTurned};
+ghost use Rattle.ivy_session.specs.Stepping.{IsAgainFor, IsHeard, IsNext, IsTurned};
 ghost use Rattle.ivy_session.specs.Cutting.{IsCutAsHeard, IsCutAsTurned, IsCutAsWanted};
 ghost use Rattle.ivy_session.specs.Left.{FallsLeft, LeavesNoMore, StaysLeft, most_puts, session_left};
-ghost use Rattle.ivy_session.specs.Ending.{BeginsAnew, ConcludesAs, PutHears, TellsMiss, lacking};
+ghost use Rattle.ivy_session.specs.Ending.{BeginsAgain, ConcludesAs, PutHears, TellsMiss, lacking};
 ghost use Rattle.ivy_session.specs.InPlace.{EndsRefresh, FailureAt, PutHeard, PutWants, RefreshHeard, RefreshWants, TellsWhy, call_at, is_publishing, is_refreshing, told_at};
 ghost use Rattle.session_model.specs.Sessions.{Cache};
 ghost use Rattle.wire_model.specs.Rpc.{SystemError, reply};
@@ -98,12 +98,12 @@ impl<J: Judge> Model for Session<J> {
     ghost view = { λ s. record { judge = s.judge; replicas = s.replicas; entries = s.entries; starts = s.starts; notes = s.notes; is_cut = s.is_cut; stage = s.stage } };
 }
 
-/// How often a session begins anew at most.
+/// How often a session begins again at most.
 const MOST_STARTS: u32 = 2;
 
 impl<J: Judge> Session<J> {
     /// A session that answers this message for the agent of that standing; it asks these nodes first, and is content with
-    /// that many answers. Where there is a snapshot to load, each block that is pending has its name. The error is want of
+    /// that many answers. Where there is a snapshot to load, each block that is pending has its name. The error is: out of
     /// memory.
     pub fn begin(
         alloc: Global,
@@ -133,7 +133,7 @@ impl<J: Judge> Session<J> {
         })
     }
 
-    /// A session that publishes these posts alone, likewise. The error is want of memory.
+    /// A session that publishes these posts alone, likewise. The error is: out of memory.
     pub fn publish(
         alloc: Global,
         judge: J,
@@ -208,7 +208,7 @@ impl<J: Judge> Session<J> {
     pub fn turned(&mut self, turned: Result<Turned, TurnFault>)
         requires turning { is_turning self.old.stage ≡ true }
         requires short { IfOk turned (λ t. length t.reply ≤ longest_result) }
-        requires anew { IfErr turned IsAnewFor }
+        requires anew { IfErr turned IsAgainFor }
         ensures turned { IsTurned J.judges self.old self.new turned }
         ensures free { session_awaited self.new ≡ None }
         ensures turning { is_turning self.new.stage ≡ false }
@@ -218,13 +218,13 @@ impl<J: Judge> Session<J> {
         match turned {
             Ok(turned) => self.answer(&turned),
             Err(TurnFault::Memory) => lack(&mut self.stage),
-            Err(TurnFault::Behind(standing)) => self.begin_anew(standing),
-            Err(TurnFault::BelowTide(standing)) => self.begin_anew(standing),
+            Err(TurnFault::Behind(standing)) => self.begin_again(standing),
+            Err(TurnFault::BelowTide(standing)) => self.begin_again(standing),
         }
     }
 
-    /// Whether it may begin anew after a refused turn: it did so at most once.
-    pub fn may_begin_anew(&self) -> bool
+    /// Whether it may begin again after a refused turn: it did so at most once.
+    pub fn may_begin_again(&self) -> bool
         ensures { result ≡ nat_lt self.now.starts 2 }
     {
         self.starts < MOST_STARTS
@@ -237,8 +237,8 @@ impl<J: Judge> Session<J> {
         &self.notes
     }
 
-    /// Whether its publishing ended before all puts were made, for want of memory: the clauses `cut` of [`Session::next`],
-    /// [`Session::heard`] and [`Session::turned`] say which step ends it, and no other does.
+    /// Whether its publishing ended before all puts were made, because memory ran out: the clauses `cut` of
+    /// [`Session::next`], [`Session::heard`] and [`Session::turned`] say which step ends it, and no other does.
     pub fn is_cut(&self) -> bool
         ensures { result ≡ self.now.is_cut }
     {
@@ -277,7 +277,7 @@ impl<J: Judge> Session<J> {
         }
     }
 
-    /// Tells that the refresh failed by that miss, and notes this. Where memory is wanting that is told, and nothing is
+    /// Tells that the refresh failed by that miss, and notes this. Where memory runs out that is told, and nothing is
     /// noted.
     fn fail(&mut self, call: Call, miss: &Miss, notes: Notes) -> Served
         ensures { TellsMiss self.old self.new call miss.now notes result }
@@ -338,7 +338,7 @@ impl<J: Judge> Session<J> {
         go_to(&mut self.stage, Stage::Over(told));
     }
 
-    /// Tells why the refresh failed. None is want of memory.
+    /// Tells why the refresh failed. None means out of memory.
     fn tell(&mut self, call: Call, why: Option<(Miss, Notes)>) -> Served
         ensures { TellsWhy self.old self.new call why result }
     {
@@ -387,8 +387,8 @@ impl<J: Judge> Session<J> {
         }
     }
 
-    /// Begins anew from that standing, where it didn't so twice before.
-    fn begin_anew(&mut self, standing: Standing)
+    /// Begins again from that standing, where it didn't so twice before.
+    fn begin_again(&mut self, standing: Standing)
         requires turning { is_turning self.old.stage ≡ true }
         requires none { standing.basis ≡ None }
         ensures turned { IsTurned J.judges self.old self.new (Err (TurnFault.Behind standing)) }
@@ -404,13 +404,13 @@ impl<J: Judge> Session<J> {
         }
     }
 
-    /// The refresh with which the session begins anew from that standing. None is want of memory, or that it did so twice
-    /// before.
+    /// The refresh with which the session begins again from that standing. None means out of memory, or that it did so
+    /// twice before.
     fn refresh_anew(&mut self, standing: Standing) -> Option<ViewRefresh<J>>
         requires { standing.basis ≡ None }
-        ensures { BeginsAnew J.judges self.old self.new standing result }
+        ensures { BeginsAgain J.judges self.old self.new standing result }
     {
-        if !self.may_begin_anew() {
+        if !self.may_begin_again() {
             drop(standing);
             return None;
         }
@@ -425,7 +425,7 @@ impl<J: Judge> Session<J> {
         refresh.ok()
     }
 
-    /// Counts that it begins anew, with nothing noted.
+    /// Counts that it begins again, with nothing noted.
     fn renew(&mut self)
         requires { self.old.starts < 2 }
         ensures { self.new ≡ record self.old { starts = self.old.starts + 1; notes = [] } }
@@ -435,7 +435,7 @@ impl<J: Judge> Session<J> {
     }
 }
 
-/// What publishes these posts. The error is want of memory.
+/// What publishes these posts. The error is: out of memory.
 fn publishing_of(
     alloc: Global,
     replicas: u32,
@@ -503,7 +503,7 @@ fn end<J: Judge>(stage: &mut Stage<J>)
     go_to(stage, Stage::Over(told));
 }
 
-/// The call is to be told that memory is wanting.
+/// The call is to be told that memory runs out.
 fn lack<J: Judge>(stage: &mut Stage<J>)
     requires { call_at stage.old ≢ None }
     ensures { IfSome (call_at stage.old) (λ call. stage.new ≡ Stage.Over (lacking call)) }
@@ -512,7 +512,7 @@ fn lack<J: Judge>(stage: &mut Stage<J>)
     go_to(stage, Stage::Over(no_memory(call)));
 }
 
-/// What the refresh wants. The error is want of memory.
+/// What the refresh wants. The error is: out of memory.
 fn refresh_wants<J: Judge>(
     stage: &mut Stage<J>,
     cache: &mut BlockCache,
@@ -527,7 +527,7 @@ fn refresh_wants<J: Judge>(
     }
 }
 
-/// The refresh hears an answer; says whether it has failed. The error is want of memory.
+/// The refresh hears an answer; says whether it has failed. The error is: out of memory.
 fn refresh_heard<J: Judge>(
     stage: &mut Stage<J>,
     cache: &mut BlockCache,
@@ -544,7 +544,7 @@ fn refresh_heard<J: Judge>(
     }
 }
 
-/// Why the refresh failed, which did, and what is noted then. None is want of memory.
+/// Why the refresh failed, which did, and what is noted then. None means out of memory.
 fn failure_at<J: Judge>(stage: &mut Stage<J>) -> Option<(Miss, Notes)>
     requires { is_refreshing stage.old ≡ true }
     ensures { FailureAt J.judges stage.old stage.new result }
@@ -555,7 +555,7 @@ fn failure_at<J: Judge>(stage: &mut Stage<J>) -> Option<(Miss, Notes)>
     }
 }
 
-/// What the publishing wants. The error is want of memory.
+/// What the publishing wants. The error is: out of memory.
 fn put_wants<J: Judge>(stage: &mut Stage<J>) -> Result<Want<Acks>, Memory>
     requires { is_publishing stage.old ≡ true }
     ensures wanted { PutWants stage.old stage.new result }
@@ -567,7 +567,7 @@ fn put_wants<J: Judge>(stage: &mut Stage<J>) -> Result<Want<Acks>, Memory>
     }
 }
 
-/// What publishes hears an answer. The error is want of memory.
+/// What publishes hears an answer. The error is: out of memory.
 fn put_heard<J: Judge>(stage: &mut Stage<J>, answer: Result<Answer, Memory>) -> Result<(), Memory>
     requires publishing { is_publishing stage.old ≡ true }
     requires awaited { awaited_at stage.old ≢ None }
@@ -580,7 +580,7 @@ fn put_heard<J: Judge>(stage: &mut Stage<J>, answer: Result<Answer, Memory>) -> 
     }
 }
 
-/// What publishes hears an answer. The error is want of memory.
+/// What publishes hears an answer. The error is: out of memory.
 fn put_hears(publishing: &mut Publishing, answer: Result<Answer, Memory>) -> Result<(), Memory>
     requires { publishing_awaited publishing.old ≢ None }
     ensures heard { PutHears publishing.old publishing.new answer result }

@@ -4,7 +4,7 @@ use Rattle.std.specs.Prelude.{IsPermutation, Result, Ok, Err}
 use Rattle.std.specs.List.{AllZip, swap_remove}
 use Rattle.std.proofs.lemmas.List.{append_assoc, length-append, map-append}
 use Rattle.std.proofs.lemmas.List.Sorted.{IsPermutation-refl, IsPermutation-append_left, IsPermutation-pop_more, IsPermutation-to_front, IsPermutation-map, IsPermutation-swap_remove}
-use Rattle.job_desk.specs.Chains.{CameBack, Course, DeskKind, Stops, Went, begun, gave, stopped, took}
+use Rattle.job_desk.specs.Chains.{CameBack, Execution, DeskKind, Stops, Went, begun, gave, stopped, took}
 
 -- ---- lists
 
@@ -80,7 +80,7 @@ module _ {L D J R F : Type 0} (look : L → D) (kind : DeskKind L J R F) (seen :
   stop-seen l m (Ok _) p = gives l m None p
   stop-seen l m (Err f) p = refuses l m f p
 
-  pub went-seen : (b d : L) (c : Course J R F) → Went kind b c d → Went seen (look b) c (look d)
+  pub went-seen : (b d : L) (c : Execution J R F) → Went kind b c d → Went seen (look b) c (look d)
   went-seen b _ _ begun = begun
   went-seen b _ _ (gave j h p) = gave j (went-seen b _ _ h) (gives _ _ (Some j) p)
   went-seen b _ _ (took r h p) = took r (went-seen b _ _ h) (takes _ _ r p)

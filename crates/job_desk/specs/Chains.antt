@@ -19,14 +19,14 @@ abbrev pub kind_of : {D J R F : Type 0} → (D → Option J → D → Type 0) �
 kind_of gives refuses takes serves = record { gives = gives; refuses = refuses; takes = takes; serves = serves }
 
 -- What a desk did: the jobs that it gave, what it took back, and how it stopped, in order each.
-pub record Course (J R F : Type 0) : Type 0 where
+pub record Execution (J R F : Type 0) : Type 0 where
   pub given : List J
   pub taken : List R
   pub stops : List (Result Unit F)
 
 -- nothing yet
-abbrev pub no_course : {J R F : Type 0} → Course J R F
-no_course = record { given = []; taken = []; stops = [] }
+abbrev pub no_execution : {J R F : Type 0} → Execution J R F
+no_execution = record { given = []; taken = []; stops = [] }
 
 module _ {D J R F : Type 0} (kind : DeskKind D J R F) where
   -- the desk stops: it has no further job, or it fails
@@ -35,13 +35,13 @@ module _ {D J R F : Type 0} (kind : DeskKind D J R F) where
   Stops before (Err fault) now = kind.refuses before fault now
 
   -- The desk went from one state to another by exactly these calls.
-  pub data Went (before : D) : Course J R F → D → Type 0 where
-    begun : Went before no_course before
-    gave : {c : Course J R F} {d e : D} (j : J) → Went before c d → kind.gives d (Some j) e
+  pub data Went (before : D) : Execution J R F → D → Type 0 where
+    begun : Went before no_execution before
+    gave : {c : Execution J R F} {d e : D} (j : J) → Went before c d → kind.gives d (Some j) e
         → Went before (record c { given = c.given ++ j ∷ [] }) e
-    took : {c : Course J R F} {d e : D} (r : R) → Went before c d → kind.takes d r e
+    took : {c : Execution J R F} {d e : D} (r : R) → Went before c d → kind.takes d r e
         → Went before (record c { taken = c.taken ++ r ∷ [] }) e
-    stopped : {c : Course J R F} {d e : D} (why : Result Unit F) → Went before c d → Stops d why e
+    stopped : {c : Execution J R F} {d e : D} (why : Result Unit F) → Went before c d → Stops d why e
         → Went before (record c { stops = c.stops ++ why ∷ [] }) e
 
   -- Of the jobs that the desk gave, each came back once, with what serving it may give, but for those that are out.

@@ -6,7 +6,7 @@
 //! job that comes, by a call that it is passed, until none comes or the desk fails, and gives the desk back.
 //! - The desk went from its first state to its last by exactly these calls: it gave these jobs, it took back what was done
 //!   of them, and it stopped once, with this result (`Went` in `specs/Chains.antt`).
-//! - Each job came back once, with what serving it may give, behind a failure too (`CameBack`).
+//! - Each job came back once, with what serving it may give, after a failure too (`CameBack`).
 //! - Only the caller's thread has the desk, so a desk needs no bound for threads. A desk that lends a place says which one
 //!   it is (`place`), and the one that comes back lends the same.
 //!

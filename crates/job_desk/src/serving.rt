@@ -16,8 +16,8 @@ use std::thread;
 use std::thread::Threads;
 
 /// Serves each job that the desk gives, by this call, at most 16 at once on threads of their own, until none comes or the desk
-/// fails. The desk comes back with why it stopped. Each job that it gave came back once, with what serving it may give,
-/// behind a failure too. A job that gets no thread, or no memory for one, is served by the caller's thread.
+/// fails. The desk comes back with why it stopped. Each job that it gave came back once, with what serving it may give, after
+/// a failure too. A job that gets no thread, or no memory for one, is served by the caller's thread.
 pub fn serve_all<
     R: Threads + Wait + Sync,
     X: Drop + Send,

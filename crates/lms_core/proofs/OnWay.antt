@@ -6,7 +6,7 @@ use Rattle.std.proofs.lemmas.List.{get_or-replicate, get_or-set_same, get_or-set
 use Rattle.hash_signature_model.specs.Parameters.{chains, top}
 use Rattle.hash_signature_model.specs.declared.set.Width.{Width}
 use Rattle.hash_signature_model.specs.declared.set.Width.TheVariants.{W4, W8}
-use Rattle.hash_signature_model.specs.OneTime.{chain, step_of}
+use Rattle.hash_signature_model.specs.OneTime.{chain, chain_step}
 use Rattle.hash_signature_model.proofs.Chains.{chain_start, chain_on}
 use Rattle.lms_core.specs.declared.walks.Walks.{Walks}
 use Rattle.lms_core.specs.Fours.{AreLanes}
@@ -52,7 +52,7 @@ unfolding chain
 chain_none id leaf i from value = refl
 
 -- a chain that goes one step on
-pub chain_more : (id : List ℕ) (leaf i from n : ℕ) (value : List ℕ) → chain id leaf i from (n + 1) value ≡ step_of id leaf i (from + n) (chain id leaf i from n value)
+pub chain_more : (id : List ℕ) (leaf i from n : ℕ) (value : List ℕ) → chain id leaf i from (n + 1) value ≡ chain_step id leaf i (from + n) (chain id leaf i from n value)
 unfolding chain
 chain_more id leaf i from n value = rw add-one refl
 

@@ -4,32 +4,32 @@ use Rattle.std.specs.Prelude.{slice_set}
 use Rattle.std.proofs.lemmas.List.{length-append, append-nil, set-append_right, take_all}
 use Rattle.hash_signature_model.specs.declared.set.Set.{Set}
 use Rattle.hash_signature_model.specs.Parameters.{ots_type, lms_type, chains, levels}
-use Rattle.hash_signature_model.specs.OneTime.{word, joined}
+use Rattle.hash_signature_model.specs.OneTime.{u32_string, joined_values}
 use Rattle.hash_signature_model.specs.Signatures.{Signature, IsSignature, signature}
 use Rattle.hash_signature_model.proofs.Chains.{joined_none, joined_more}
 
--- two bytes behind a digest
+-- two bytes after a digest
 pub code_bytes : (digest : List ℕ) (high low : ℕ) → length digest ≡ 32 → slice_set (slice_set (digest ++ 0 ∷ 0 ∷ []) 32 high) 33 low ≡ digest ++ high ∷ low ∷ []
 code_bytes digest high low wide =
     rw (set-append_right digest (0 ∷ 0 ∷ []) 32 32 high wide (omega arith), set-append_right digest (high ∷ 0 ∷ []) 32 33 low wide (omega arith)) refl
 
 -- what holds of the bytes before the values, and of the bytes with one value more
-pub before_values : (P : List ℕ → Type 0) (front : List ℕ) (f : ℕ → List ℕ) → P front → P (front ++ joined f 0)
+pub before_values : (P : List ℕ → Type 0) (front : List ℕ) (f : ℕ → List ℕ) → P front → P (front ++ joined_values f 0)
 before_values P front f h = subst P (sym (ap (λ (xs : List ℕ). front ++ xs) (joined_none f) ∙ append-nil front)) h
 
-pub one_value_more : (P : List ℕ → Type 0) (front : List ℕ) (f : ℕ → List ℕ) (n : ℕ) (value : List ℕ) → value ≡ f n → P (front ++ joined f n ++ value) → P (front ++ joined f (n + 1))
+pub one_value_more : (P : List ℕ → Type 0) (front : List ℕ) (f : ℕ → List ℕ) (n : ℕ) (value : List ℕ) → value ≡ f n → P (front ++ joined_values f n ++ value) → P (front ++ joined_values f (n + 1))
 one_value_more P front f n value same h =
-    subst P (append_assoc front (joined f n) value ∙ ap (λ (xs : List ℕ). front ++ xs) (ap (λ (v : List ℕ). joined f n ++ v) same ∙ sym (joined_more f n))) h
+    subst P (append_assoc front (joined_values f n) value ∙ ap (λ (xs : List ℕ). front ++ xs) (ap (λ (v : List ℕ). joined_values f n ++ v) same ∙ sym (joined_more f n))) h
 
--- bytes behind which one value more is put
-pub pushed : (front out new value : List ℕ) (f : ℕ → List ℕ) (n : ℕ) → new ≡ out ++ value → value ≡ f n → out ≡ front ++ joined f n → new ≡ front ++ joined f (n + 1)
+-- bytes after which one value more is put
+pub pushed : (front out new value : List ℕ) (f : ℕ → List ℕ) (n : ℕ) → new ≡ out ++ value → value ≡ f n → out ≡ front ++ joined_values f n → new ≡ front ++ joined_values f (n + 1)
 pushed front out new value f n more same was =
-    more ∙ (ap (λ (xs : List ℕ). xs ++ value) was ∙ one_value_more (λ xs. front ++ joined f n ++ value ≡ xs) front f n value same refl)
+    more ∙ (ap (λ (xs : List ℕ). xs ++ value) was ∙ one_value_more (λ xs. front ++ joined_values f n ++ value ≡ xs) front f n value same refl)
 
-pub nothing_pushed : (front : List ℕ) (f : ℕ → List ℕ) → front ≡ front ++ joined f 0
+pub nothing_pushed : (front : List ℕ) (f : ℕ → List ℕ) → front ≡ front ++ joined_values f 0
 nothing_pushed front f = before_values (λ xs. front ≡ xs) front f refl
 
--- four parts that are put one behind the other fill all of the bytes
+-- four parts that are put one after the other fill all of the bytes
 pub four_puts : (o0 o1 o2 o3 o4 a b c d : List ℕ) → length a ≡ 4 → length b ≡ 4 → length c ≡ 16 → length d ≡ 32 → length o4 ≡ 56
     → take (0 + length a) o1 ≡ take 0 o0 ++ a → take (4 + length b) o2 ≡ take 4 o1 ++ b → take (8 + length c) o3 ≡ take 8 o2 ++ c → take (24 + length d) o4 ≡ take 24 o3 ++ d → o4 ≡ a ++ b ++ c ++ d
 four_puts o0 o1 o2 o3 o4 a b c d la lb lc ld lo p1 p2 p3 p4 =
@@ -39,7 +39,7 @@ four_puts o0 o1 o2 o3 o4 a b c d la lb lc ld lo p1 p2 p3 p4 =
     let q4 : take 56 o4 ≡ take 24 o3 ++ d = rw ld at p4 in
     sym (take_all 56 o4 (omega arith)) ∙ (q4 ∙ rw (q3, q2, q1) refl)
 
--- six parts that are appended one behind the other
+-- six parts that are appended one after the other
 pub six_appends : (o0 o1 o2 o3 o4 o5 o6 a b c d e f : List ℕ) → o0 ≡ [] → o1 ≡ o0 ++ a → o2 ≡ o1 ++ b → o3 ≡ o2 ++ c → o4 ≡ o3 ++ d → o5 ≡ o4 ++ e → o6 ≡ o5 ++ f → o6 ≡ a ++ b ++ c ++ d ++ e ++ f
 six_appends o0 o1 o2 o3 o4 o5 o6 a b c d e f e0 e1 e2 e3 e4 e5 e6 =
     let q1 : o1 ≡ a = rw e0 at e1 in
@@ -55,9 +55,9 @@ four_parts_are a a' b b' c c' d d' ea eb ec ed = rw (ea, eb, ec, ed) refl
 -- how many bytes a signature has
 pub length_signature : (set : Set) (s : Signature) → IsSignature set s → length (signature set s) ≡ 12 + 32 * (1 + chains set.w + levels set.h)
 length_signature set s fits =
-    let a = word s.leaf in
-    let b = word (ots_type set.w) in
-    let e = word (lms_type set.h) in
+    let a = u32_string s.leaf in
+    let b = u32_string (ots_type set.w) in
+    let e = u32_string (lms_type set.h) in
     let la : length a ≡ 4 = refl in
     let lb : length b ≡ 4 = refl in
     let le : length e ≡ 4 = refl in

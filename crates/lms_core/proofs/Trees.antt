@@ -4,8 +4,8 @@ use Rattle.std.proofs.lemmas.Bool.{cases_lt}
 use Rattle.std.proofs.lemmas.List.{get_or-set_same, get_or-set_other, get_or-append-add, get_or_append_left, length-take-le}
 use Rattle.hash_signature_model.specs.declared.keys.PrivateKey.{PrivateKey}
 use Rattle.hash_signature_model.specs.Parameters.{levels, leaves, chains, ots_type, lms_type}
-use Rattle.hash_signature_model.specs.OneTime.{word, joined, signed_value, randomizer_of, digest_of, checked}
-use Rattle.hash_signature_model.specs.Nodes.{Stands, inner_node, node, above, beside}
+use Rattle.hash_signature_model.specs.OneTime.{u32_string, joined_values, signed_value, randomizer_of, digest_of, checked}
+use Rattle.hash_signature_model.specs.Nodes.{Stands, inner_node, node, above, sibling_of}
 use Rattle.hash_signature_model.specs.Signatures.{path_of, code_of, signature, signature_of}
 use Rattle.hash_signature_model.proofs.Chains.{joined_same}
 use Rattle.hash_signature_model.proofs.Paths.{leaves_power, above_stands, leaf_stands, beside_stands}
@@ -73,25 +73,25 @@ at_part xs out rest count k room lt =
     (rw len at there) ∙ get_or_append_left out rest [] k lt
 
 -- the array's path is the tree's
-pub path_is : (g : PrivateKey) (nodes : List (List ℕ)) (leaf : ℕ) → AreNodes g nodes → leaf < leaves g.set.h → joined (path_in nodes g.set.h leaf) (levels g.set.h) ≡ path_of g leaf
-path_is g nodes leaf all lt = joined_same (path_in nodes g.set.h leaf) (λ n. node g.set g.id g.seed n (beside (above (leaves g.set.h + leaf) n))) (levels g.set.h)
+pub path_is : (g : PrivateKey) (nodes : List (List ℕ)) (leaf : ℕ) → AreNodes g nodes → leaf < leaves g.set.h → joined_values (path_in nodes g.set.h leaf) (levels g.set.h) ≡ path_of g leaf
+path_is g nodes leaf all lt = joined_same (path_in nodes g.set.h leaf) (λ n. node g.set g.id g.seed n (sibling_of (above (leaves g.set.h + leaf) n))) (levels g.set.h)
     (λ n below.
     let k = levels g.set.h - n - 1 in
     let e : n + suc k ≡ levels g.set.h = omega arith in
     let start = leaf_stands g.set.h leaf lt in
     let stands = above_stands (leaves g.set.h + leaf) n (suc k) (subst (λ (i : ℕ). Stands (leaves g.set.h + leaf) i) (sym e) start) in
-    all.known n (suc k) (beside (above (leaves g.set.h + leaf) n)) e (beside_stands (above (leaves g.set.h + leaf) n) k stands))
+    all.known n (suc k) (sibling_of (above (leaves g.set.h + leaf) n)) e (beside_stands (above (leaves g.set.h + leaf) n) k stands))
 
 -- the bytes that are put together are the tree's signature
 pub signature_is : (g : PrivateKey) (nodes : List (List ℕ)) (leaf : ℕ) (message randomizer digest code : List ℕ) → AreNodes g nodes → leaf < leaves g.set.h
     → randomizer ≡ randomizer_of g.id g.seed leaf → digest ≡ digest_of g.id leaf randomizer message → code ≡ checked g.set.w digest
-    → signature g.set (record { leaf = leaf; randomizer = randomizer; values = joined (signed_value g.set.w g.id g.seed leaf code) (chains g.set.w); path = joined (path_in nodes g.set.h leaf) (levels g.set.h) }) ≡ signature g.set (signature_of g leaf message)
+    → signature g.set (record { leaf = leaf; randomizer = randomizer; values = joined_values (signed_value g.set.w g.id g.seed leaf code) (chains g.set.w); path = joined_values (path_in nodes g.set.h leaf) (levels g.set.h) }) ≡ signature g.set (signature_of g leaf message)
 signature_is g nodes leaf message randomizer digest code all lt random hashed checks =
     let coded : code ≡ code_of g leaf message = checks ∙ ap (checked g.set.w) (hashed ∙ ap (λ (r : List ℕ). digest_of g.id leaf r message) random) in
-    six_parts_are (word leaf) (word leaf) (word (ots_type g.set.w)) (word (ots_type g.set.w)) randomizer (randomizer_of g.id g.seed leaf)
-    (joined (signed_value g.set.w g.id g.seed leaf code) (chains g.set.w)) (joined (signed_value g.set.w g.id g.seed leaf (code_of g leaf message)) (chains g.set.w))
-    (word (lms_type g.set.h)) (word (lms_type g.set.h)) (joined (path_in nodes g.set.h leaf) (levels g.set.h)) (path_of g leaf)
-    refl refl random (ap (λ (x : List ℕ). joined (signed_value g.set.w g.id g.seed leaf x) (chains g.set.w)) coded) refl (path_is g nodes leaf all lt)
+    six_parts_are (u32_string leaf) (u32_string leaf) (u32_string (ots_type g.set.w)) (u32_string (ots_type g.set.w)) randomizer (randomizer_of g.id g.seed leaf)
+    (joined_values (signed_value g.set.w g.id g.seed leaf code) (chains g.set.w)) (joined_values (signed_value g.set.w g.id g.seed leaf (code_of g leaf message)) (chains g.set.w))
+    (u32_string (lms_type g.set.h)) (u32_string (lms_type g.set.h)) (joined_values (path_in nodes g.set.h leaf) (levels g.set.h)) (path_of g leaf)
+    refl refl random (ap (λ (x : List ℕ). joined_values (signed_value g.set.w g.id g.seed leaf x) (chains g.set.w)) coded) refl (path_is g nodes leaf all lt)
 
 -- the leaves' nodes in an array that is put together of its upper half and two halves of the leaves' nodes
 pub halves_are : (key : PrivateKey) (front left right : List (List ℕ)) (count : ℕ) → length front ≡ count → 2 * length left ≡ count → 2 * length right ≡ count → count ≡ leaves key.set.h

@@ -4,7 +4,7 @@ use Rattle.hash_signature_model.specs.declared.set.Height.{Height}
 use Rattle.hash_signature_model.specs.declared.keys.PrivateKey.{PrivateKey}
 use Rattle.hash_signature_model.specs.Parameters.{levels, leaves}
 use Rattle.hash_signature_model.specs.OneTime.{one_time_key}
-use Rattle.hash_signature_model.specs.Nodes.{Stands, leaf_node, inner_node, node, above, beside}
+use Rattle.hash_signature_model.specs.Nodes.{Stands, leaf_node, inner_node, node, above, sibling_of}
 
 -- what stands at an index
 abbrev pub at : List (List ℕ) → ℕ → List ℕ
@@ -37,4 +37,4 @@ pub record AreNodes (key : PrivateKey) (nodes : List (List ℕ)) : Type 0 where
 
 -- what the array holds beside the nodes on the way up from a leaf
 abbrev pub path_in : List (List ℕ) → Height → ℕ → ℕ → List ℕ
-path_in nodes h leaf n = at nodes (beside (above (leaves h + leaf) n))
+path_in nodes h leaf n = at nodes (sibling_of (above (leaves h + leaf) n))

@@ -4,7 +4,7 @@ use Rattle.hash_signature_model.specs.OneTime.{chain}
 use Rattle.lms_core.specs.declared.walks.Walks.{Walks}
 use Rattle.lms_core.specs.Kept.{at}
 
--- no chain stands behind its end, which is a byte
+-- no chain stands after its end, which is a byte
 abbrev pub MayGo : Walks → Type 0
 MayGo walks = (i : ℕ) → i < 68 → (slice_index walks.from i ≤ slice_index walks.to i) × (slice_index walks.to i ≤ 255)
 

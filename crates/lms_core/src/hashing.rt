@@ -1,8 +1,8 @@
-//! The hashes of RFC 8554, each of a few pieces one behind the other.
+//! The hashes of RFC 8554, each of a few pieces one after the other.
 
 ghost use Rattle.std.specs.Prelude.{◌≡◌, ℕ, List, [], ◌∷◌, ◌++◌, ◌*◌, ◌+◌, ◌^◌, ◌<◌, ◌≤◌, length};
 ghost use Rattle.sha2.specs.Hashers.{Holds256};
-ghost use Rattle.hash_signature_model.specs.OneTime.{word, half, step_of, derived, randomizer_of, lower_seed_of, lower_id_of, digest_of, value_at};
+ghost use Rattle.hash_signature_model.specs.OneTime.{u32_string, half, chain_step, derived, randomizer_of, lower_seed_of, lower_id_of, digest_of, value_at};
 ghost use Rattle.hash_signature_model.specs.Nodes.{leaf_node, inner_node, joined_above};
 ghost use Rattle.lms_core.specs.Fours.{AreHeads};
 ghost use Rattle.lms_core.specs.Kept.{at};
@@ -24,7 +24,7 @@ const D_INTR: [u8; 2] = [0x83, 0x83];
 
 /// A hasher of the identifier and a number, with which each hash begins.
 fn begin(id: &[u8; 16], number: u32) -> Sha256
-    ensures { Holds256 result (id.now ++ word number) }
+    ensures { Holds256 result (id.now ++ u32_string number) }
 {
     let mut hasher = Sha256::new();
     hasher.update(&id[..]);
@@ -34,7 +34,7 @@ fn begin(id: &[u8; 16], number: u32) -> Sha256
 
 /// A hasher of what the hash of a one-time public key begins with (RFC 8554, section 4.3).
 pub fn begin_key(id: &[u8; 16], leaf: u32) -> Sha256
-    ensures { Holds256 result (id.now ++ word leaf ++ 0x80 ∷ 0x80 ∷ []) }
+    ensures { Holds256 result (id.now ++ u32_string leaf ++ 0x80 ∷ 0x80 ∷ []) }
 {
     let mut hasher = begin(id, leaf);
     hasher.update(&D_PBLC);
@@ -43,7 +43,7 @@ pub fn begin_key(id: &[u8; 16], leaf: u32) -> Sha256
 
 /// The identifier and a number, with which each hash begins.
 pub fn head_of(id: &[u8; 16], number: u32) -> [u8; 20]
-    ensures { result ≡ id.now ++ word number }
+    ensures { result ≡ id.now ++ u32_string number }
 {
     let mut head = [0u8; 20];
     head[..16].copy_from_slice(&id[..]);
@@ -66,7 +66,7 @@ pub fn heads_of(id: &[u8; 16], first: u32) -> Heads
 
 /// Step j of chain i (RFC 8554, sections 4.3, 4.5 and 4.6).
 pub fn step(id: &[u8; 16], leaf: u32, i: u16, j: u8, value: &[u8; 32]) -> [u8; 32]
-    ensures { result ≡ step_of id.now leaf i j value.now }
+    ensures { result ≡ chain_step id.now leaf i j value.now }
 {
     let mut hasher = begin(id, leaf);
     hasher.update(&i.to_be_bytes());
@@ -77,7 +77,7 @@ pub fn step(id: &[u8; 16], leaf: u32, i: u16, j: u8, value: &[u8; 32]) -> [u8; 3
 
 /// Step j of the chains i of four leaves (RFC 8554, section 4.3).
 pub fn step_four(heads: &Heads, i: u16, j: u8, values: &Values) -> Values
-    ensures { (id : List ℕ) (first k : ℕ) → AreHeads id first heads.now → k < 4 → at result k ≡ step_of id (first + k) i j (at values.now k) }
+    ensures { (id : List ℕ) (first k : ℕ) → AreHeads id first heads.now → k < 4 → at result k ≡ chain_step id (first + k) i j (at values.now k) }
 {
     let [high, low] = i.to_be_bytes();
     hash_four(heads, [high, low, j], values)
@@ -179,7 +179,7 @@ pub fn hash_above(id: &[u8; 16], r: u32, mine: &[u8; 32], other: &[u8; 32]) -> [
     }
 }
 
-/// Value i of values of 32 bytes one behind the other.
+/// Value i of values of 32 bytes one after the other.
 pub fn value(values: &[u8], i: usize) -> [u8; 32]
     requires { 32 * i + 32 ≤ length values.now }
     ensures { result ≡ value_at values.now i }

@@ -1,7 +1,7 @@
 //! Hashes of four chains of one leaf.
 
 ghost use Rattle.std.specs.Prelude.{◌≡◌, ℕ, ◌+◌, ◌^◌, ◌<◌, ◌≤◌, slice_index};
-ghost use Rattle.hash_signature_model.specs.OneTime.{step_of, derived};
+ghost use Rattle.hash_signature_model.specs.OneTime.{chain_step, derived};
 ghost use Rattle.lms_core.specs.Fours.{AreHeadsOf};
 ghost use Rattle.lms_core.specs.Kept.{at};
 
@@ -33,7 +33,7 @@ impl Leaf {
 
     /// A step of each of four chains (RFC 8554, sections 4.5 and 4.6).
     pub fn step_each(&self, chains: &[u16; 4], steps: &[u8; 4], values: &Values) -> Values
-        ensures { (k : ℕ) → k < 4 → at result k ≡ step_of self.now.id self.now.number (slice_index chains.now k) (slice_index steps.now k) (at values.now k) }
+        ensures { (k : ℕ) → k < 4 → at result k ≡ chain_step self.now.id self.now.number (slice_index chains.now k) (slice_index steps.now k) (at values.now k) }
     {
         let middles = [
             middle(chains[0], steps[0]),

@@ -2,7 +2,7 @@
 
 ghost use Rattle.std.specs.Prelude.{◌≡◌, ℕ, List, ◌+◌, ◌*◌, ◌<◌, ◌≤◌, length};
 ghost use Rattle.hash_signature_model.specs.Parameters.{chains, leaves};
-ghost use Rattle.hash_signature_model.specs.OneTime.{end_of, one_time_key, candidate_key};
+ghost use Rattle.hash_signature_model.specs.OneTime.{chain_end, one_time_key, candidate_key};
 ghost use Rattle.lms_core.specs.Fours.{AreHeads};
 ghost use Rattle.lms_core.specs.Kept.{at};
 
@@ -16,7 +16,7 @@ use sha256_lanes::{Heads, Values};
 
 /// The ends of the chains i of four leaves (RFC 8554, section 4.3).
 fn end_four(w: Width, heads: &Heads, seeds: &Values, i: u16) -> [[u8; 32]; 4]
-    ensures { (id : List ℕ) (first k : ℕ) → AreHeads id first heads.now → k < 4 → at result k ≡ end_of w id (at seeds.now k) (first + k) i }
+    ensures { (id : List ℕ) (first k : ℕ) → AreHeads id first heads.now → k < 4 → at result k ≡ chain_end w id (at seeds.now k) (first + k) i }
 {
     let start = derive_four(heads, seeds, i);
     walk_four(heads, i, w.step_count(), start).to_bytes()

@@ -3,7 +3,7 @@
 
 ghost use Rattle.std.specs.Prelude.{◌≡◌, ◌<◌, ◌*◌, length, IfOk};
 ghost use Rattle.hash_signature_model.specs.Parameters.{chains, levels, leaves};
-ghost use Rattle.hash_signature_model.specs.Reading.{part_at, number_at, width_of, height_of, width_at, height_at, key_at, whole_key, leaf_at, same_width_at, same_height_at, signature_at, whole_signature};
+ghost use Rattle.hash_signature_model.specs.Reading.{part_at, read_word as number_at, width_of, height_of, width_at, height_at, key_at, whole_key, leaf_at, same_width_at, same_height_at, signature_at, whole_signature};
 ghost use Rattle.lms_core.specs.Readers.{Gives, fields_of};
 
 use hash_signature_model::{Height, LmsFault, PublicKey, Set, Width};
@@ -34,7 +34,7 @@ fn part(bytes: &[u8], n: usize) -> Result<(&[u8], &[u8]), LmsFault>
 }
 
 /// A number of four bytes.
-#[tactic(auto, unfolding(hash_signature_model::specs::Reading::number_at))]
+#[tactic(auto, unfolding(hash_signature_model::specs::Reading::read_word))]
 fn number(bytes: &[u8]) -> Result<(u32, &[u8]), LmsFault>
     ensures { Gives (λ x. (x.0, x.1.now)) result (number_at bytes.now) }
 {

@@ -2,8 +2,8 @@
 
 ghost use Rattle.std.specs.Prelude.{◌≡◌, ◌<◌, ◌+◌, ◌++◌, ◌*◌, length, IfOk, OnOk, ℕ};
 ghost use Rattle.hash_signature_model.specs.Parameters.{leaves, levels, chains};
-ghost use Rattle.hash_signature_model.specs.OneTime.{joined, signed_value};
-ghost use Rattle.hash_signature_model.specs.Nodes.{beside};
+ghost use Rattle.hash_signature_model.specs.OneTime.{joined_values, signed_value};
+ghost use Rattle.hash_signature_model.specs.Nodes.{sibling_of};
 ghost use Rattle.hash_signature_model.specs.Signatures.{Signature, IsSignature, signature};
 ghost use Rattle.lms_core.specs.Kept.{path_in};
 
@@ -28,7 +28,7 @@ fn push_values(
     leaf: u32,
     code: &[u8; 34],
 ) -> Result<(), Memory>
-    ensures { OnOk result (out.new.items ≡ out.old.items ++ joined (signed_value key.now.set.w key.now.id key.now.seed leaf code.now) (chains key.now.set.w)) }
+    ensures { OnOk result (out.new.items ≡ out.old.items ++ joined_values (signed_value key.now.set.w key.now.id key.now.seed leaf code.now) (chains key.now.set.w)) }
 {
     let w = key.set.w;
     let leaf = Leaf::of(&key.id, leaf);
@@ -47,7 +47,7 @@ fn push_values(
 /// The number of the node beside a node.
 fn number_beside(r: u32) -> u32
     requires { r < 4096 }
-    ensures value { result ≡ beside r }
+    ensures value { result ≡ sibling_of r }
     ensures inside { (n : ℕ) → r < 2 * n → result < 2 * n }
 {
     if r % 2 == 1 { r - 1 } else { r + 1 }
@@ -57,7 +57,7 @@ fn number_beside(r: u32) -> u32
 fn push_path(out: &mut Vec<u8>, h: Height, leaf: u32, nodes: &[[u8; 32]]) -> Result<(), Memory>
     requires in_tree { leaf < leaves h }
     requires size { length nodes.now ≡ 2 * leaves h }
-    ensures { OnOk result (out.new.items ≡ out.old.items ++ joined (path_in nodes.now h leaf) (levels h)) }
+    ensures { OnOk result (out.new.items ≡ out.old.items ++ joined_values (path_in nodes.now h leaf) (levels h)) }
 {
     let mut r = h.leaf_count() + leaf;
     'levels: for _n in 0..h.level_count() {
@@ -86,7 +86,7 @@ pub fn spell(
 ) -> Result<Vec<u8>, Memory>
     requires in_tree { leaf < leaves key.now.set.h }
     requires size { length nodes.now ≡ 2 * leaves key.now.set.h }
-    ensures { IfOk result (λ v. v.items ≡ signature key.now.set (record { leaf = leaf; randomizer = randomizer.now; values = joined (signed_value key.now.set.w key.now.id key.now.seed leaf code.now) (chains key.now.set.w); path = joined (path_in nodes.now key.now.set.h leaf) (levels key.now.set.h) })) }
+    ensures { IfOk result (λ v. v.items ≡ signature key.now.set (record { leaf = leaf; randomizer = randomizer.now; values = joined_values (signed_value key.now.set.w key.now.id key.now.seed leaf code.now) (chains key.now.set.w); path = joined_values (path_in nodes.now key.now.set.h leaf) (levels key.now.set.h) })) }
 {
     let mut out = Vec::with_capacity(alloc, signature_size(key.set))?;
     append(&mut out, &leaf.to_be_bytes())?;

@@ -31,8 +31,8 @@ next_at k p items tested d same also is_view less = record {
 
 -- ---- where it stands
 
--- a block of the log under way is wanted
-pub record UnderWay (s : agent.Standing) (start : Vector) (owners : List PubKey) (now : List Brought) (t : Trying) : Type 0 where
+-- a block of the log in progress is wanted
+pub record InProgress (s : agent.Standing) (start : Vector) (owners : List PubKey) (now : List Brought) (t : Trying) : Type 0 where
   pub owner : PubKey
   pub rest : List PubKey
   pub came : List Brought
@@ -45,8 +45,8 @@ pub record UnderWay (s : agent.Standing) (start : Vector) (owners : List PubKey)
   pub of_owner : t.walk.owner ≡ owner
   pub tried : HasTried s.view owner start s.floor (edge_in s.edges (head_key_of owner)) all walked t
 
-pub under_way : (s : agent.Standing) (start : Vector) (owners : List PubKey) (now : List Brought) (t : Trying) → StandsSo s start owners now (stage.Log t) → UnderWay s start owners now t
-under_way s start owners now t (wants_block owner rest came walked all t2 heads_came left of_owner tried) = record {
+pub in_progress : (s : agent.Standing) (start : Vector) (owners : List PubKey) (now : List Brought) (t : Trying) → StandsSo s start owners now (stage.Log t) → InProgress s start owners now t
+in_progress s start owners now t (wants_block owner rest came walked all t2 heads_came left of_owner tried) = record {
   owner = owner;
   rest = rest;
   came = came;
@@ -137,7 +137,7 @@ ends_here k p count count_is is_view passing = through_gathering k (record p { a
 -- ---- a member's log is begun with
 
 module _ (k : Known) (old new : Passed) (owner : PubKey) (next : IsNext k old owner) where
-  -- the next member is behind it, where it is through
+  -- the next member is after it, where it is through
   pub at_next : {heads : List Stamp} → BeginsLog k old new owner heads None → new.at ≡ old.at + 1
   at_next b = ap (λ (p : Passed). p.at) b.2.4
 

@@ -81,7 +81,7 @@ module _ (trial : Trial) where
   tries_are_few (is_garbled {t = t} {ts = ts} {brought = brought} {more = more} {others = others} {end = end} walk rest) =
       let less = walk_is_short walk in passed_over t ts brought more Bad others end (omega (arith, less)) (tries_are_few rest)
 
--- ---- the floor's own record behind the heads
+-- ---- the floor's own record after the heads
 
 take_both : (held n : ℕ) (heads own : List Stamp) → above_held held (take n (heads ++ own)) ≤ above_held held (take n heads) + above_held held own
 take_both held zero heads own = omega arith

@@ -1,5 +1,5 @@
--- What a driver of the heads of one log keeps: behind what it was brought so far, how far the heads have come. So it is at the start; `give` and `conclude` keep it; and
--- by it the log wants a block, or stops where that can't be had.
+-- What a driver of the heads of one log keeps: after what it was brought so far, how far the heads have come. So it is at the start; `give`
+-- and `conclude` keep it; and by it the log wants a block, or stops where that can't be had.
 use Rattle.std.proofs.Common.{◌≡◌, ℕ, zero, suc, ◌-◌, List, [], ◌∷◌, ◌++◌, Option, Some, None, Err, refl, sym, ap, ◌∙◌, subst}
 use Rattle.std.proofs.lemmas.List.{append-nil, append_assoc}
 use Rattle.ivy_base.specs.declared.key.Key.{Key}

@@ -20,7 +20,7 @@ use Rattle.dhash_model.specs.declared.miss.Miss.{Miss}
 use Rattle.dhash_client.specs.GetBlock.{block_begun}
 use Rattle.dhash_client.specs.GetHead.{Judges, head_begun}
 use Rattle.agent_model.specs.Standing as agent
-use Rattle.session_model.specs.Brought.{Brought, HeadsOf, BlockOf, Part, Want, Heads, Content, brought_in}
+use Rattle.session_model.specs.Brought.{Brought, HeadsOf, BlockOf, Part, WantedOfRing, Heads, Content, brought_in}
 use Rattle.session_model.specs.Refreshing as session
 use Rattle.session_model.specs.Refreshing.{RefreshEnd, Needs, FailsBy, Done, Fetches, FetchesAll}
 use Rattle.session_model.specs.Refreshing.Fetches.{wants_heads, no_heads, of_heads, of_own as own_log}
@@ -40,7 +40,7 @@ use Rattle.log_fetch.specs.declared.get.Get.TheVariants as get
 use Rattle.log_fetch.specs.declared.get.Progress.{Progress}
 use Rattle.log_fetch.specs.declared.get.Progress.TheVariants as progress
 use Rattle.log_fetch.specs.declared.get.Waiting.{Waiting}
-use Rattle.log_fetch.specs.Fetching.{Fetching, FetchIsAfter, FetchIsWanted, FetchHasHeard, FetchWasGiven, GetIsOver, HasFailed, FetchStands, AreParts, HasBegun, HasFewGets, IsNeeded, IsSeen, IsSound, IsFor, IsGiven, Ends, EndsAs, aim, aim_in, begins_in, counted, failed_in, left_in, most_asks, under_way, with_next}
+use Rattle.log_fetch.specs.Fetching.{Fetching, FetchIsAfter, FetchIsWanted, FetchHasHeard, FetchWasGiven, GetIsOver, HasFailed, FetchStands, AreParts, HasBegun, HasFewGets, IsNeeded, IsSeen, IsSound, IsFor, IsGiven, Ends, EndsAs, aim, aim_in, begins_in, counted, failed_in, left_in, most_asks, in_progress, with_next}
 use Rattle.log_fetch.specs.Fetching.AreParts.{no_parts, was_got, was_given}
 use Rattle.log_fetch.specs.Counting.{came_of_get, gets_of, to_come}
 use Rattle.log_fetch.specs.Gathering.{Gathering, Gathers, BlockGathered, heads_wanted, block_wanted, gets_in, is_wanting, seen}
@@ -104,13 +104,13 @@ brought_more parts p = map-append (λ (x : Part). x.brought) parts (p ∷ [])
 gets_more : (parts : List Part) (p : Part) → gets_of (parts ++ p ∷ []) ≡ gets_of parts + cond (came_of_get p.brought p.asks) 1 0
 gets_more parts p = sum_by_push (λ (x : Part). cond (came_of_get x.brought x.asks) 1 0) parts p
 
--- what came of a get that was under way
+-- what came of a get that was in progress
 counts_part : (gets : ℕ) (parts : List Part) (p : Part) → gets ≡ counted (gets_of parts + 1) → came_of_get p.brought p.asks ≡ true → gets ≡ counted (gets_of (parts ++ p ∷ []) + 0)
 counts_part gets parts p h got =
     let more : gets_of (parts ++ p ∷ []) ≡ gets_of parts + 1 = gets_more parts p ∙ ap (λ (b : Bool). gets_of parts + cond b 1 0) got in
     h ∙ ap (λ (n : ℕ). counted n) (omega (arith, more))
 
--- a block that was at hand
+-- a block that was available
 given_is_none : (gets : ℕ) (parts : List Part) (p : Part) → gets ≡ counted (gets_of parts + 0) → came_of_get p.brought p.asks ≡ false → gets ≡ counted (gets_of (parts ++ p ∷ []) + 0)
 given_is_none gets parts p h none =
     let same : gets_of (parts ++ p ∷ []) ≡ gets_of parts + 0 = gets_more parts p ∙ ap (λ (b : Bool). gets_of parts + cond b 1 0) none in
@@ -169,7 +169,7 @@ module _ {J : Type 0} (judges : Judges J) (judge : J) (replicas : ℕ) (entries 
 
     pub is_needed : (x : Get J) → IsFor judge replicas g.stage x → IsNeeded (judges judge) replicas entries s start parts (aim x)
     is_needed (get.Heads owner t) fits = (h.passed.noted ++ [], map agent.chain_of g.passed.batch.chains ++ [], fetches_as s start g.known is (heads_needed start (brought_in parts) g h owner fits.0))
-    is_needed (get.Block t) fits = key_needed t.course.look.key fits.0
+    is_needed (get.Block t) fits = key_needed t.execution.look.key fits.0
 
   pub for_same : (at : Stage) (x y : Get J) → IsSameGet x y → IsFor judge replicas at x → IsFor judge replicas at y
   for_same at (get.Heads owner t) (get.Heads other u) same fits = (fits.0 ∙ ap (λ (o : PubKey). Some o) (sym same.0), same.1.1 ∙ fits.1, same.1.0.1 ∙ fits.2)
@@ -236,14 +236,14 @@ module _ {J : Type 0} (judges : Judges J) (judge : J) (replicas : ℕ) (entries 
   comes g (get.Heads owner t) (came.Heads heads) asks fits h = record {
     what = HeadsOf owner heads;
     came_as = (owner, fits.0, refl);
-    gets = subst (λ (n : ℕ). Gets (judges judge) n entries (Heads owner) asks (HeadsOf owner heads)) fits.2 (subst (λ (j : J). Gets (judges j) t.course.replicas entries (Heads owner) asks (HeadsOf owner heads)) fits.1 h);
+    gets = subst (λ (n : ℕ). Gets (judges judge) n entries (Heads owner) asks (HeadsOf owner heads)) fits.2 (subst (λ (j : J). Gets (judges j) t.execution.replicas entries (Heads owner) asks (HeadsOf owner heads)) fits.1 h);
   }
   comes g (get.Heads owner t) (came.Block block) asks fits h = absurd h
   comes g (get.Block t) (came.Heads heads) asks fits h = absurd h
   comes g (get.Block t) (came.Block block) asks fits h = record {
-    what = BlockOf t.course.look.key block;
-    came_as = (t.course.look.key, fits.0, refl);
-    gets = subst (λ (n : ℕ). Gets (judges judge) n entries (Content t.course.look.key) asks (BlockOf t.course.look.key block)) fits.1 (h (judges judge));
+    what = BlockOf t.execution.look.key block;
+    came_as = (t.execution.look.key, fits.0, refl);
+    gets = subst (λ (n : ℕ). Gets (judges judge) n entries (Content t.execution.look.key) asks (BlockOf t.execution.look.key block)) fits.1 (h (judges judge));
   }
 
   module _ (g : Gathering) (x : Get J) (fits : IsFor judge replicas g.stage x) (given : Came) where
@@ -317,7 +317,7 @@ module _ {J : Type 0} (judges : Judges J) (judge : J) (replicas : ℕ) (entries 
       refl,
       is_needed s start parts g h.asking.0 h.asking.1 x.get fits,
       inl (
-        ap (λ (w : Want). Some w) (aim_same x.get y.get hears.0.0),
+        ap (λ (w : WantedOfRing). Some w) (aim_same x.get y.get hears.0.0),
         λ none. cc (sym none ∙ hears.1),
         record { whole = h.whole; asking = (h.asking.0, h.asking.1, hears.0.1 entries current node question e h.asking.2); sound = (for_same g.stage x.get y.get hears.0.0 fits, hears.1); begun = h.begun },
         refl,
@@ -351,7 +351,7 @@ module _ {J : Type 0} (judges : Judges J) (judge : J) (replicas : ℕ) (entries 
   sound_over g given (state.Ended fetched) back stands = tt
   sound_over g given state.Over back stands = tt
 
-  -- ---- a block was at hand
+  -- ---- a block was available
 
   pub was_taken : (g after : Gathering) (bytes : List ℕ) (gets : ℕ) → after.known ≡ g.known → BlockGathered g bytes after → FetchWasGiven judges (At (state.Free g) gets) (At (state.Free after) gets) bytes
   was_taken g after bytes gets known gathered = (
@@ -441,7 +441,7 @@ module _ {J : Type 0} (judges : Judges J) (judge : J) (replicas : ℕ) (entries 
   -- ---- what was brought comes to some end
 
   pub stands_at : (st : State J) (gets : ℕ) (s : agent.Standing) (start : Vector) (parts : List Part) (current : List Heard) → FetchIsAfter judges s start parts current (At st gets)
-      → (notes : List session.Note) × (chains : List agent.Chain) × (end : RefreshEnd) × FetchesAll (record { standing = s; start = start }) s.view.members (brought_in parts) notes chains end × ((want : Want) → aim_in st ≡ Some want → end ≡ Needs want)
+      → (notes : List session.Note) × (chains : List agent.Chain) × (end : RefreshEnd) × FetchesAll (record { standing = s; start = start }) s.view.members (brought_in parts) notes chains end × ((want : WantedOfRing) → aim_in st ≡ Some want → end ≡ Needs want)
   stands_at (state.Free g) gets s start parts current h =
       let w = free_goes_on start (brought_in parts) g h.asking.1 in (w.notes, w.chains, w.end, fetches_as s start g.known h.asking.0 w.fetches, λ want e. cc e)
   stands_at (state.Asking g x) gets s start parts current h =

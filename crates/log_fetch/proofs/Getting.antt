@@ -17,7 +17,7 @@ use Rattle.dht_ids.specs.declared.judge.Judged.{Judged}
 use Rattle.dht_ids.specs.declared.peer.Peer.{Peer}
 use Rattle.dhash_model.specs.declared.miss.Miss.{Miss}
 use Rattle.dhash_model.specs.GetHead.{IsGetOfHead}
-use Rattle.dhash_client.specs.Course.{Asking, CourseState, next_owner, awaited_at}
+use Rattle.dhash_client.specs.Execution.{Asking, ExecutionState, next_owner, awaited_at}
 use Rattle.dhash_client.specs.GetBlock.{BlockState, BlockIsWanted, block_begun, block_awaited_at}
 use Rattle.dhash_client.specs.GetHead.{HeadState, Judges, HeadIsWanted, head_begun}
 use Rattle.dhash_client.proofs.DrivenGets.{block_begins, head_begins}
@@ -39,7 +39,7 @@ module _ {J : Type 0} (judges : Judges J) where
       let now : GetIsAfter judges entries trail (get.Heads owner s) = subst (GetIsAfter judges entries trail) old_is after in
       let over : HeadIsWanted judges s t (want.Done given) = subst (HeadIsWanted judges s t) w_is wanted in
       subst (λ (o : Get J). HasCame judges entries trail o (came.Heads given)) (sym old_is)
-      (of_heads given (subst (λ (k : Key). IsGetOfHead (judges s.judge k) k s.course.replicas entries trail given) now.1 (over entries trail now.0)))
+      (of_heads given (subst (λ (k : Key). IsGetOfHead (judges s.judge k) k s.execution.replicas entries trail given) now.1 (over entries trail now.0)))
 
   pub block_came : (old : Get J) (s t : BlockState) (w : Want (Result (List ℕ) Miss)) (given : Result (List ℕ) Miss) → old ≡ get.Block s → BlockIsWanted s t w → w ≡ want.Done given
       → (entries : List Peer) (trail : List Heard) → GetIsAfter judges entries trail old → HasCame judges entries trail old (came.Block given)
@@ -48,7 +48,7 @@ module _ {J : Type 0} (judges : Judges J) where
       let over : BlockIsWanted s t (want.Done given) = subst (BlockIsWanted s t) w_is wanted in
       subst (λ (o : Get J). HasCame judges entries trail o (came.Block given)) (sym old_is) (λ judged. of_content given (over entries trail now))
 
-  -- behind no ask it begins
+  -- after no ask it begins
   pub heads_begin : (owner : PubKey) (judge : J) (replicas : ℕ) (entries : List Peer) → GetIsAfter judges entries [] (get.Heads owner (head_begun judge (head_key_of owner) replicas entries))
   heads_begin owner judge replicas entries = (head_begins judges judge (head_key_of owner) replicas entries, refl)
 
@@ -57,7 +57,7 @@ module _ {J : Type 0} (judges : Judges J) where
 
 -- ---- what it asks
 
-of_get_at : (key : Key) (c : CourseState) (asking : Option Asking) (node : Peer) (question : Ask) → awaited_at (ask.Get key) c asking ≡ Some (node, question) → IsOfGet question
+of_get_at : (key : Key) (c : ExecutionState) (asking : Option Asking) (node : Peer) (question : Ask) → awaited_at (ask.Get key) c asking ≡ Some (node, question) → IsOfGet question
 of_get_at key c None node question e = by c.look.waiting e
   where
     by : (waiting : Option Peer) → option_map {U = Peer × Ask} (λ p. (p, ask.Route c.look.key)) waiting ≡ Some (node, question) → IsOfGet question
@@ -69,13 +69,13 @@ of_get_at key c (Some a) node question e = by (next_owner c.replicas a) e
     by None e = absurd (none_some (node, question) e)
     by (Some p) e = subst IsOfGet (ap (λ s. s.1) (some_same (p, ask.Get key) (node, question) e)) tt
 
-block_asks : (found : Option (List ℕ)) (c : CourseState) (node : Peer) (question : Ask) → block_awaited_at found c ≡ Some (node, question) → IsOfGet question
+block_asks : (found : Option (List ℕ)) (c : ExecutionState) (node : Peer) (question : Ask) → block_awaited_at found c ≡ Some (node, question) → IsOfGet question
 block_asks None c node question e = of_get_at c.look.key c c.asking node question e
 block_asks (Some bytes) c node question e = absurd (none_some (node, question) e)
 
 pub asks_of_get : {J : Type 0} (x : Get J) (node : Peer) (question : Ask) → get_awaited x ≡ Some (node, question) → IsOfGet question
-asks_of_get (get.Heads owner s) node question e = of_get_at s.course.look.key s.course s.course.asking node question e
-asks_of_get (get.Block s) node question e = block_asks s.found s.course node question e
+asks_of_get (get.Heads owner s) node question e = of_get_at s.execution.look.key s.execution s.execution.asking node question e
+asks_of_get (get.Block s) node question e = block_asks s.found s.execution node question e
 
 -- ---- from one ask to the next
 
@@ -104,15 +104,15 @@ module _ {J : Type 0} (judges : Judges J) where
 
   same_came : (entries : List Peer) (trail : List Heard) (x y : Get J) (given : Came) → IsSameGet x y → HasCame judges entries trail y given → HasCame judges entries trail x given
   same_came entries trail (get.Heads o s) (get.Heads p t) (came.Heads heads) same h =
-      subst (λ (w : PubKey). Gets (judges s.judge) s.course.replicas entries (Heads w) trail (HeadsOf w heads)) same.0
-      (subst (λ (n : ℕ). Gets (judges s.judge) n entries (Heads p) trail (HeadsOf p heads)) same.1.0.1 (subst (λ (j : J). Gets (judges j) t.course.replicas entries (Heads p) trail (HeadsOf p heads)) same.1.1 h))
+      subst (λ (w : PubKey). Gets (judges s.judge) s.execution.replicas entries (Heads w) trail (HeadsOf w heads)) same.0
+      (subst (λ (n : ℕ). Gets (judges s.judge) n entries (Heads p) trail (HeadsOf p heads)) same.1.0.1 (subst (λ (j : J). Gets (judges j) t.execution.replicas entries (Heads p) trail (HeadsOf p heads)) same.1.1 h))
   same_came entries trail (get.Heads o s) (get.Heads p t) (came.Block block) same h = absurd h
   same_came entries trail (get.Heads o s) (get.Block t) given same h = absurd same
   same_came entries trail (get.Block s) (get.Heads p t) given same h = absurd same
   same_came entries trail (get.Block s) (get.Block t) (came.Heads heads) same h = absurd h
   same_came entries trail (get.Block s) (get.Block t) (came.Block block) same h = λ judged.
-      subst (λ (k : Key). Gets judged s.course.replicas entries (Content k) trail (BlockOf k block)) same.0
-      (subst (λ (n : ℕ). Gets judged n entries (Content t.course.look.key) trail (BlockOf t.course.look.key block)) same.1 (h judged))
+      subst (λ (k : Key). Gets judged s.execution.replicas entries (Content k) trail (BlockOf k block)) same.0
+      (subst (λ (n : ℕ). Gets judged n entries (Content t.execution.look.key) trail (BlockOf t.execution.look.key block)) same.1 (h judged))
 
   pub waits : (old new : Get J) (w : Want Came) (node : Peer) (question : Ask) → GetIsWanted judges old new w → w ≡ want.Ask node question → gets_left new ≤ gets_left old
       → GoesTo judges old (progress.Waits (record { get = new; node = node; question = question }))

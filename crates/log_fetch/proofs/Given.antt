@@ -7,7 +7,7 @@ use Rattle.log_model.specs.View.{View}
 use Rattle.log_model.specs.Vector.{Stamp, Vector}
 use Rattle.log_model.specs.Record.{Record}
 use Rattle.log_model.specs.declared.chain_fault.ChainFault.{ChainFault}
-use Rattle.log_model.specs.Fetched.{Edge, EndsAt, GoesOnFrom, owner_of, stamp_in}
+use Rattle.log_model.specs.Fetched.{Edge, EndsAtStamp, GoesOnFrom, owner_of, stamp_in}
 use Rattle.session_model.specs.Brought.{Brought}
 use Rattle.session_model.specs.Walks.{Walks, WalkEnd, Tries, LogEnd, Lacks, Stops, Gives, GivesNone}
 use Rattle.session_model.specs.Walks.Walks.{came as all_came, wants as next_wanted, misses as one_misses, garbled as one_garbled, back as one_back}
@@ -25,7 +25,7 @@ nothing : {X : Type 0} (before : List X) (last : X) → [] ≡ before ++ last �
 nothing [] last e = cc e
 nothing (x ∷ xs) last e = cc e
 
-first_owner : (owner : PubKey) (t : Stamp) (chain : List Record) → AllByRecursion (λ r. r.owner ≡ owner) chain → EndsAt t chain → owner_of chain ≡ owner
+first_owner : (owner : PubKey) (t : Stamp) (chain : List Record) → AllByRecursion (λ r. r.owner ≡ owner) chain → EndsAtStamp t chain → owner_of chain ≡ owner
 first_owner owner t [] all ends = absurd (nothing ends.0 ends.1 ends.2)
 first_owner owner t (r ∷ rs) all ends = all.0
 

@@ -65,7 +65,7 @@ none_behind members before now over = omega (arith, over)
 pub few_members : (members left : ℕ) → members ≤ most_members → left ≤ (2 + 2 ^ 96) * (members - 0) → left < (most_members + 1) * (2 + 2 ^ 96)
 few_members members left few most = omega (arith, few, most)
 
--- those of the member under way fell, or went on to the members behind it
+-- those of the member in progress fell, or went on to the members after it
 pub one_fewer : (members now then_now left then_left : ℕ) → then_now ≡ now → then_left < left → then_left + (2 + 2 ^ 96) * (members - (then_now + 1)) < left + (2 + 2 ^ 96) * (members - (now + 1))
 one_fewer members now then_now left then_left same less = omega (arith, same, less)
 

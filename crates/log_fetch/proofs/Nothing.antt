@@ -9,8 +9,8 @@ use Rattle.dht_ids.specs.declared.ask.Ask.TheVariants as ask
 use Rattle.dht_ids.specs.declared.ask.Heard.{Heard}
 use Rattle.dht_ids.specs.declared.judge.Judged.{Judged}
 use Rattle.dht_ids.specs.declared.peer.Peer.{Peer}
-use Rattle.dhash_model.specs.Course.{Told, IsCourse, told_all, result_of}
-use Rattle.dhash_model.specs.Course.IsCourse.{no_route, of_owners}
+use Rattle.dhash_model.specs.Execution.{Told, IsExecution, told_all, result_of}
+use Rattle.dhash_model.specs.Execution.IsExecution.{no_route, of_owners}
 use Rattle.dhash_model.specs.GetBlock.{EndsGet, IsGetOfBlock, block_in}
 use Rattle.dhash_model.specs.GetHead.{EndsHeadGet, IsGetOfHead}
 use Rattle.dhash_model.specs.declared.miss.Miss.{Miss}
@@ -20,7 +20,7 @@ use Rattle.ring_model.specs.Lookup.{IsLookup}
 use Rattle.ring_model.specs.Lookup.IsLookup.{over, spent, known, silent, answered}
 use Rattle.ring_model.specs.Members.{IsAmong}
 use Rattle.ring_model.specs.Gets.{Got, Right, Damaged, Missing, EndsBlock, EndsHeads}
-use Rattle.session_model.specs.Brought.{Brought, HeadsOf, BlockOf, Want, Heads, Content}
+use Rattle.session_model.specs.Brought.{Brought, HeadsOf, BlockOf, WantedOfRing, Heads, Content}
 use Rattle.session_model.specs.Sessions.{Gets}
 use Rattle.session_model.specs.Sessions.Gets.{heads as of_heads, content as of_content}
 use Rattle.log_fetch.specs.declared.get.Came.{Came}
@@ -67,15 +67,15 @@ abbrev Nothing : Brought → Type 0
 Nothing (HeadsOf owner given) = HasNothing given
 Nothing (BlockOf key given) = HasNothing given
 
-gets_nothing : (judged : Key → List ℕ → Option Judged) (r : ℕ) (entries : List Peer) (want : Want) (trail : List Heard) → [] ≡ trail → (brought : Brought) → Gets judged r entries want trail brought → Nothing brought
+gets_nothing : (judged : Key → List ℕ → Option Judged) (r : ℕ) (entries : List Peer) (want : WantedOfRing) (trail : List Heard) → [] ≡ trail → (brought : Brought) → Gets judged r entries want trail brought → Nothing brought
 gets_nothing judged r entries want trail none brought (of_heads {owner} given is) = no_heads (head_key_of owner) r entries (judged (head_key_of owner)) trail none given is
 gets_nothing judged r entries want trail none brought (of_content {key} given is) = no_block key r entries trail none given is
 
 pub brings_nothing : {J : Type 0} (judges : Judges J) (entries : List Peer) (x : Get J) (given : Came) → HasCame judges entries [] x given → BroughtNothing given
-brings_nothing judges entries (get.Heads owner t) (came.Heads heads) h = gets_nothing (judges t.judge) t.course.replicas entries (Heads owner) [] refl (HeadsOf owner heads) h
+brings_nothing judges entries (get.Heads owner t) (came.Heads heads) h = gets_nothing (judges t.judge) t.execution.replicas entries (Heads owner) [] refl (HeadsOf owner heads) h
 brings_nothing judges entries (get.Heads owner t) (came.Block block) h = absurd h
 brings_nothing judges entries (get.Block t) (came.Heads heads) h = absurd h
-brings_nothing judges entries (get.Block t) (came.Block block) h = gets_nothing (λ key bytes. None) t.course.replicas entries (Content t.course.look.key) [] refl (BlockOf t.course.look.key block) (h (λ key bytes. None))
+brings_nothing judges entries (get.Block t) (came.Block block) h = gets_nothing (λ key bytes. None) t.execution.replicas entries (Content t.execution.look.key) [] refl (BlockOf t.execution.look.key block) (h (λ key bytes. None))
 
 -- ---- nobody could be asked
 
@@ -91,16 +91,16 @@ no_looks : (key : Key) (looks : Told) (rest : List Heard) → [] ≡ told_all (a
 no_looks key [] rest e = refl
 no_looks key (l ∷ looks) rest e = absurd (something [] _ _ e)
 
-no_course : {T : Type 0} (key : Key) (question : Ask) (entries : List Peer) (Ends : List Peer → Told → Result T Miss → Type 0) (trail : List Heard) (result : Result T Miss) → [] ≡ trail → IsCourse key question entries Ends trail result → entries ≡ []
-no_course key question entries Ends trail result none (no_route looks found told_is looked out is) = nobody looked refl (no_looks key looks [] (none ∙ told_is ∙ sym (append-nil (told_all (ask.Route key) looks))))
-no_course key question entries Ends trail result none (of_owners looks asks found owners told_is looked out ends) = nobody looked refl (no_looks key looks (told_all question asks) (none ∙ told_is))
+no_execution : {T : Type 0} (key : Key) (question : Ask) (entries : List Peer) (Ends : List Peer → Told → Result T Miss → Type 0) (trail : List Heard) (result : Result T Miss) → [] ≡ trail → IsExecution key question entries Ends trail result → entries ≡ []
+no_execution key question entries Ends trail result none (no_route looks found told_is looked out is) = nobody looked refl (no_looks key looks [] (none ∙ told_is ∙ sym (append-nil (told_all (ask.Route key) looks))))
+no_execution key question entries Ends trail result none (of_owners looks asks found owners told_is looked out ends) = nobody looked refl (no_looks key looks (told_all question asks) (none ∙ told_is))
 
-no_get : (judged : Key → List ℕ → Option Judged) (r : ℕ) (entries : List Peer) (want : Want) (trail : List Heard) → [] ≡ trail → (brought : Brought) → Gets judged r entries want trail brought → entries ≡ []
-no_get judged r entries want trail none brought (of_heads {owner} given is) = no_course (head_key_of owner) (ask.Get (head_key_of owner)) entries (EndsHeadGet (judged (head_key_of owner)) (head_key_of owner) r) trail given none is
-no_get judged r entries want trail none brought (of_content {key} given is) = no_course key (ask.Get key) entries (EndsGet key r) trail given none is
+no_get : (judged : Key → List ℕ → Option Judged) (r : ℕ) (entries : List Peer) (want : WantedOfRing) (trail : List Heard) → [] ≡ trail → (brought : Brought) → Gets judged r entries want trail brought → entries ≡ []
+no_get judged r entries want trail none brought (of_heads {owner} given is) = no_execution (head_key_of owner) (ask.Get (head_key_of owner)) entries (EndsHeadGet (judged (head_key_of owner)) (head_key_of owner) r) trail given none is
+no_get judged r entries want trail none brought (of_content {key} given is) = no_execution key (ask.Get key) entries (EndsGet key r) trail given none is
 
 pub asks_nobody : {J : Type 0} (judges : Judges J) (entries : List Peer) (x : Get J) (given : Came) → HasCame judges entries [] x given → entries ≡ []
-asks_nobody judges entries (get.Heads owner t) (came.Heads heads) h = no_get (judges t.judge) t.course.replicas entries (Heads owner) [] refl (HeadsOf owner heads) h
+asks_nobody judges entries (get.Heads owner t) (came.Heads heads) h = no_get (judges t.judge) t.execution.replicas entries (Heads owner) [] refl (HeadsOf owner heads) h
 asks_nobody judges entries (get.Heads owner t) (came.Block block) h = absurd h
 asks_nobody judges entries (get.Block t) (came.Heads heads) h = absurd h
-asks_nobody judges entries (get.Block t) (came.Block block) h = no_get (λ key bytes. None) t.course.replicas entries (Content t.course.look.key) [] refl (BlockOf t.course.look.key block) (h (λ key bytes. None))
+asks_nobody judges entries (get.Block t) (came.Block block) h = no_get (λ key bytes. None) t.execution.replicas entries (Content t.execution.look.key) [] refl (BlockOf t.execution.look.key block) (h (λ key bytes. None))

@@ -19,16 +19,16 @@ use Rattle.log_records.proofs.Sizes.{short_records}
 trim : (xs ys : List ℕ) → 48 ≤ length xs → take 20 (drop 28 (xs ++ ys)) ≡ take 20 (drop 28 xs)
 trim xs ys le = ap (take 20) (drop-append-le 28 xs ys (omega (arith, le))) ∙ take-append-le 20 (drop 28 xs) ys (omega (arith, length-drop 28 xs, le))
 
--- what stands behind 28 bytes
+-- what stands after 28 bytes
 at_place : (a p s m v b : List ℕ) → length a ≡ 28 → length p ≡ 20 → (take 20 (drop 28 (a ++ p ++ s ++ m ++ v ++ b)) ≡ p) × (48 ≤ length (a ++ p ++ s ++ m ++ v ++ b))
 at_place a p s m v b la lp =
     let two : length (a ++ p) ≡ 48 = length-append a p ∙ omega (arith, la, lp) in
     let three : 48 ≤ length (a ++ p ++ s) = omega (arith, two, length-append (a ++ p) s) in
     let four : 48 ≤ length (a ++ p ++ s ++ m) = omega (arith, three, length-append (a ++ p ++ s) m) in
     let five : 48 ≤ length (a ++ p ++ s ++ m ++ v) = omega (arith, four, length-append (a ++ p ++ s ++ m) v) in
-    let behind : drop 28 (a ++ p) ≡ p = subst (λ (n : ℕ). drop n (a ++ p) ≡ p) la (drop-append_seam a p) in
+    let after : drop 28 (a ++ p) ≡ p = subst (λ (n : ℕ). drop n (a ++ p) ≡ p) la (drop-append_seam a p) in
     let whole : take 20 p ≡ p = subst (λ (n : ℕ). take n p ≡ p) lp (take-length p) in (
-      trim (a ++ p ++ s ++ m ++ v) b five ∙ trim (a ++ p ++ s ++ m) v four ∙ trim (a ++ p ++ s) m three ∙ trim (a ++ p) s (omega (arith, two)) ∙ ap (take 20) behind ∙ whole,
+      trim (a ++ p ++ s ++ m ++ v) b five ∙ trim (a ++ p ++ s ++ m) v four ∙ trim (a ++ p ++ s) m three ∙ trim (a ++ p) s (omega (arith, two)) ∙ ap (take 20) after ∙ whole,
       omega (arith, five, length-append (a ++ p ++ s ++ m ++ v) b),
     )
 

@@ -30,7 +30,7 @@ use Rattle.log_fetch.specs.Fetching.{EndsAs, block_in, is_miss, most_asks}
 use Rattle.log_fetch.specs.Stepping.{CameAs, IsMiss, GathersMore, Takes, FailsWith, StandsBehind, LeavesNoMore}
 use Rattle.log_fetch.proofs.Gathered.{heads_lack, heads_miss, log_lacks, log_misses, all_done_at}
 use Rattle.log_fetch.proofs.Members.{in_take}
-use Rattle.log_fetch.proofs.Advancing.{under_way}
+use Rattle.log_fetch.proofs.Advancing.{in_progress}
 use Rattle.log_fetch.proofs.Falling.{fewer}
 use Rattle.log_fetch.proofs.Taking.{is_heads}
 
@@ -91,7 +91,7 @@ module _ (start : Vector) (brought : List Brought) (g : Gathering) (h : Gathers 
       subst (λ (b : List Brought). Comes b (h.passed.noted ++ []) Done) (sym h.brought_is)
       (comes h.now [] Done (all_done_at (seen g.known) start (drop g.passed.at g.known.view.members) h.now (subst (StandsSo (seen g.known) start (drop g.passed.at g.known.view.members) h.now) e h.stands)))
 
-  -- without a log under way the notes are those of the members that are through
+  -- without a log in progress the notes are those of the members that are through
   pub same_noted : noted_at g.stage ≡ [] → g.passed.notes ++ noted_at g.stage ≡ map note_of (h.passed.noted ++ [])
   same_noted e = ap (λ (n : List Note). g.passed.notes ++ n) e ∙ append-nil g.passed.notes ∙ h.passed.notes_are ∙ ap (map note_of) (sym (append-nil h.passed.noted))
 
@@ -184,7 +184,7 @@ module _ (start : Vector) (brought : List Brought) (g : Gathering) (h : Gathers 
         no_miss = refl;
       }
       by (stage.Log t) e =
-          let u = under_way (seen g.known) start (drop g.passed.at g.known.view.members) h.now t (subst (StandsSo (seen g.known) start (drop g.passed.at g.known.view.members) h.now) e h.stands) in
+          let u = in_progress (seen g.known) start (drop g.passed.at g.known.view.members) h.now t (subst (StandsSo (seen g.known) start (drop g.passed.at g.known.view.members) h.now) e h.stands) in
           let w = block_needed start brought g h t.walk.next (ap block_wanted e ∙ some_wanted t.walk.left t.walk.next u.left) in
           record { notes = w.0; chains = map chain_of g.passed.batch.chains ++ []; end = Needs (Content t.walk.next); fetches = w.1; no_miss = refl }
       by stage.Through e = record {

@@ -25,7 +25,7 @@ use Rattle.log_fetch.specs.Edges.{edge_in}
 use Rattle.log_fetch.specs.Gathering.{Gathering, HeadsCame, StandsSo, HasPassed, Gathers, IsPassing, IsNext, IsGathering, BeginsLog, GoesOnLog, GathersFrom, Advances, HeadsTaken, BlockTaken, HeadsGathered, BlockGathered, gathering_of, at_behind, heads_wanted, block_wanted, gets_in, noted_for, noted_at, seen}
 use Rattle.log_fetch.specs.Gathering.HeadsCame.{of_other}
 use Rattle.log_fetch.specs.Logs.{GoesOn}
-use Rattle.log_fetch.proofs.Advancing.{UnderWay, under_way, awaits, log_gathering, log_gathers, at_next, next_at}
+use Rattle.log_fetch.proofs.Advancing.{InProgress, in_progress, awaits, log_gathering, log_gathers, at_next, next_at}
 use Rattle.log_fetch.proofs.Lefts.{one_fewer, went_behind}
 use Rattle.log_fetch.proofs.Members.{rest_is, within}
 use Rattle.log_fetch.proofs.Passing.{one_passed, settled_passing}
@@ -99,22 +99,22 @@ is_through g is no_heads no_block = by g.stage is.stands no_heads no_block
 
     by : (at : Stage) → StandsSo (seen g.known) g.passed.batch.held (drop g.passed.at g.known.view.members) is.now at → heads_wanted at ≡ None → block_wanted at ≡ None → at ≡ stage.Through
     by (stage.Heads owner) stands e f = cc e
-    by (stage.Log t) stands e f = absurd (some_left t.walk.left t.walk.next (under_way (seen g.known) g.passed.batch.held (drop g.passed.at g.known.view.members) is.now t stands).left f)
+    by (stage.Log t) stands e f = absurd (some_left t.walk.left t.walk.next (in_progress (seen g.known) g.passed.batch.held (drop g.passed.at g.known.view.members) is.now t stands).left f)
     by stage.Through stands e f = refl
 
 pub block_wants : (k : Known) (p : Passed) (t : Trying) → IsGathering (gathering_of k p (stage.Log t)) → t.walk.left ≢ 0
-block_wants k p t is = (under_way (seen k) p.batch.held (drop p.at k.view.members) is.now t is.stands).left
+block_wants k p t is = (in_progress (seen k) p.batch.held (drop p.at k.view.members) is.now t is.stands).left
 
 pub block_within : (k : Known) (p : Passed) (t : Trying) → IsGathering (gathering_of k p (stage.Log t)) → p.at < length k.view.members
 block_within k p t is =
-    let u = under_way (seen k) p.batch.held (drop p.at k.view.members) is.now t is.stands in
+    let u = in_progress (seen k) p.batch.held (drop p.at k.view.members) is.now t is.stands in
     within k.view.members p.at u.owner u.rest u.owners_are
 
 module _ (k : Known) (p : Passed) (t : Trying) (owner : PubKey) (next : IsNext k p owner) (is : IsGathering (gathering_of k p (stage.Log t))) where
   abbrev before : Gathering
   before = gathering_of k p (stage.Log t)
 
-  -- the log under way is the next member's
+  -- the log in progress is the next member's
   record Goes (now : List Brought) : Type 0 where
     pub came : List Brought
     pub walked : List Brought
@@ -135,8 +135,8 @@ module _ (k : Known) (p : Passed) (t : Trying) (owner : PubKey) (next : IsNext k
     tried = subst (λ (o : PubKey). HasTried k.view o p.batch.held k.floor (edge_in k.edges (head_key_of o)) u.all u.walked t) same u.tried;
   }
     where
-      u : UnderWay (seen k) p.batch.held (drop p.at k.view.members) now t
-      u = under_way (seen k) p.batch.held (drop p.at k.view.members) now t (subst (λ (v : Vector). StandsSo (seen k) v (drop p.at k.view.members) now (stage.Log t)) (sym started) stands)
+      u : InProgress (seen k) p.batch.held (drop p.at k.view.members) now t
+      u = in_progress (seen k) p.batch.held (drop p.at k.view.members) now t (subst (λ (v : Vector). StandsSo (seen k) v (drop p.at k.view.members) now (stage.Log t)) (sym started) stands)
 
       same : u.owner ≡ owner
       same = first_same u.owner owner u.rest (drop (p.at + 1) k.view.members) (sym u.owners_are ∙ next.owner_is)
@@ -148,7 +148,7 @@ module _ (k : Known) (p : Passed) (t : Trying) (owner : PubKey) (next : IsNext k
   some_left = let some = block_wants k p t is in omega (arith, some)
 
   module _ (bytes : List ℕ) (new : Passed) where
-    -- the block behind what was brought before
+    -- the block after what was brought before
     longer : (start : Vector) (brought : List Brought) (h : Gathers start brought before) (w : Goes h.now) (key : Key) → t.walk.next ≡ key
         → brought ++ BlockOf key (Ok bytes) ∷ [] ≡ h.before ++ (w.came ++ (w.walked ++ BlockOf t.walk.next (Ok bytes) ∷ []))
     longer start brought h w key key_is =
@@ -195,7 +195,7 @@ module _ (k : Known) (p : Passed) (t : Trying) (owner : PubKey) (next : IsNext k
         subst (λ (v : Vector). HasTried k.view owner p.batch.held v (edge_in k.edges (head_key_of owner)) w.all w.walked t) (sym is.passing.floor_is) w.tried in
         settled_passing k p new batch owner is.passing next w.all (w.walked ++ BlockOf t.walk.next (Ok bytes) ∷ []) s (on w.all w.walked tried) batch_is at_is
 
--- ---- what is noted of the log under way
+-- ---- what is noted of the log in progress
 
 module _ (k : Known) (p : Passed) (at : Stage) (t : Trying) (at_is : at ≡ stage.Log t) (is : IsGathering (gathering_of k p at)) where
   abbrev at_log : IsGathering (gathering_of k p (stage.Log t))

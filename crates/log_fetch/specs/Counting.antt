@@ -17,7 +17,7 @@ use Rattle.session_model.specs.Walks.{LogEnd, Lacks, Stops, Gives, GivesNone}
 
 -- ---- what was got
 
--- It came of a get. A block that was brought by no ask was at hand.
+-- It came of a get. A block that was brought by no ask was available.
 abbrev pub came_of_get : Brought → List Heard → Bool
 came_of_get (HeadsOf owner came) asks = true
 came_of_get (BlockOf key (Err miss)) asks = true
@@ -54,7 +54,7 @@ module _ (over : FetchBase) where
   abbrev pub floor_above : PubKey → ℕ
   floor_above owner = seq_of over.standing.floor (head_key_of owner) - held_of owner
 
-  -- Of one log: over its heads that were tried, each one's number less the one held. The floor's own record, tried behind them, is no head.
+  -- Of one log: over its heads that were tried, each one's number less the one held. The floor's own record, tried after them, is no head.
   abbrev pub tried_above : (owner : PubKey) {brought : List Brought} {notes : List session.Note} {log : LogEnd}
       → Fetches over owner brought notes log → ℕ
   tried_above owner (wants_heads other) = 0

@@ -18,7 +18,7 @@ use Rattle.dhash_client.specs.GetHead.{Judges}
 use Rattle.log_records.specs.Batches.{Batch, AreUnder, owners_in}
 use Rattle.agent_model.specs.Standing as agent
 use Rattle.agent_model.specs.Standing.{chain_of}
-use Rattle.session_model.specs.Brought.{Brought, HeadsOf, BlockOf, Part, Want, Heads, Content, brought_in}
+use Rattle.session_model.specs.Brought.{Brought, HeadsOf, BlockOf, Part, WantedOfRing, Heads, Content, brought_in}
 use Rattle.session_model.specs.Refreshing as session
 use Rattle.session_model.specs.Refreshing.{RefreshEnd, Needs, FailsBy, Done, FetchesAll}
 use Rattle.session_model.specs.Sessions.{Gets}
@@ -69,18 +69,18 @@ abbrev pub fetch_wanted : {J : Type 0} → Fetching J → Option Key
 fetch_wanted f = free_block f.state
 
 -- what a get is for
-abbrev pub aim : {J : Type 0} → Get J → Want
+abbrev pub aim : {J : Type 0} → Get J → WantedOfRing
 aim (get.Heads owner s) = Heads owner
-aim (get.Block s) = Content s.course.look.key
+aim (get.Block s) = Content s.execution.look.key
 
-abbrev pub aim_in : {J : Type 0} → State J → Option Want
+abbrev pub aim_in : {J : Type 0} → State J → Option WantedOfRing
 aim_in (state.Free g) = None
 aim_in (state.Asking g x) = Some (aim x.get)
 aim_in (state.Ended fetched) = None
 aim_in state.Over = None
 
 -- what the get on its way is for
-abbrev pub fetch_aim : {J : Type 0} → Fetching J → Option Want
+abbrev pub fetch_aim : {J : Type 0} → Fetching J → Option WantedOfRing
 fetch_aim f = aim_in f.state
 
 abbrev pub failed_in : {J : Type 0} → State J → Bool
@@ -94,11 +94,11 @@ abbrev pub is_failed : {J : Type 0} → Fetching J → Bool
 is_failed f = failed_in f.state
 
 -- the get on its way, as a count
-abbrev pub under_way : {J : Type 0} → State J → ℕ
-under_way (state.Free g) = 0
-under_way (state.Asking g x) = 1
-under_way (state.Ended fetched) = 0
-under_way state.Over = 0
+abbrev pub in_progress : {J : Type 0} → State J → ℕ
+in_progress (state.Free g) = 0
+in_progress (state.Asking g x) = 1
+in_progress (state.Ended fetched) = 0
+in_progress state.Over = 0
 
 -- a get begins next: no other is on its way, and something is wanted
 abbrev pub begins_in : {J : Type 0} → State J → Bool
@@ -117,7 +117,7 @@ with_next gets old = if begins_in old then counted (gets + 1) else gets
 
 -- It began to get these parts, but for those that were given, and the get on its way.
 abbrev pub HasBegun : {J : Type 0} → Fetching J → List Part → Type 0
-HasBegun f parts = f.gets ≡ counted (gets_of parts + under_way f.state)
+HasBegun f parts = f.gets ≡ counted (gets_of parts + in_progress f.state)
 
 -- more asks than a get that begins may make
 unfoldable pub most_asks : ℕ
@@ -141,8 +141,8 @@ most_left = most_asks * ((most_members + 1) * (2 + 2 ^ 96))
 
 -- the get is for what is wanted, by that judge and from so many owners
 abbrev pub IsFor : {J : Type 0} → J → ℕ → Stage → Get J → Type 0
-IsFor judge replicas at (get.Heads owner s) = (heads_wanted at ≡ Some owner) × (s.judge ≡ judge) × (s.course.replicas ≡ replicas)
-IsFor judge replicas at (get.Block s) = (block_wanted at ≡ Some s.course.look.key) × (s.course.replicas ≡ replicas)
+IsFor judge replicas at (get.Heads owner s) = (heads_wanted at ≡ Some owner) × (s.judge ≡ judge) × (s.execution.replicas ≡ replicas)
+IsFor judge replicas at (get.Block s) = (block_wanted at ≡ Some s.execution.look.key) × (s.execution.replicas ≡ replicas)
 
 abbrev pub IsSound : {J : Type 0} → J → ℕ → State J → Type 0
 IsSound judge replicas (state.Free g) = Unit {0}
@@ -150,18 +150,18 @@ IsSound judge replicas (state.Asking g x) = IsFor judge replicas g.stage x.get �
 IsSound judge replicas (state.Ended fetched) = Unit {0}
 IsSound judge replicas state.Over = Unit {0}
 
--- ---- behind what was brought
+-- ---- after what was brought
 
 module _ (judged : Key → List ℕ → Option Judged) (replicas : ℕ) (entries : List Peer) (s : agent.Standing) (start : Vector) where
   -- this is wanted next
-  abbrev pub IsNeeded : List Part → Want → Type 0
+  abbrev pub IsNeeded : List Part → WantedOfRing → Type 0
   IsNeeded parts want = (notes : List session.Note) × (chains : List agent.Chain)
       × FetchesAll (record { standing = s; start = start }) s.view.members (brought_in parts) notes chains (Needs want)
 
-  -- each part came of what was wanted then: by the asks of a whole get, or by none, where it is a block that was at hand
+  -- each part came of what was wanted then: by the asks of a whole get, or by none, where it is a block that was available
   pub data AreParts : List Part → Type 0 where
     no_parts : AreParts []
-    was_got : (parts : List Part) (want : Want) (asks : List Heard) (brought : Brought) → AreParts parts → IsNeeded parts want
+    was_got : (parts : List Part) (want : WantedOfRing) (asks : List Heard) (brought : Brought) → AreParts parts → IsNeeded parts want
         → Gets judged replicas entries want asks brought
         → AreParts (parts ++ record { brought = brought; asks = asks } ∷ [])
     was_given : (parts : List Part) (key : Key) (bytes : List ℕ) → AreParts parts → IsNeeded parts (Content key)
@@ -186,7 +186,7 @@ EndsAs s start brought given end =
     (notes : List session.Note) × (chains : List agent.Chain)
     × FetchesAll (record { standing = s; start = start }) s.view.members brought notes chains end × IsGiven s start given notes chains end
 
--- behind these asks of the get on its way, or none without one
+-- after these asks of the get on its way, or none without one
 abbrev pub IsAsking : {J : Type 0} → Judges J → List Peer → agent.Standing → Vector → List Brought → List Heard → State J → Type 0
 IsAsking judges entries s start brought current (state.Free g) = IsSeen s g.known × Gathers start brought g × (current ≡ [])
 IsAsking judges entries s start brought current (state.Asking g x) =
@@ -195,7 +195,7 @@ IsAsking judges entries s start brought current (state.Ended fetched) =
     (current ≡ []) × (miss : Miss) × EndsAs s start brought fetched (FailsBy miss)
 IsAsking judges entries s start brought current state.Over = ⊥
 
--- It may be in this state, of a fetch for that standing over that start, behind these parts and the asks of the get on its way.
+-- It may be in this state, of a fetch for that standing over that start, after these parts and the asks of the get on its way.
 pub record FetchIsAfter {J : Type 0} (judges : Judges J) (s : agent.Standing) (start : Vector) (parts : List Part) (current : List Heard)
     (f : Fetching J) : Type 0 where
   pub whole : AreParts (judges f.judge) f.replicas f.entries s start parts
@@ -209,13 +209,13 @@ pub record FetchIsAfter {J : Type 0} (judges : Judges J) (s : agent.Standing) (s
 abbrev pub Leads : {J : Type 0} → Judges J → Fetching J → Fetching J → Type 0
 Leads judges old new =
     (s : agent.Standing) (start : Vector) (parts : List Part) (current : List Heard) → FetchIsAfter judges s start parts current old
-    → FetchIsAfter judges s start parts current new × (want : Want) × (fetch_aim new ≡ Some want)
+    → FetchIsAfter judges s start parts current new × (want : WantedOfRing) × (fetch_aim new ≡ Some want)
     × IsNeeded (judges new.judge) new.replicas new.entries s start parts want
 
 -- these are all parts: where nobody may be asked, one comes last that took no ask
 abbrev pub AreAll : (Key → List ℕ → Option Judged) → ℕ → List Peer → agent.Standing → Vector → List Part → List Part → Type 0
 AreAll judged replicas entries s start parts all =
-    (all ≡ parts) ⊎ ((entries ≡ []) × (want : Want) × IsNeeded judged replicas entries s start parts want × (brought : Brought)
+    (all ≡ parts) ⊎ ((entries ≡ []) × (want : WantedOfRing) × IsNeeded judged replicas entries s start parts want × (brought : Brought)
     × Gets judged replicas entries want [] brought
     × (all ≡ parts ++ record { brought = brought; asks = [] } ∷ []))
 
@@ -241,14 +241,14 @@ block_in (HeadsOf owner came) = None
 block_in (BlockOf key (Ok bytes)) = Some (key, bytes)
 block_in (BlockOf key (Err miss)) = None
 
--- the get goes on, behind these asks
-abbrev pub GetGoesOn : {J : Type 0} → Judges J → agent.Standing → Vector → List Part → List Heard → Want → Fetching J
+-- the get goes on, after these asks
+abbrev pub GetGoesOn : {J : Type 0} → Judges J → agent.Standing → Vector → List Part → List Heard → WantedOfRing → Fetching J
     → Option (Key × List ℕ) → Type 0
 GetGoesOn judges s start parts asks want new given =
     (fetch_aim new ≡ Some want) × (fetch_awaited new ≢ None) × FetchIsAfter judges s start parts asks new × (given ≡ None)
 
 -- these asks are a whole get, which is the next part; the block that it brought is given back
-abbrev pub GetIsOver : {J : Type 0} → Judges J → agent.Standing → Vector → List Part → List Heard → Want → Fetching J → Fetching J
+abbrev pub GetIsOver : {J : Type 0} → Judges J → agent.Standing → Vector → List Part → List Heard → WantedOfRing → Fetching J → Fetching J
     → Option (Key × List ℕ) → Type 0
 GetIsOver judges s start parts asks want old new given =
     (brought : Brought) × Gets (judges old.judge) old.replicas old.entries want asks brought × (fetch_awaited new ≡ None)
@@ -260,7 +260,7 @@ FetchHasHeard judges old new answer given =
     IsSameFetch old new
     × ((s : agent.Standing) (start : Vector) (parts : List Part) (current : List Heard) (node : Peer) (question : Ask)
     → fetch_awaited old ≡ Some (node, question) → FetchIsAfter judges s start parts current old
-    → (want : Want) × (fetch_aim old ≡ Some want) × IsNeeded (judges old.judge) old.replicas old.entries s start parts want
+    → (want : WantedOfRing) × (fetch_aim old ≡ Some want) × IsNeeded (judges old.judge) old.replicas old.entries s start parts want
     × (GetGoesOn judges s start parts (current ++ told node question answer) want new given
     ⊎ GetIsOver judges s start parts (current ++ told node question answer) want old new given))
 
@@ -296,7 +296,7 @@ HasFewGets f gets =
     (s : agent.Standing) (start : Vector) (parts : List Part) → HasBegun f parts
     → (notes : List session.Note) (chains : List agent.Chain) (end : RefreshEnd)
     (fetches : FetchesAll (record { standing = s; start = start }) s.view.members (brought_in parts) notes chains end)
-    → ((want : Want) → fetch_aim f ≡ Some want → end ≡ Needs want)
+    → ((want : WantedOfRing) → fetch_aim f ≡ Some want → end ≡ Needs want)
     → gets ≤ most_gets (record { standing = s; start = start }) s.view.members fetches
 
 -- ---- a law
@@ -308,4 +308,4 @@ FetchStands {J} judges =
     → FetchIsAfter judges s start parts current f
     → (notes : List session.Note) × (chains : List agent.Chain) × (end : RefreshEnd)
     × FetchesAll (record { standing = s; start = start }) s.view.members (brought_in parts) notes chains end
-    × ((want : Want) → fetch_aim f ≡ Some want → end ≡ Needs want)
+    × ((want : WantedOfRing) → fetch_aim f ≡ Some want → end ≡ Needs want)

@@ -74,13 +74,13 @@ is_wanting stage.Through = false
 
 -- ---- how much may still be wanted
 
--- of the member under way: its heads, and fewer than `2 ^ 96` blocks
+-- of the member in progress: its heads, and fewer than `2 ^ 96` blocks
 abbrev pub stage_left : Stage → ℕ
 stage_left (stage.Heads owner) = 1 + 2 ^ 96
 stage_left (stage.Log t) = trial_left t
 stage_left stage.Through = 0
 
--- no more heads and blocks than these may still be wanted: of the member under way, and of those behind it
+-- no more heads and blocks than these may still be wanted: of the member in progress, and of those after it
 abbrev pub gets_in : Gathering → ℕ
 gets_in g = stage_left g.stage + (2 + 2 ^ 96) * (length g.known.view.members - (g.passed.at + 1))
 
@@ -89,7 +89,7 @@ abbrev pub waits_left : Option Trying → ℕ
 waits_left None = 0
 waits_left (Some t) = trial_left t
 
--- ---- behind what was brought
+-- ---- after what was brought
 
 -- the heads of the member that were brought, where it isn't the own one, and what there is to try by them
 pub data HeadsCame (s : agent.Standing) (start : Vector) (owner : PubKey) : List Brought → List Stamp → Type 0 where
@@ -99,7 +99,7 @@ pub data HeadsCame (s : agent.Standing) (start : Vector) (owner : PubKey) : List
       → AreToTry (map stamp_of heads) (stamp_at s.floor (head_key_of owner)) (seq_of start (head_key_of owner)) all
       → HeadsCame s start owner (HeadsOf owner (Ok heads) ∷ []) all
 
--- how the member under way stands, after this was brought for it, of the members that are left
+-- how the member in progress stands, after this was brought for it, of the members that are left
 pub data StandsSo (s : agent.Standing) (start : Vector) : List PubKey → List Brought → Stage → Type 0 where
   wants_heads : (owner : PubKey) (owners : List PubKey) → owner ≢ s.own → StandsSo s start (owner ∷ owners) [] (stage.Heads owner)
   wants_block : (owner : PubKey) (owners : List PubKey) (came walked : List Brought) (all : List Stamp) (t : Trying)
@@ -108,7 +108,7 @@ pub data StandsSo (s : agent.Standing) (start : Vector) : List PubKey → List B
       → StandsSo s start (owner ∷ owners) (came ++ walked) (stage.Log t)
   all_through : StandsSo s start [] [] stage.Through
 
--- So many of the members are through, with these chains and notes: whatever becomes of those that are left, it becomes of all behind what
+-- So many of the members are through, with these chains and notes: whatever becomes of those that are left, it becomes of all after what
 -- was brought for the ones before.
 pub record HasPassed (k : Known) (start : Vector) (brought : List Brought) (p : Passed) : Type 0 where
   pub started : p.batch.held ≡ start
@@ -228,7 +228,7 @@ pub record BlockTaken (k : Known) (old new : Passed) (t : Trying) (bytes : List 
   pub gathered : BlockGathered (gathering_of k old (stage.Log t)) bytes (gathering_of k new at)
   pub left : gets_in (gathering_of k new at) < gets_in (gathering_of k old (stage.Log t))
 
--- what is noted of the log under way
+-- what is noted of the log in progress
 abbrev pub noted_at : Stage → List Note
 noted_at (stage.Heads owner) = []
 noted_at (stage.Log t) = noted_for (head_key_of t.walk.owner) t.fault

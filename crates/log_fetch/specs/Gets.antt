@@ -11,7 +11,7 @@ use Rattle.dht_ids.specs.declared.ask.Want.{Want}
 use Rattle.dht_ids.specs.declared.ask.Want.TheVariants as want
 use Rattle.dht_ids.specs.declared.judge.Judged.{Judged}
 use Rattle.dht_ids.specs.declared.peer.Peer.{Peer}
-use Rattle.dhash_client.specs.Course.{asks_left, IsSameCourse}
+use Rattle.dhash_client.specs.Execution.{asks_left, IsSameExecution}
 use Rattle.dhash_client.specs.GetBlock.{BlockIsAfter, block_awaited}
 use Rattle.dhash_client.specs.GetHead.{Judges, HeadIsAfter, IsSameHead, head_awaited}
 use Rattle.session_model.specs.Brought.{HeadsOf, BlockOf, Heads, Content}
@@ -26,8 +26,8 @@ use Rattle.log_fetch.specs.declared.get.Waiting.{Waiting}
 
 -- how many asks it may still make
 abbrev pub gets_left : {J : Type 0} → Get J → ℕ
-gets_left (get.Heads owner s) = asks_left s.course
-gets_left (get.Block s) = asks_left s.course
+gets_left (get.Heads owner s) = asks_left s.execution
+gets_left (get.Block s) = asks_left s.execution
 
 -- the node to be heard, and what it is asked
 abbrev pub get_awaited : {J : Type 0} → Get J → Option (Peer × Ask)
@@ -43,24 +43,24 @@ IsOfGet (ask.Get key) = Unit {0}
 IsOfGet (ask.PutBlock key bytes) = ⊥
 IsOfGet (ask.PutHead key bytes) = ⊥
 
--- it may be in this state behind this trail
+-- it may be in this state after this trail
 abbrev pub GetIsAfter : {J : Type 0} → Judges J → List Peer → List Heard → Get J → Type 0
-GetIsAfter judges entries trail (get.Heads owner s) = HeadIsAfter judges entries trail s × (s.course.look.key ≡ head_key_of owner)
+GetIsAfter judges entries trail (get.Heads owner s) = HeadIsAfter judges entries trail s × (s.execution.look.key ≡ head_key_of owner)
 GetIsAfter judges entries trail (get.Block s) = BlockIsAfter entries trail s
 
 -- what is got, from how many owners, and by which judge is the same
 abbrev pub IsSameGet : {J : Type 0} → Get J → Get J → Type 0
 IsSameGet (get.Heads owner s) (get.Heads other t) = (other ≡ owner) × IsSameHead s t
-IsSameGet (get.Block s) (get.Block t) = IsSameCourse s.course t.course
+IsSameGet (get.Block s) (get.Block t) = IsSameExecution s.execution t.execution
 IsSameGet _ _ = ⊥
 
 -- its trail is a whole get, which brings this
 abbrev pub HasCame : {J : Type 0} → Judges J → List Peer → List Heard → Get J → Came → Type 0
 HasCame judges entries trail (get.Heads owner s) (came.Heads heads) =
-    Gets (judges s.judge) s.course.replicas entries (Heads owner) trail (HeadsOf owner heads)
+    Gets (judges s.judge) s.execution.replicas entries (Heads owner) trail (HeadsOf owner heads)
 HasCame judges entries trail (get.Block s) (came.Block block) =
     (judged : Key → List ℕ → Option Judged)
-    → Gets judged s.course.replicas entries (Content s.course.look.key) trail (BlockOf s.course.look.key block)
+    → Gets judged s.execution.replicas entries (Content s.execution.look.key) trail (BlockOf s.execution.look.key block)
 HasCame judges entries trail _ _ = ⊥
 
 -- what it wants: to ask a node, which is then to be heard, or nothing more, since its trail is a whole get

@@ -6,7 +6,7 @@ use Rattle.turn_model.specs.Candidates.{IsTriedBefore}
 use Rattle.session_model.specs.Walks.{AreTried, InTryingOrder}
 use Rattle.session_model.specs.Refreshing.{floors_own}
 
--- those of the heads that are tried, and behind them the floor's own
+-- those of the heads that are tried, and after them the floor's own
 abbrev pub AreToTry : List Stamp → Option Stamp → ℕ → List Stamp → Type 0
 AreToTry heads floor held all = (tried : List Stamp) × AreTried (reach floor) heads tried × (all ≡ tried ++ floors_own floor held)
 

@@ -67,7 +67,7 @@ Takes old given new (step.Fails miss) = (new ≡ old) × IsMiss given miss
 abbrev pub FailsWith : Gathering → Miss → Fetched → Type 0
 FailsWith g miss given = (given.result ≡ Err miss) × (given.notes ≡ (g.passed.notes ++ noted_at g.stage) ++ note_of_miss miss ∷ [])
 
--- behind what is brought next the fetch goes on, or is over
+-- after what is brought next the fetch goes on, or is over
 abbrev pub StandsBehind : {J : Type 0} → Gathering → Came → State J × Option (Key × List ℕ) → Type 0
 StandsBehind g given (state.Free after, back) = GathersMore g given after back
 StandsBehind g given (state.Asking after x, back) = ⊥

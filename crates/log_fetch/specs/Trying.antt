@@ -31,13 +31,13 @@ abbrev pub first_of : List ChainFault → Option ChainFault
 first_of [] = None
 first_of (fault ∷ others) = Some fault
 
--- with one more behind them
+-- with one more after them
 abbrev pub or_fault : Option ChainFault → ChainFault → Option ChainFault
 or_fault None fault = Some fault
 or_fault (Some before) fault = Some before
 
 -- Of these heads of the owner's log the first ones were passed over, and the present one's walk is on its way: whatever becomes of the
--- heads that are left, it becomes of all of them behind what was brought for the ones before.
+-- heads that are left, it becomes of all of them after what was brought for the ones before.
 pub record HasTried (view : View) (owner : PubKey) (start floor : Vector) (edge : Option Edge) (all : List Stamp) (brought : List Brought)
     (t : Trying) : Type 0 where
   pub passed : List Brought

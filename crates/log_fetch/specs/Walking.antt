@@ -62,7 +62,7 @@ HasBeenGiven old new bytes = (new.owner ≡ old.owner)
 abbrev pub kept_of : {A : Type 0} → Option (Vec kept.Record A) → Option (List Record)
 kept_of found = option_map (λ f. records_of f.items) found
 
--- with one more behind them
+-- with one more after them
 abbrev pub kept_with : Option (List Record) → Record → Option (List Record)
 kept_with found r = option_map (λ f. f ++ r ∷ []) found
 

@@ -55,7 +55,7 @@ impl Edges {
         self.edges.as_slice()
     }
 
-    /// A copy of these edges and of what they have. The error is want of memory.
+    /// A copy of these edges and of what they have. The error is: out of memory.
     pub fn copy(&self, alloc: Global) -> Result<Edges, Memory>
         ensures { IfOk result (λ copy. copy ≡ self.now) }
     {
@@ -64,7 +64,7 @@ impl Edges {
         })
     }
 
-    /// A copy of what is known of the log's newest held record, where it is known. The error is want of memory.
+    /// A copy of what is known of the log's newest held record, where it is known. The error is: out of memory.
     pub fn at(&self, alloc: Global, log: &Key) -> Result<Option<Known>, Memory>
         ensures value { IfOk result (λ edge. edge ≡ edge_in self.now log.now) }
         ensures own { IfOk result (λ edge. IfSome edge (λ e. stamp_at e.vector log.now ≡ None)) }
@@ -73,7 +73,7 @@ impl Edges {
     }
 }
 
-/// Copies of the edges. The error is want of memory.
+/// Copies of the edges. The error is: out of memory.
 fn copies(alloc: Global, edges: &[Edge]) -> Result<Vec<Edge>, Memory>
     ensures { IfOk result (λ copies. copies.items ≡ edges.now) }
 {
@@ -84,7 +84,7 @@ fn copies(alloc: Global, edges: &[Edge]) -> Result<Vec<Edge>, Memory>
     Ok(copies)
 }
 
-/// A copy of the edge. The error is want of memory.
+/// A copy of the edge. The error is: out of memory.
 fn copy_of(alloc: Global, edge: &Edge) -> Result<Edge, Memory>
     ensures { IfOk result (λ copy. copy ≡ edge.now) }
 {
@@ -94,7 +94,7 @@ fn copy_of(alloc: Global, edge: &Edge) -> Result<Edge, Memory>
     })
 }
 
-/// A copy of what is known of the log's newest held record. The error is want of memory.
+/// A copy of what is known of the log's newest held record. The error is: out of memory.
 fn known_at(alloc: Global, edges: &[Edge], log: &Key) -> Result<Option<Known>, Memory>
     requires { AreEdges (edges_of edges.now) }
     ensures value { IfOk result (λ edge. edge ≡ edge_in (edges_of edges.now) log.now) }

@@ -87,7 +87,7 @@ pub(crate) enum Step {
 
 impl<J: Judge> Fetch<J> {
     /// The fetch for that standing, over what it holds: its gets begin their look-ups at these nodes, and are content with
-    /// that many answers. The error is want of memory.
+    /// that many answers. The error is: out of memory.
     pub fn start(
         alloc: Global,
         judge: J,
@@ -140,8 +140,8 @@ impl<J: Judge> Fetch<J> {
         self.gets
     }
 
-    /// Takes the block that is to be got next, which was at hand: its bytes are not tested here. The error is want of memory;
-    /// the fetch isn't used then any more.
+    /// Takes the block that is to be got next, which was available: its bytes are not tested here. The error is: out of
+    /// memory; the fetch isn't used then any more.
     pub fn give(&mut self, bytes: &[u8]) -> Result<(), Memory>
         requires { fetch_wanted self.old ≢ None }
         ensures given { IfOk result (λ _. FetchWasGiven J.judges self.old self.new bytes.now) }
@@ -156,7 +156,7 @@ impl<J: Judge> Fetch<J> {
     }
 
     /// What the fetch wants next: an ask, or nothing more, since it has its result. An ask that wasn't yet heard is wanted
-    /// again. The error is want of memory; after it and after the result the fetch is over, and gives that error.
+    /// again. The error is: out of memory; after it and after the result the fetch is over, and gives that error.
     pub fn next(&mut self) -> Result<Want<Fetched>, Memory>
         ensures wanted { IfOk result (FetchIsWanted J.judges self.old self.new) }
         ensures left { IfOk result (λ _. fetch_left self.new ≤ fetch_left self.old) }
@@ -191,7 +191,7 @@ impl<J: Judge> Fetch<J> {
     }
 
     /// Hears what the node answered that was asked last, and takes what the get brought, where it is over with that: a block
-    /// is handed out with its name. It is called once after each ask. The error is want of memory; then the fetch is over.
+    /// is handed out with its name. It is called once after each ask. The error is: out of memory; then the fetch is over.
     pub fn heard(&mut self, answer: Answer) -> Result<Option<(Key, Bytes)>, Memory>
         requires { fetch_awaited self.old ≢ None }
         ensures heard { IfOk result (FetchHasHeard J.judges self.old self.new answer) }
@@ -203,7 +203,7 @@ impl<J: Judge> Fetch<J> {
         Ok(block)
     }
 
-    /// Hears what was answered in that state: how the fetch then stands, and the block that a get brought. The error is want of
+    /// Hears what was answered in that state: how the fetch then stands, and the block that a get brought. The error is: out of
     /// memory.
     fn hear(
         &self,
@@ -223,7 +223,7 @@ impl<J: Judge> Fetch<J> {
         }
     }
 
-    /// What is wanted in that state, and how the fetch then stands. The error is want of memory.
+    /// What is wanted in that state, and how the fetch then stands. The error is: out of memory.
     fn go_on(&self, state: State<J>) -> Result<(State<J>, Want<Fetched>), Memory>
         requires { IsSound self.now.judge self.now.replicas state }
         ensures { IfOk result (WantsNext J.judges self.now state) }
@@ -236,7 +236,7 @@ impl<J: Judge> Fetch<J> {
         }
     }
 
-    /// Begins a get of what is wanted, where something is. The error is want of memory.
+    /// Begins a get of what is wanted, where something is. The error is: out of memory.
     fn begin(&self, gather: Gather) -> Result<(State<J>, Want<Fetched>), Memory>
         ensures { IfOk result (WantsNext J.judges self.now (State.Free gather)) }
     {
@@ -244,7 +244,7 @@ impl<J: Judge> Fetch<J> {
         self.begin_with(gather, first)
     }
 
-    /// Goes on with the get of what is wanted, or gives the result where nothing is. The error is want of memory.
+    /// Goes on with the get of what is wanted, or gives the result where nothing is. The error is: out of memory.
     fn begin_with(
         &self,
         gather: Gather,
@@ -259,7 +259,7 @@ impl<J: Judge> Fetch<J> {
         }
     }
 
-    /// The result, where nothing more is wanted. The error is want of memory.
+    /// The result, where nothing more is wanted. The error is: out of memory.
     fn done(&self, gather: Gather) -> Result<(State<J>, Want<Fetched>), Memory>
         requires { gather.stage ≡ Stage.Through }
         ensures { IfOk result (WantsNext J.judges self.now (State.Free gather)) }
@@ -267,7 +267,7 @@ impl<J: Judge> Fetch<J> {
         Ok((State::Over, Want::Done(finish(gather)?)))
     }
 
-    /// Asks the first ask of a get, or ends the fetch where there is none. The error is want of memory.
+    /// Asks the first ask of a get, or ends the fetch where there is none. The error is: out of memory.
     fn begun(
         &self,
         gather: Gather,
@@ -285,7 +285,7 @@ impl<J: Judge> Fetch<J> {
         }
     }
 
-    /// The get of what is wanted with its first ask, where something is wanted. The error is want of memory.
+    /// The get of what is wanted with its first ask, where something is wanted. The error is: out of memory.
     fn first(&self, gather: &Gather) -> Result<Option<Progress<J>>, Memory>
         ensures { IfOk result (BeginsFor J.judges self.now.judge self.now.replicas self.now.entries gather.now.stage) }
     {
@@ -295,7 +295,7 @@ impl<J: Judge> Fetch<J> {
         }
     }
 
-    /// A get of what is wanted, where something is. The error is want of memory.
+    /// A get of what is wanted, where something is. The error is: out of memory.
     fn get_for(&self, gather: &Gather) -> Result<Option<Get<J>>, Memory>
         ensures { IfOk result (GetsFor J.judges self.now.judge self.now.replicas self.now.entries gather.now.stage) }
     {
@@ -327,7 +327,7 @@ fn ask<J: Judge>(gather: Gather, waiting: Waiting<J>) -> (State<J>, Want<Fetched
 }
 
 /// Gathers what a get brought: then no get is on its way, or something couldn't be had. A block is handed out with its
-/// name. The error is want of memory.
+/// name. The error is: out of memory.
 fn stand<J: Judge>(
     alloc: Global,
     mut gather: Gather,
@@ -343,7 +343,7 @@ fn stand<J: Judge>(
     }
 }
 
-/// Gathers what a get brought. The error is want of memory.
+/// Gathers what a get brought. The error is: out of memory.
 fn take(alloc: Global, gather: &mut Gather, came: Came) -> Result<Step, Memory>
     requires { IsWantedKind gather.old.stage came }
     ensures { IfOk result (Takes gather.old came gather.new) }
@@ -354,7 +354,7 @@ fn take(alloc: Global, gather: &mut Gather, came: Came) -> Result<Step, Memory>
     }
 }
 
-/// Gathers the heads that a get brought. The error is want of memory.
+/// Gathers the heads that a get brought. The error is: out of memory.
 fn take_heads(
     alloc: Global,
     gather: &mut Gather,
@@ -372,7 +372,7 @@ fn take_heads(
     }
 }
 
-/// Gathers the block that a get brought, and hands it out. The error is want of memory.
+/// Gathers the block that a get brought, and hands it out. The error is: out of memory.
 fn take_block(
     alloc: Global,
     gather: &mut Gather,
@@ -402,7 +402,7 @@ fn miss_in(came: Came) -> Miss
     }
 }
 
-/// What a fetch gives that ends since something needed couldn't be had. The error is want of memory.
+/// What a fetch gives that ends since something needed couldn't be had. The error is: out of memory.
 fn fail(gather: Gather, miss: Miss) -> Result<Fetched, Memory>
     ensures { IfOk result (FailsWith gather miss) }
 {
@@ -414,7 +414,7 @@ fn fail(gather: Gather, miss: Miss) -> Result<Fetched, Memory>
     })
 }
 
-/// What a fetch gives where all members are through. The error is want of memory.
+/// What a fetch gives where all members are through. The error is: out of memory.
 fn finish(gather: Gather) -> Result<Fetched, Memory>
     requires { gather.stage ≡ Stage.Through }
     ensures { IfOk result (Finishes gather) }

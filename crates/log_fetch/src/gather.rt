@@ -22,7 +22,7 @@ use std::mem;
 use version_vectors::Vector;
 use view_blocks::View;
 
-/// What is wanted of the member under way.
+/// What is wanted of the member in progress.
 #[derive(Drop)]
 pub(crate) enum Stage {
     /// The heads of that owner's log.
@@ -79,7 +79,7 @@ impl Model for Gather {
 }
 
 impl Gather {
-    /// The fetch for that standing, over what it holds. The error is want of memory.
+    /// The fetch for that standing, over what it holds. The error is: out of memory.
     pub(crate) fn start(alloc: Global, standing: &Standing) -> Result<Gather, Memory>
         ensures known { IfOk result (λ gather. gather.known ≡ known_of standing.now) }
         ensures started { IfOk result (Gathers standing.now.held []) }
@@ -126,7 +126,7 @@ impl Gather {
         }
     }
 
-    /// Takes the heads that are wanted. The error is want of memory; nothing more is wanted after it.
+    /// Takes the heads that are wanted. The error is: out of memory; nothing more is wanted after it.
     pub(crate) fn take_heads(&mut self, alloc: Global, heads: &Heads) -> Result<(), Memory>
         requires { heads_wanted self.old.stage ≢ None }
         ensures known { OnOk result (self.new.known ≡ self.old.known) }
@@ -146,7 +146,7 @@ impl Gather {
         go_to(&self.known, &mut self.passed, &mut self.stage, stage)
     }
 
-    /// Takes the block that is wanted. The error is want of memory; nothing more is wanted after it.
+    /// Takes the block that is wanted. The error is: out of memory; nothing more is wanted after it.
     pub(crate) fn take_block(&mut self, alloc: Global, bytes: &[u8]) -> Result<(), Memory>
         requires { block_wanted self.old.stage ≢ None }
         ensures known { OnOk result (self.new.known ≡ self.old.known) }
@@ -160,7 +160,8 @@ impl Gather {
         go_to(&self.known, &mut self.passed, &mut self.stage, stage)
     }
 
-    /// What was brought, and what is noted of the logs, that of the one under way too. The error is want of memory.
+    /// What was brought, and what is noted of the logs, that of the one in progress too. The error is: out of
+    /// memory.
     pub(crate) fn into_parts(self) -> Result<(Batch, Notes), Memory>
         ensures given { IfOk result (GivesBack self) }
         ensures legal { IsGathering self }
@@ -176,7 +177,7 @@ impl Gather {
 }
 
 impl Known {
-    /// What a fetch for that standing goes by. The error is want of memory.
+    /// What a fetch for that standing goes by. The error is: out of memory.
     fn of(alloc: Global, standing: &Standing) -> Result<Known, Memory>
         ensures { IfOk result (λ known. known ≡ known_of standing.now) }
     {
@@ -190,7 +191,7 @@ impl Known {
 }
 
 impl Passed {
-    /// No member yet, over what the standing holds. The error is want of memory.
+    /// No member yet, over what the standing holds. The error is: out of memory.
     fn none(alloc: Global, standing: &Standing) -> Result<Passed, Memory>
         ensures { IfOk result (λ passed. passed ≡ none_passed standing.now.held standing.now.floor) }
     {
@@ -202,7 +203,7 @@ impl Passed {
     }
 }
 
-/// Goes to that stage; for want of memory to the end.
+/// Goes to that stage; when out of memory to the end.
 fn go_to(
     known: &Known,
     passed: &mut Passed,
@@ -227,7 +228,7 @@ fn go_to(
     }
 }
 
-/// Goes on from the heads of the owner's log, which were wanted. The error is want of memory.
+/// Goes on from the heads of the owner's log, which were wanted. The error is: out of memory.
 fn after_heads(
     alloc: Global,
     known: &Known,
@@ -245,7 +246,7 @@ fn after_heads(
     }
 }
 
-/// Goes on from a block of the log under way, which was wanted. The error is want of memory.
+/// Goes on from a block of the log in progress, which was wanted. The error is: out of memory.
 fn after_block(
     alloc: Global,
     known: &Known,
@@ -264,7 +265,7 @@ fn after_block(
     }
 }
 
-/// Goes to the next member of which something is wanted. The error is want of memory.
+/// Goes to the next member of which something is wanted. The error is: out of memory.
 fn advance(alloc: Global, known: &Known, passed: &mut Passed) -> Result<Stage, Memory>
     requires { IsPassing known.now passed.old }
     ensures advances { IfOk result (Advances known.now passed.old passed.new) }
@@ -282,7 +283,7 @@ fn advance(alloc: Global, known: &Known, passed: &mut Passed) -> Result<Stage, M
     Ok(Stage::Through)
 }
 
-/// Begins with the owner's log, whose heads these are: a block is wanted, or the log is through. The error is want of
+/// Begins with the owner's log, whose heads these are: a block is wanted, or the log is through. The error is: out of
 /// memory.
 fn begin_log(
     alloc: Global,
@@ -309,7 +310,7 @@ fn begin_log(
     pass(passed, owner, settled)
 }
 
-/// Goes on with the owner's log, of which a block was wanted, with that block. The error is want of memory.
+/// Goes on with the owner's log, of which a block was wanted, with that block. The error is: out of memory.
 fn go_on_log(
     alloc: Global,
     known: &Known,
@@ -336,7 +337,7 @@ fn go_on_log(
     pass(passed, owner, settled)
 }
 
-/// Takes how the owner's log stands: a block is wanted of it, or it is through. The error is want of memory.
+/// Takes how the owner's log stands: a block is wanted of it, or it is through. The error is: out of memory.
 fn pass(passed: &mut Passed, owner: &PubKey, settled: Settled) -> Result<Option<Trial>, Memory>
     requires { passed.old.at < most_members }
     ensures passes { IfOk result (PassesAs passed.old passed.new owner.now settled) }
@@ -354,7 +355,8 @@ fn pass(passed: &mut Passed, owner: &PubKey, settled: Settled) -> Result<Option<
     }
 }
 
-/// Notes why the first head of the log under way was passed over, where one was. The error is want of memory.
+/// Notes why the first head of the log in progress was passed over, where one was. The error is: out of
+/// memory.
 fn note_at(known: &Known, passed: &mut Passed, stage: &Stage) -> Result<(), Memory>
     requires { IsGathering (gathering_of known.now passed.old stage.now) }
     ensures { OnOk result (passed.new ≡ record passed.old { notes = passed.old.notes ++ noted_at stage.now }) }
@@ -368,7 +370,7 @@ fn note_at(known: &Known, passed: &mut Passed, stage: &Stage) -> Result<(), Memo
     }
 }
 
-/// Notes why the first of the log's heads was passed over, where one was. The error is want of memory.
+/// Notes why the first of the log's heads was passed over, where one was. The error is: out of memory.
 fn note(notes: &mut Notes, owner: &PubKey, fault: Option<ChainFault>) -> Result<(), Memory>
     ensures { OnOk result (notes.new ≡ notes.old ++ noted_for (head_key_of owner.now) fault) }
 {

@@ -50,7 +50,7 @@ pub enum Progress<J: Judge> {
 
 impl<J: Judge> Get<J> {
     /// A get of the heads of the owner's log that begins its look-up at these nodes and is content with that many answers.
-    /// The error is want of memory.
+    /// The error is: out of memory.
     pub fn heads(
         alloc: Global,
         judge: J,
@@ -64,14 +64,14 @@ impl<J: Judge> Get<J> {
         Ok(Get::Heads(owner, GetHead::start(alloc, judge, key, replicas, entries)?))
     }
 
-    /// A get of the content block of that name, likewise. The error is want of memory.
+    /// A get of the content block of that name, likewise. The error is: out of memory.
     pub fn block(alloc: Global, key: Key, replicas: u32, entries: &Peers) -> Result<Get<J>, Memory>
         ensures { IfOk result (λ get. get ≡ Get.Block (block_begun key replicas entries.now)) }
     {
         Ok(Get::Block(GetBlock::start(alloc, key, replicas, entries)?))
     }
 
-    /// What the get wants next: an ask, or nothing more, since it has its result. The error is want of memory; the get
+    /// What the get wants next: an ask, or nothing more, since it has its result. The error is: out of memory; the get
     /// isn't used after it, nor after its result.
     pub fn next(&mut self) -> Result<Want<Came>, Memory>
         ensures wanted { IfOk result (λ want. GetIsWanted J.judges self.old self.new want) }
@@ -90,7 +90,7 @@ impl<J: Judge> Get<J> {
         }
     }
 
-    /// Hears what the node answered that was asked last. It is called once after each ask. The error is want of memory;
+    /// Hears what the node answered that was asked last. It is called once after each ask. The error is: out of memory;
     /// the get isn't used after it.
     pub fn heard(&mut self, answer: Answer) -> Result<(), Memory>
         requires { get_awaited self.old ≢ None }
@@ -103,7 +103,7 @@ impl<J: Judge> Get<J> {
         }
     }
 
-    /// Goes on to the next ask, where there is one. The error is want of memory.
+    /// Goes on to the next ask, where there is one. The error is: out of memory.
     pub fn go_on(mut self) -> Result<Progress<J>, Memory>
         ensures { IfOk result (GoesTo J.judges self) }
     {
@@ -117,7 +117,7 @@ impl<J: Judge> Get<J> {
         }
     }
 
-    /// Hears what the node answered that was asked last, and goes on to the next ask, where there is one. The error is want
+    /// Hears what the node answered that was asked last, and goes on to the next ask, where there is one. The error is: out
     /// of memory.
     pub fn hear(mut self, answer: Answer) -> Result<Progress<J>, Memory>
         requires { get_awaited self ≢ None }
@@ -129,7 +129,7 @@ impl<J: Judge> Get<J> {
 }
 
 impl<J: Judge> Waiting<J> {
-    /// Hears what the node answered, and goes on to the next ask, where there is one. The error is want of memory.
+    /// Hears what the node answered, and goes on to the next ask, where there is one. The error is: out of memory.
     pub fn hear(self, answer: Answer) -> Result<Progress<J>, Memory>
         requires { get_awaited self.get ≢ None }
         ensures { IfOk result (HearsTo J.judges self.get answer) }

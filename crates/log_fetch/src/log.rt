@@ -18,7 +18,7 @@ use version_vectors::Vector;
 use view_blocks::View;
 
 /// Begins with the owner's log, whose heads these are, over what the batch started from and with its floor: a block is
-/// wanted, or the log is through. The error is want of memory.
+/// wanted, or the log is through. The error is: out of memory.
 pub fn open(
     alloc: Global,
     view: &View,
@@ -44,7 +44,7 @@ pub fn open(
     }
 }
 
-/// Goes on with the owner's log, of which a block was wanted, with that block. The error is want of memory.
+/// Goes on with the owner's log, of which a block was wanted, with that block. The error is: out of memory.
 pub fn go_on(
     alloc: Global,
     view: &View,

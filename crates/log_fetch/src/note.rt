@@ -58,7 +58,7 @@ impl Notes {
         Notes { notes: items }
     }
 
-    /// Adds a note behind the others. The error is want of memory.
+    /// Adds a note after the others. The error is: out of memory.
     pub fn push(&mut self, note: Note) -> Result<(), Memory>
         ensures { OnOk result (self.new ≡ self.old ++ note ∷ []) }
     {

@@ -13,8 +13,8 @@ use std::alloc::Global;
 use std::collections::VecDeque;
 use version_vectors::Vector;
 
-/// The heads of a log that go further than the floor, each once, by greatest number and then least name, and behind them
-/// the floor's entry, where that goes further than what is held. The error is want of memory.
+/// The heads of a log that go further than the floor, each once, by greatest number and then least name, and after them
+/// the floor's entry, where that goes further than what is held. The error is: out of memory.
 pub fn heads_to_try(
     alloc: Global,
     heads: &[Judged],
@@ -42,7 +42,7 @@ pub fn heads_to_try(
     Ok(VecDeque::from(tried))
 }
 
-/// Takes a head in at its place among others, where it doesn't stand yet. The error is want of memory.
+/// Takes a head in at its place among others, where it doesn't stand yet. The error is: out of memory.
 fn take_in(tried: &mut Vec<Judged>, head: &Judged) -> Result<(), Memory>
     requires { InTryingOrder (map stamp_of tried.old.items) }
     ensures { OnOk result (HasOneMore (map stamp_of tried.old.items) (stamp_of head.now) (map stamp_of tried.new.items)) }

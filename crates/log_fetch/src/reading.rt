@@ -18,7 +18,7 @@ pub(crate) enum Reading {
     Garbled,
 }
 
-/// What the block says as one of the owner's records. The error is want of memory.
+/// What the block says as one of the owner's records. The error is: out of memory.
 pub(crate) fn read(alloc: Global, bytes: &[u8], owner: &PubKey) -> Result<Reading, Memory>
     ensures { IfOk result (Says owner.now bytes.now) }
 {

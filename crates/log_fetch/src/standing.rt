@@ -16,7 +16,7 @@ pub struct Standing {
     pub held: Vector,
     /// The front of all that it has known; it dominates `held`.
     pub floor: Vector,
-    /// What is known of the newest held records that are at hand.
+    /// What is known of the newest held records that are available.
     pub edges: Edges,
     /// The snapshot that is to be loaded before, where there is one, by the name of its root block.
     pub basis: Option<Key>,

@@ -71,7 +71,7 @@ impl Trial {
         self.fault
     }
 
-    /// Takes the block that is wanted. The error is want of memory; the trial isn't used after it.
+    /// Takes the block that is wanted. The error is: out of memory; the trial isn't used after it.
     pub fn give(&mut self, alloc: Global, bytes: &[u8]) -> Result<(), Memory>
         requires { self.old.walk.left ≢ 0 }
         ensures told { IfOk result (λ _. HasBeenTold self.old self.new bytes.now) }
@@ -84,7 +84,7 @@ impl Trial {
     }
 
     /// Tests the records of the present head, whose walk is over, and adds them to the batch where they are a chain that
-    /// goes on from what is held. The error is want of memory.
+    /// goes on from what is held. The error is: out of memory.
     pub fn conclude(
         self,
         alloc: Global,
@@ -121,7 +121,7 @@ impl Trial {
     }
 
     /// Tests the walks that are over, one head after the other, until a block is wanted or the log is through. The error
-    /// is want of memory.
+    /// is: out of memory.
     pub fn settle(
         self,
         alloc: Global,
@@ -155,7 +155,7 @@ pub enum Settled {
     Over(Option<ChainFault>),
 }
 
-/// A copy of what is known of a record. The error is want of memory.
+/// A copy of what is known of a record. The error is: out of memory.
 fn copy_of(alloc: Global, edge: &Option<Edge>) -> Result<Option<Edge>, Memory>
     ensures { IfOk result (λ copy. copy ≡ edge.now) }
 {
@@ -172,7 +172,7 @@ fn first_fault(before: Option<ChainFault>, fault: ChainFault) -> Option<ChainFau
     before.or(Some(fault))
 }
 
-/// The first of these heads, behind one that was passed over with that fault, where there was one.
+/// The first of these heads, after one that was passed over with that fault, where there was one.
 fn next(
     alloc: Global,
     owner: PubKey,
@@ -194,7 +194,7 @@ fn next(
     })
 }
 
-/// Adds the chain to the batch, or says why it isn't one. The error is want of memory.
+/// Adds the chain to the batch, or says why it isn't one. The error is: out of memory.
 fn take(
     alloc: Global,
     view: &View,

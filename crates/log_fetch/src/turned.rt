@@ -31,7 +31,7 @@ impl Drop for Turned {
     }
 }
 
-/// Why a turn answered nothing. What begins anew has the agent's standing then, without a snapshot.
+/// Why a turn answered nothing. What begins again has the agent's standing then, without a snapshot.
 #[derive(Drop, Error)]
 pub enum TurnFault {
     /// The refresh began with more than is held by now, or the record of a member's log that the floor names is neither held
@@ -41,7 +41,7 @@ pub enum TurnFault {
     /// A new record isn't above the basis. Nothing is held any more.
     #[error("a new record isn't above the basis")]
     BelowTide(Standing),
-    /// Want of memory. No clause ties this to a cause.
+    /// Out of memory. No clause ties this to a cause.
     #[error("there is no memory left")]
     Memory,
 }

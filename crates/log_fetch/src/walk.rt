@@ -59,7 +59,7 @@ impl Walk {
         if self.left > 0 { Some(self.next) } else { None }
     }
 
-    /// Takes the block that is wanted. The error is want of memory; the walk isn't used after it.
+    /// Takes the block that is wanted. The error is: out of memory; the walk isn't used after it.
     pub fn give(&mut self, alloc: Global, bytes: &[u8]) -> Result<(), Memory>
         requires { self.old.left ≢ 0 }
         ensures given { IfOk result (λ _. HasBeenGiven self.old self.new bytes.now) }
@@ -95,7 +95,7 @@ impl Walk {
     }
 }
 
-/// Keeps one record more, which is the oldest. The error is want of memory.
+/// Keeps one record more, which is the oldest. The error is: out of memory.
 fn keep(found: &mut Option<Vec<Record>>, oldest: Record) -> Result<(), Memory>
     ensures kept { OnOk result (kept_of found.new ≡ kept_with (kept_of found.old) (record_of oldest)) }
     ensures owned { AreOwned oldest.owner (kept_of found.old) → AreOwned oldest.owner (kept_of found.new) }

@@ -16,7 +16,7 @@ use Rattle.wire_model.specs.Xdr.{word, padding, opaque}
 use Rattle.wire_model.proofs.OneReading.{whole}
 use Rattle.log_model.specs.Vector.{Stamp}
 use Rattle.log_model.specs.Spelling.{IsBlock, most_records, head_message, head_block, IsHeadOf, head_tag}
-use Rattle.log_model.specs.Heads.{stamp, owner_in, seq_in, name_in, is_block}
+use Rattle.log_model.specs.Heads.{stamp, owner_in, seq_in, name_in, is_of_length}
 use Rattle.dht_ids.specs.declared.judge.Judged.{Judged}
 use Rattle.log_records.specs.Heads.{Parts}
 use Rattle.log_records.proofs.OneHead.{one_head}
@@ -26,7 +26,7 @@ use Rattle.hash_signature_model.proofs.Readings.{IsBytes}
 use Rattle.hss_keys.specs.Hss.{HssAccepts}
 use Rattle.hash_signature_model.specs.Levels.{hss_verdict}
 use Rattle.hss_keys.proofs.Acceptance.{hss_accepts_from, hss_yes_from}
-use Rattle.dhash_model.specs.Signed.{are_bytes, signature_in, is_head, is_yes, is_signed, is_signed_head, hss_judged}
+use Rattle.dhash_model.specs.Signed.{are_bytes, signature_in, is_head_with, is_yes, is_signed, is_signed_head, hss_judged}
 use Rattle.log_heads.specs.Signed.{IsSignedHead, SignedHeadsAreJudged}
 
 first : (a b : Bool) → (a && b) ≡ true → a ≡ true
@@ -41,10 +41,10 @@ both : (a b : Bool) → a ≡ true → b ≡ true → (a && b) ≡ true
 both true b h g = g
 both false b h g = cc
 
-block_from : (count : ℕ) (bytes : List ℕ) → is_block count bytes ≡ true → IsBlock count bytes
+block_from : (count : ℕ) (bytes : List ℕ) → is_of_length count bytes ≡ true → IsBlock count bytes
 block_from count bytes h = record { size = eqb-true (length bytes) count (first _ _ h); each = second _ _ h }
 
-block_tested : (count : ℕ) (bytes : List ℕ) → IsBlock count bytes → is_block count bytes ≡ true
+block_tested : (count : ℕ) (bytes : List ℕ) → IsBlock count bytes → is_of_length count bytes ≡ true
 block_tested count bytes f = both _ _ (eq-eqb (length bytes) count f.size) f.each
 
 same_key : (a b : Key) → bytes_eq a.0 b.0 ≡ true → a ≡ b
@@ -80,25 +80,25 @@ signature_bytes bytes signed signature octets e =
 
 -- ---- the tests
 
-from_tests : (bytes : List ℕ) (owner : PubKey) (seq : ℕ) (name : Key) (signature : List ℕ) → is_head bytes owner seq name signature ≡ true → (are_bytes bytes ≡ true) × IsHeadOf owner bytes (stamp seq name) signature
+from_tests : (bytes : List ℕ) (owner : PubKey) (seq : ℕ) (name : Key) (signature : List ℕ) → is_head_with bytes owner seq name signature ≡ true → (are_bytes bytes ≡ true) × IsHeadOf owner bytes (stamp seq name) signature
 from_tests bytes owner seq name signature h =
     let six = first _ (bytes_eq bytes (head_block owner (stamp seq name) signature)) h in
     let five = first _ (are_bytes bytes) six in
     let four = first _ (nat_le (length signature) 16000) five in
-    let three = first _ (is_block 20 name.0) four in
+    let three = first _ (is_of_length 20 name.0) four in
     let two = first _ (nat_le seq most_records) three in (
       second _ (are_bytes bytes) six,
       record {
         owner_is_key = block_from 60 owner.0 (first _ (nat_le 1 seq) two);
-        some = leb-true 1 seq (second (is_block 60 owner.0) (nat_le 1 seq) two);
+        some = leb-true 1 seq (second (is_of_length 60 owner.0) (nat_le 1 seq) two);
         few = leb-true seq most_records (second _ (nat_le seq most_records) three);
-        name = block_from 20 name.0 (second _ (is_block 20 name.0) four);
+        name = block_from 20 name.0 (second _ (is_of_length 20 name.0) four);
         short = leb-true (length signature) 16000 (second _ (nat_le (length signature) 16000) five);
         spelled = (bytes_eq-Decides bytes (head_block owner (stamp seq name) signature)).0 (second _ (bytes_eq bytes (head_block owner (stamp seq name) signature)) h);
       },
     )
 
-to_tests : (bytes : List ℕ) (owner : PubKey) (seq : ℕ) (name : Key) (signature : List ℕ) → are_bytes bytes ≡ true → IsHeadOf owner bytes (stamp seq name) signature → is_head bytes owner seq name signature ≡ true
+to_tests : (bytes : List ℕ) (owner : PubKey) (seq : ℕ) (name : Key) (signature : List ℕ) → are_bytes bytes ≡ true → IsHeadOf owner bytes (stamp seq name) signature → is_head_with bytes owner seq name signature ≡ true
 to_tests bytes owner seq name signature octets f =
     both _ _ (both _ _ (both _ _ (both _ _ (both _ _ (both _ _ (block_tested 60 owner.0 f.owner_is_key) (le-leb 1 seq f.some)) (le-leb seq most_records f.few)) (block_tested 20 name.0 f.name))
     (le-leb (length signature) 16000 f.short)) octets) ((bytes_eq-Decides bytes (head_block owner (stamp seq name) signature)).1 f.spelled)
@@ -135,12 +135,12 @@ message_length owner seq name l k =
 signature_there : (signed signature : List ℕ) → length signed ≡ 88 → length signature ≤ 16000 → signature_in (signed ++ opaque signature) ≡ signature
 signature_there signed signature l h =
     let n = length signature in
-    let behind = signature ++ padding n in
+    let after = signature ++ padding n in
     let four : length (word n) ≡ 4 = refl in
     let size : length (signed ++ word n) ≡ 92 = omega (arith, length-append signed (word n), four, l) in
     let count : from_be_bytes w32 (take 4 (drop 88 (signed ++ opaque signature))) ≡ n =
     ap (λ (s : List ℕ). from_be_bytes w32 (take 4 s)) (drop_at signed (opaque signature) 88 l) ∙ from_be_bytes-to_be_bytes_4 n (omega (arith, h)) in
-    let there : drop 92 (signed ++ opaque signature) ≡ behind = ap (drop 92) (sym (append_assoc signed (word n) behind)) ∙ drop_at (signed ++ word n) behind 92 size in
+    let there : drop 92 (signed ++ opaque signature) ≡ after = ap (drop 92) (sym (append_assoc signed (word n) after)) ∙ drop_at (signed ++ word n) after 92 size in
     ap (λ (m : ℕ). take m (drop 92 (signed ++ opaque signature))) count ∙ ap (take n) there ∙ take_at signature (padding n) n refl
 
 same_tests : (key : Key) (bytes : List ℕ) (o w : PubKey) (m n : ℕ) (a b : Key) (s t : List ℕ) → o ≡ w → m ≡ n → a ≡ b → s ≡ t → is_signed key bytes o m a s ≡ is_signed key bytes w n b t

@@ -29,7 +29,7 @@ pub struct Head {
 }
 
 impl Head {
-    /// The head's block. The error is want of memory.
+    /// The head's block. The error is: out of memory.
     pub fn write(&self, alloc: Global) -> Result<Bytes, Memory>
         ensures { IfOk result (λ block. block ≡ head_block self.now.owner (stamp self.now.seq self.now.name) self.now.signature) }
     {
@@ -79,7 +79,7 @@ fn message_of(owner: &PubKey, seq: u32, name: &Key) -> [u8; 88]
     joined(&front_of(owner), &record_of(seq, name))
 }
 
-/// The front with the back behind it.
+/// The front with the back after it.
 fn joined(front: &[u8; 64], back: &[u8; 24]) -> [u8; 88]
     ensures { result ≡ front.now ++ back.now }
 {

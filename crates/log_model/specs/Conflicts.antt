@@ -36,7 +36,7 @@ clash_of r s = record { first = rank r; second = rank s; bytes = share_bytes r.o
 abbrev pub clash_with : Record → Record → List Clash
 clash_with r s = if in_conflict r s then clash_of r s ∷ [] else []
 
--- of each record the clashes with those behind it
+-- of each record the clashes with those after it
 abbrev pub clashes : List Record → List Clash
 clashes [] = []
 clashes (r ∷ rs) = flat_map (clash_with r) rs ++ clashes rs

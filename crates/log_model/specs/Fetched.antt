@@ -45,25 +45,25 @@ GoesOnFrom view held edge [] = Unit {0}
 GoesOnFrom view held edge (r ∷ rs) = IsGood view r.owner r × MayBeNext held r × KnowsEdge held edge r × GoesOn view r.owner r rs
 
 -- the newest record is the stamp's
-abbrev pub EndsAt : Stamp → List Record → Type 0
-EndsAt t chain = (before : List Record) × (last : Record) × (chain ≡ before ++ last ∷ []) × ((own_entry last).1 ≡ t)
+abbrev pub EndsAtStamp : Stamp → List Record → Type 0
+EndsAtStamp t chain = (before : List Record) × (last : Record) × (chain ≡ before ++ last ∷ []) × ((own_entry last).1 ≡ t)
 
 -- the records keep the rules, up to the head's record
 pub record IsSound (view : View) (held : Vector) (edge : Option Edge) (head : Stamp) (chain : List Record) : Type 0 where
   pub goes_on : GoesOnFrom view (stamp_in held chain) edge chain
-  pub ends : EndsAt head chain
+  pub ends : EndsAtStamp head chain
 
 -- ---- of which history of its log a chain is
 
 -- the record names the stamp's as the one before it, where there is one
-abbrev pub Names : Option Stamp → Record → Type 0
-Names None r = Unit {0}
-Names (Some t) r = r.prev ≡ t.name
+abbrev pub NamesPrevious : Option Stamp → Record → Type 0
+NamesPrevious None r = Unit {0}
+NamesPrevious (Some t) r = r.prev ≡ t.name
 
 -- the oldest record does, where there are some
 abbrev pub OldestNames : Option Stamp → List Record → Type 0
 OldestNames held [] = Unit {0}
-OldestNames held (r ∷ rs) = Names held r
+OldestNames held (r ∷ rs) = NamesPrevious held r
 
 -- the stamp's record is one of them
 abbrev pub HasRecord : Stamp → List Record → Type 0
@@ -79,7 +79,7 @@ pub record IsOnward (held floor : Vector) (chain : List Record) : Type 0 where
   pub names : OldestNames (stamp_in held chain) chain
   pub passes : PassesFloor (stamp_in floor chain) (reach (stamp_in held chain)) chain
 
--- why a chain isn't taken. Want of memory isn't tied to a cause
+-- why a chain isn't taken. Running out of memory isn't tied to a cause
 abbrev pub ChainFails : View → Vector → Vector → Stamp → Option Edge → List Record → ChainFault → Type 0
 ChainFails view held floor head edge chain Bad = IsSound view held edge head chain → ⊥
 ChainFails view held floor head edge chain Fork = IsSound view held edge head chain × (IsOnward held floor chain → ⊥)

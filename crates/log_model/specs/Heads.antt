@@ -23,5 +23,5 @@ abbrev pub name_in : List ℕ → Key
 name_in bytes = record { 0 = take 20 (drop 68 bytes) }
 
 -- they are so many bytes
-abbrev pub is_block : ℕ → List ℕ → Bool
-is_block count bytes = nat_eq (length bytes) count && list_all (λ b. nat_lt b 256) bytes
+abbrev pub is_of_length : ℕ → List ℕ → Bool
+is_of_length count bytes = nat_eq (length bytes) count && list_all (λ b. nat_lt b 256) bytes

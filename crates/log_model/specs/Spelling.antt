@@ -63,14 +63,14 @@ format_digit Two = 50
 abbrev pub record_tag : Format → List ℕ
 record_tag format = 73 ∷ 86 ∷ 82 ∷ format_digit format ∷ []
 
--- the block of the record of that number behind the one of that name: the tag, the parts that each record has, and the operation's own
-abbrev pub block_of : Heading → ℕ → Key → Op → List ℕ
-block_of h seq prev op =
+-- the block of the record of that number after the one of that name: the tag, the parts that each record has, and the operation's own
+abbrev pub block_of_record : Heading → ℕ → Key → Op → List ℕ
+block_of_record h seq prev op =
     record_tag h.format ++ word (record_kind op) ++ (head_key_of h.owner).0 ++ prev.0 ++ word seq ++ moment h.moment
     ++ array vector_entry h.vector ++ body op
 
 abbrev pub record_block : Record → List ℕ
-record_block r = block_of (heading_of r) r.seq r.prev r.op
+record_block r = block_of_record (heading_of r) r.seq r.prev r.op
 
 -- that record, under the name of its block
 abbrev pub new_record : Heading → ℕ → Key → Op → Record
@@ -82,7 +82,7 @@ new_record h seq prev op = record {
   moment = h.moment;
   op = op;
   format = h.format;
-  name = name (block_of h seq prev op);
+  name = name (block_of_record h seq prev op);
 }
 
 -- ---- which records have a spelling

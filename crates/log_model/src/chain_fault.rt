@@ -10,7 +10,7 @@ pub enum ChainFault {
     /// The records are of another history of the log than what is held, or than the floor.
     #[error("the records are of another history of the log")]
     Fork,
-    /// Want of memory. No clause ties this to a cause.
+    /// Out of memory. No clause ties this to a cause.
     #[error("out of memory")]
     Memory,
 }

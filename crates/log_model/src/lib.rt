@@ -16,7 +16,7 @@
 
 mod chain_fault;
 
-ghost use Rattle.log_model.specs.Laws.{OpeningIsClosed, ClosedPartIsOne, PartIsLargest, UnionIsClosed, LaterRecordsApply, FrontOutweighs, RecordsMakeKeys};
+ghost use Rattle.log_model.specs.Laws.{OpeningIsClosed, ClosedPartIsUnique, PartIsLargest, UnionIsClosed, LaterRecordsApply, FrontOutweighs, RecordsMakeKeys};
 
 pub use chain_fault::ChainFault;
 
@@ -28,7 +28,7 @@ pub use chain_fault::ChainFault;
 pub fn closed_sets()
     ensures opening { OpeningIsClosed }
 
-    ensures largest { ClosedPartIsOne }
+    ensures largest { ClosedPartIsUnique }
     ensures exists { PartIsLargest }
     ensures union { UnionIsClosed }
 

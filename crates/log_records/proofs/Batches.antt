@@ -11,7 +11,7 @@ use Rattle.log_model.specs.Record.{Record}
 use Rattle.log_model.specs.Rank.{own_entry, full_vector}
 use Rattle.log_model.specs.Chain.{GoesOn, IsChain, LinkedFrom}
 use Rattle.log_model.proofs.Lists.{here, there, in_nothing, each_append}
-use Rattle.log_model.specs.Fetched.{Edge, owner_of, stamp_in, as_edge, KnowsEdge, GoesOnFrom, EndsAt, OldestNames, HasRecord, IsSound, IsOnward}
+use Rattle.log_model.specs.Fetched.{Edge, owner_of, stamp_in, as_edge, KnowsEdge, GoesOnFrom, EndsAtStamp, OldestNames, HasRecord, IsSound, IsOnward}
 use Rattle.log_model.specs.Heads.{stamp}
 use Rattle.log_records.specs.Batches.{Batch, owners_in, name_or_none, Extends, AreApart, IsBatch, AreUnder}
 use Rattle.log_records.specs.BatchLaws.{ChainsBegin, ChainsGoOn}
@@ -113,7 +113,7 @@ after_held view owner p (r ∷ rs) owned g names = (
   g.3,
 )
 
-pub ends_behind : (t : Stamp) (xs ys : List Record) → EndsAt t ys → EndsAt t (xs ++ ys)
+pub ends_behind : (t : Stamp) (xs ys : List Record) → EndsAtStamp t ys → EndsAtStamp t (xs ++ ys)
 ends_behind t xs ys h = (xs ++ h.0, h.1, ap (λ (l : List Record). xs ++ l) h.2 ∙ sym (append_assoc xs h.0 (h.1 ∷ [])), h.3)
 
 pub chains_go_on : ChainsGoOn
@@ -136,7 +136,7 @@ kept_push b kept more c chain view items records is ext new =
 
 -- ---- a chain has a record exactly where a part of it in front ends at it
 
-pub passes_through : (t : Stamp) (chain : List Record) → HasRecord t chain → (front : List Record) × (rest : List Record) × (chain ≡ front ++ rest) × EndsAt t front
+pub passes_through : (t : Stamp) (chain : List Record) → HasRecord t chain → (front : List Record) × (rest : List Record) × (chain ≡ front ++ rest) × EndsAtStamp t front
 passes_through t chain h =
     let k = h.1.0 in (
       take (k + 1) chain,
@@ -145,6 +145,6 @@ passes_through t chain h =
       (take k chain, h.0, take_more chain k h.0 h.1.1 ∙ ap (λ (r : Record). take k chain ++ r ∷ []) h.1.2, h.2),
     )
 
-pub has_passed : (t : Stamp) (front rest : List Record) → EndsAt t front → HasRecord t (front ++ rest)
+pub has_passed : (t : Stamp) (front rest : List Record) → EndsAtStamp t front → HasRecord t (front ++ rest)
 has_passed t front rest h =
     (h.1, Contains-append_left front rest h.1 (subst (λ (l : List Record). Contains l h.1) (sym h.2) (Contains-push h.0 h.1)), h.3)

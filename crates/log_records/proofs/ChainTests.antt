@@ -8,7 +8,7 @@ use Rattle.log_model.specs.View.{View}
 use Rattle.log_model.specs.Vector.{Stamp, Vector, stamp_at, seq_of}
 use Rattle.log_model.specs.Record.{Record}
 use Rattle.log_model.specs.Chain.{IsGood}
-use Rattle.log_model.specs.Fetched.{Edge, owner_of, MayBeNext, KnowsEdge, GoesOnFrom, EndsAt, Names, OldestNames, HasRecord, PassesFloor, IsSound, IsOnward}
+use Rattle.log_model.specs.Fetched.{Edge, owner_of, MayBeNext, KnowsEdge, GoesOnFrom, EndsAtStamp, NamesPrevious, OldestNames, HasRecord, PassesFloor, IsSound, IsOnward}
 use Rattle.log_model.specs.Heads.{stamp}
 use Rattle.version_vectors.specs.declared.entry.Entry.{Entry}
 use Rattle.version_vectors.specs.Entries.{entry_of}
@@ -47,7 +47,7 @@ goes_by view held edge xs x one at good next knows rest = (λ h. assemble view h
 -- ---- all of a chain
 
 pub sound_by : (view : View) (held : Vector) (edge : Option Edge) (t : Stamp) (xs : List Record) {log : Key} {b : Bool} → log ≡ head_key_of (owner_of xs)
-    → GoesOnFrom view (stamp_at held log) edge xs → IsTrue b ↔ EndsAt t xs → IsTrue b ↔ IsSound view held edge t xs
+    → GoesOnFrom view (stamp_at held log) edge xs → IsTrue b ↔ EndsAtStamp t xs → IsTrue b ↔ IsSound view held edge t xs
 sound_by view held edge t xs is goes ends =
     (λ h. record { goes_on = subst (λ (k : Key). GoesOnFrom view (stamp_at held k) edge xs) is goes; ends = ends.0 h }, λ s. ends.1 s.ends)
 
@@ -58,34 +58,34 @@ unsound_by view held edge t xs is fails goes =
 
 -- ---- of which history it is
 
-named_oldest : (held : Option Stamp) (xs : List Record) (x : Record) → AreOfOneOwner xs → HasAt xs 0 x → Names held x ↔ OldestNames held xs
+named_oldest : (held : Option Stamp) (xs : List Record) (x : Record) → AreOfOneOwner xs → HasAt xs 0 x → NamesPrevious held x ↔ OldestNames held xs
 named_oldest held [] x one at = absurd (one.some refl)
-named_oldest held (r ∷ rs) x one at = (λ n. subst (Names held) (sym at) n, λ n. subst (Names held) at n)
+named_oldest held (r ∷ rs) x one at = (λ n. subst (NamesPrevious held) (sym at) n, λ n. subst (NamesPrevious held) at n)
 
 pub onward_by : (held floor : Vector) (xs : List Record) (x : Record) {log : Key} {reached : ℕ} {b : Bool} → AreOfOneOwner xs → HasAt xs 0 x → log ≡ head_key_of (owner_of xs) → reached ≡ seq_of held log
-    → Names (stamp_at held log) x → IsTrue b ↔ PassesFloor (stamp_at floor log) reached xs → IsTrue b ↔ IsOnward held floor xs
+    → NamesPrevious (stamp_at held log) x → IsTrue b ↔ PassesFloor (stamp_at floor log) reached xs → IsTrue b ↔ IsOnward held floor xs
 onward_by held floor xs x {log} {b = b} one at is count names passes =
     let own = head_key_of (owner_of xs) in
-    let named : Names (stamp_at held own) x = subst (λ (k : Key). Names (stamp_at held k) x) is names in
+    let named : NamesPrevious (stamp_at held own) x = subst (λ (k : Key). NamesPrevious (stamp_at held k) x) is names in
     let counted : IsTrue b ↔ PassesFloor (stamp_at floor log) (seq_of held log) xs = subst (λ (n : ℕ). IsTrue b ↔ PassesFloor (stamp_at floor log) n xs) count passes in
     let passed : IsTrue b ↔ PassesFloor (stamp_at floor own) (seq_of held own) xs = subst (λ (k : Key). IsTrue b ↔ PassesFloor (stamp_at floor k) (seq_of held k) xs) is counted in
     (λ h. record { names = (named_oldest (stamp_at held own) xs x one at).0 named; passes = passed.0 h }, λ o. passed.1 o.passes)
 
 pub not_onward_by : (held floor : Vector) (xs : List Record) (x : Record) {log : Key} {b : Bool} → AreOfOneOwner xs → HasAt xs 0 x → log ≡ head_key_of (owner_of xs)
-    → b ≡ false → IsTrue b ↔ Names (stamp_at held log) x → IsTrue b ↔ IsOnward held floor xs
+    → b ≡ false → IsTrue b ↔ NamesPrevious (stamp_at held log) x → IsTrue b ↔ IsOnward held floor xs
 not_onward_by held floor xs x one at is fails names =
     let own = head_key_of (owner_of xs) in
-    (λ h. absurd (cc (h, fails)), λ o. names.1 (subst (λ (k : Key). Names (stamp_at held k) x) (sym is) ((named_oldest (stamp_at held own) xs x one at).1 o.names)))
+    (λ h. absurd (cc (h, fails)), λ o. names.1 (subst (λ (k : Key). NamesPrevious (stamp_at held k) x) (sym is) ((named_oldest (stamp_at held own) xs x one at).1 o.names)))
 
 pub names_by : (log : Key) (held : Option Stamp) (got : Option Entry) (e : Entry) (r : Record) {b : Bool} → got ≡ option_map (entry_of log) held → got ≡ Some e
-    → IsTrue b ↔ (r.prev ≡ e.name) → IsTrue b ↔ Names held r
+    → IsTrue b ↔ (r.prev ≡ e.name) → IsTrue b ↔ NamesPrevious held r
 names_by log None got e r made some same = absurd (cc (made, some))
 names_by log (Some t) got e r made some same =
     let entry : e ≡ entry_of log t = cc (made, some) in
     let name : e.name ≡ t.name = ap (λ (x : Entry). x.name) entry in
     (λ h. same.0 h ∙ name, λ n. same.1 (n ∙ sym name))
 
-pub none_named : (log : Key) (held : Option Stamp) (got : Option Entry) (r : Record) → got ≡ option_map (entry_of log) held → got ≡ None → IsTrue true ↔ Names held r
+pub none_named : (log : Key) (held : Option Stamp) (got : Option Entry) (r : Record) → got ≡ option_map (entry_of log) held → got ≡ None → IsTrue true ↔ NamesPrevious held r
 none_named log None got r made none = (λ h. tt, λ n. refl)
 none_named log (Some t) got r made none = absurd (cc (made, none))
 

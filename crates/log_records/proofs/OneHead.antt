@@ -14,7 +14,7 @@ use Rattle.log_model.specs.Spelling.{IsBlock, IsKey, IsHeadOf, head_tag}
 use Rattle.log_model.specs.Heads.{stamp}
 use Rattle.block_parts.specs.Parts.{constant_bytes, as_it_stands, key_bytes}
 use Rattle.log_records.specs.Heads.{IsNumber, Parts, IsHead, head_bytes}
-use Rattle.log_records.specs.Laws.{HeadsAreOne}
+use Rattle.log_records.specs.Laws.{HeadsAreUnambiguous}
 use Rattle.block_parts.proofs.Constants.{one_constant}
 use Rattle.block_parts.proofs.OneParts.{one_block, one_key}
 use Rattle.log_records.specs.Shapes.{IsKeyLong}
@@ -70,7 +70,7 @@ parts_in p = ((record { 0 = p.0.0.0.1 }, stamp p.0.0.1 p.0.1), p.1)
 chain_fits : (p : Parts) → IsHead p → IsFive (chain p)
 chain_fits p f = ((((tt, f.0), f.1), f.2), f.3)
 
-pub one_head : HeadsAreOne
+pub one_head : HeadsAreUnambiguous
 one_head = of_parts chain chain_fits (λ p. refl) (λ p q e. ap parts_in e) one_five
 
 -- ---- reading

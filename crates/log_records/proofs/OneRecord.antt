@@ -4,7 +4,7 @@ use Rattle.ivy_base.specs.declared.key.Key.{Key}
 use Rattle.ivy_base.specs.declared.key.PubKey.{PubKey}
 use Rattle.ivy_base.specs.declared.operation.Op.{Op}
 use Rattle.ivy_base.specs.declared.operation.Op.TheVariants as op
-use Rattle.ivy_base.specs.Naming.{name, head_key_of, NamesTellApart}
+use Rattle.ivy_base.specs.Naming.{name, head_key_of, IsCollisionFree}
 use Rattle.wire_model.specs.OneReading.{ReadsOne, IsFront}
 use Rattle.wire_model.proofs.OneReading.{whole}
 use Rattle.log_model.specs.Vector.{stamp_at}
@@ -20,7 +20,7 @@ use Rattle.log_records.specs.Frames.{frame_block, AreParts, parts_block, IsWellP
 use Rattle.log_records.specs.Shapes.{IsShapeOf, IsFrameShape, AreShapes}
 use Rattle.log_records.specs.Reading.{Refuses, fault_of_block, IsSpelled, RefusesWhole}
 use Rattle.log_records.specs.Records.{ReadFault}
-use Rattle.log_records.specs.Laws.{RecordsAreOne}
+use Rattle.log_records.specs.Laws.{RecordsAreUnambiguous}
 use Rattle.wire_model.proofs.Dependent.{no_first_by, one_by}
 use Rattle.log_records.proofs.Chains.{refused_whole}
 use Rattle.log_records.proofs.OneBody.{one_body, one_shape, kind_shape}
@@ -103,7 +103,7 @@ spelled_by owner r e = ap (λ (o : PubKey). parts_block (head_key_of o) (parts_i
 as_read : (r : Record) → HasSpelling r → r ≡ record_with r.owner (parts_in r)
 as_read r f = ap (λ (n : Key). record { owner = r.owner; seq = r.seq; prev = r.prev; vector = r.vector; moment = r.moment; op = r.op; format = r.format; name = n }) f.named
 
-pub one_record : RecordsAreOne
+pub one_record : RecordsAreUnambiguous
 one_record owner = record {
   one = λ x y r s f g e.
       let p = (one_of_parts (head_key_of owner)).one (parts_in x) (parts_in y) r s (owned_parts owner x f.0 f.1) (owned_parts owner y g.0 g.1)
@@ -114,14 +114,14 @@ one_record owner = record {
     same : (x y : Record) → HasSpelling x → HasSpelling y → x.owner ≡ y.owner → parts_in x ≡ parts_in y → x ≡ y
     same x y f g o e = as_read x f ∙ ap (λ (w : PubKey). record_with w (parts_in x)) o ∙ ap (record_with y.owner) e ∙ sym (as_read y g)
 
--- where names tell the blocks apart, of an owner's records one alone stands there under a name
-pub one_among : (owner : PubKey) (blocks : List (List ℕ)) → NamesTellApart blocks → (p q : Record) → p.owner ≡ owner → q.owner ≡ owner → HasSpelling p → HasSpelling q
+-- where no names collide, of an owner's records one alone stands there under a name
+pub one_among : (owner : PubKey) (blocks : List (List ℕ)) → IsCollisionFree blocks → (p q : Record) → p.owner ≡ owner → q.owner ≡ owner → HasSpelling p → HasSpelling q
     → StandsAmong blocks p → StandsAmong blocks q → p.name ≡ q.name → p ≡ q
 one_among owner blocks apart p q owned_p owned_q of_p of_q stands_p stands_q same =
     whole (one_record owner) p q (owned_p, of_p) (owned_q, of_q) (one_block blocks apart p q of_p of_q stands_p stands_q same)
 
 -- the block of a name is that of the owner's record of the name
-pub block_among : (owner : PubKey) (blocks : List (List ℕ)) → NamesTellApart blocks → (block : List ℕ) → Contains blocks block → (r : Record) → r.owner ≡ owner → HasSpelling r
+pub block_among : (owner : PubKey) (blocks : List (List ℕ)) → IsCollisionFree blocks → (block : List ℕ) → Contains blocks block → (r : Record) → r.owner ≡ owner → HasSpelling r
     → StandsAmong blocks r → name block ≡ r.name → IsRecordOf owner block r
 block_among owner blocks apart block within r owned fits stands same =
     record { owned = owned; fits = fits; spelled = apart block (record_block r) within stands (same ∙ fits.named) }

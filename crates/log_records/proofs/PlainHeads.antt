@@ -15,7 +15,7 @@ use Rattle.wire_model.specs.Xdr.{word, opaque}
 use Rattle.wire_model.proofs.OneReading.{whole}
 use Rattle.log_model.specs.Vector.{Stamp}
 use Rattle.log_model.specs.Spelling.{IsBlock, most_records, head_block, IsHeadOf, head_tag}
-use Rattle.log_model.specs.Heads.{stamp, owner_in, seq_in, name_in, is_block}
+use Rattle.log_model.specs.Heads.{stamp, owner_in, seq_in, name_in, is_of_length}
 use Rattle.dht_ids.specs.declared.judge.Judged.{Judged}
 use Rattle.log_records.specs.Heads.{Parts, IsPlainHead, is_plain, is_plain_head, plain_judged}
 use Rattle.log_records.specs.Laws.{PlainHeadsAreJudged}
@@ -34,10 +34,10 @@ both : (a b : Bool) → a ≡ true → b ≡ true → (a && b) ≡ true
 both true b h g = g
 both false b h g = cc
 
-block_from : (count : ℕ) (bytes : List ℕ) → is_block count bytes ≡ true → IsBlock count bytes
+block_from : (count : ℕ) (bytes : List ℕ) → is_of_length count bytes ≡ true → IsBlock count bytes
 block_from count bytes h = record { size = eqb-true (length bytes) count (first _ _ h); each = second _ _ h }
 
-block_tested : (count : ℕ) (bytes : List ℕ) → IsBlock count bytes → is_block count bytes ≡ true
+block_tested : (count : ℕ) (bytes : List ℕ) → IsBlock count bytes → is_of_length count bytes ≡ true
 block_tested count bytes f = both _ _ (eq-eqb (length bytes) count f.size) f.each
 
 pub keys_decide : (a b c : Key) (same : Bool) → same ≡ bytes_eq a.0 b.0 → b ≡ c → (same ≡ true) ↔ (a ≡ c)
@@ -50,13 +50,13 @@ from_tests : (key : Key) (bytes : List ℕ) (owner : PubKey) (seq : ℕ) (name :
 from_tests key bytes owner seq name h =
     let five = first _ (bytes_eq key.0 (head_key_of owner).0) h in
     let four = first _ (bytes_eq bytes (head_block owner (stamp seq name) [])) five in
-    let three = first _ (is_block 20 name.0) four in
+    let three = first _ (is_of_length 20 name.0) four in
     let two = first _ (nat_le seq most_records) three in (
       record {
         owner_is_key = block_from 60 owner.0 (first _ (nat_le 1 seq) two);
-        some = leb-true 1 seq (second (is_block 60 owner.0) (nat_le 1 seq) two);
+        some = leb-true 1 seq (second (is_of_length 60 owner.0) (nat_le 1 seq) two);
         few = leb-true seq most_records (second _ (nat_le seq most_records) three);
-        name = block_from 20 name.0 (second _ (is_block 20 name.0) four);
+        name = block_from 20 name.0 (second _ (is_of_length 20 name.0) four);
         short = omega arith;
         spelled = (bytes_eq-Decides bytes (head_block owner (stamp seq name) [])).0 (second _ (bytes_eq bytes (head_block owner (stamp seq name) [])) five);
       },

@@ -15,7 +15,7 @@ use Rattle.log_model.specs.Chain.{IsGood, Follows, GoesOn}
 use Rattle.log_model.proofs.Lists.{each, both}
 use Rattle.version_vectors.specs.declared.entry.Entry.{Entry}
 use Rattle.version_vectors.specs.Entries.{vector_of}
-use Rattle.log_model.specs.Fetched.{Edge, owner_of, MayBeNext, KnowsEdge, GoesOnFrom, EndsAt, HasRecord}
+use Rattle.log_model.specs.Fetched.{Edge, owner_of, MayBeNext, KnowsEdge, GoesOnFrom, EndsAtStamp, HasRecord}
 use Rattle.log_records.specs.Batches.{AreOfOneOwner}
 use Rattle.log_records.specs.Walks.{GoesOnInside, BeginsSpelled}
 
@@ -69,7 +69,7 @@ stepped view (q ∷ rs) (suc j) before r low lt one at_before at g =
 
 -- ---- the newest record, and one of them
 
-pub ends_by : (xs : List Record) (n : ℕ) (x : Record) (t : Stamp) → length xs ≡ n + 1 → HasAt xs n x → ((own_entry x).1 ≡ t) ↔ EndsAt t xs
+pub ends_by : (xs : List Record) (n : ℕ) (x : Record) (t : Stamp) → length xs ≡ n + 1 → HasAt xs n x → ((own_entry x).1 ≡ t) ↔ EndsAtStamp t xs
 ends_by xs n x t size at = (
   λ e. (take n xs, x, sym (take-length xs) ∙ ap (λ k. take k xs) size ∙ take_more xs n x (omega arith) ∙ ap (λ (y : Record). take n xs ++ y ∷ []) at, e),
   λ h.

@@ -9,7 +9,7 @@ use Rattle.log_model.specs.Vector.{Stamp, Vector, reach}
 use Rattle.log_model.specs.Record.{Record}
 use Rattle.log_model.specs.Spelling.{no_name}
 use Rattle.log_model.specs.Chain.{LinkedFrom}
-use Rattle.log_model.specs.Fetched.{Edge, owner_of, stamp_in, GoesOnFrom, EndsAt, PassesFloor}
+use Rattle.log_model.specs.Fetched.{Edge, owner_of, stamp_in, GoesOnFrom, EndsAtStamp, PassesFloor}
 
 -- some records, all of one owner
 pub record AreOfOneOwner (chain : List Record) : Type 0 where
@@ -34,7 +34,7 @@ name_or_none (Some t) = t.name
 -- whatever the view, the chain is linked from the held record, or from the log's beginning, through the floor's up to the head's
 pub record Extends (held floor : Vector) (head : Stamp) (chain : List Record) : Type 0 where
   pub linked : LinkedFrom (owner_of chain) (reach (stamp_in held chain) + 1) (name_or_none (stamp_in held chain)) chain
-  pub ends : EndsAt head chain
+  pub ends : EndsAtStamp head chain
   pub passes : PassesFloor (stamp_in floor chain) (reach (stamp_in held chain)) chain
 
 -- each owner once

@@ -6,7 +6,7 @@ use Rattle.ivy_base.specs.declared.key.PubKey.{PubKey}
 use Rattle.ivy_base.specs.Naming.{head_key_of}
 use Rattle.log_model.specs.Vector.{Stamp}
 use Rattle.log_model.specs.Spelling.{IsBlock, IsKey, most_records, head_block, IsHeadOf}
-use Rattle.log_model.specs.Heads.{stamp, owner_in, seq_in, name_in, is_block}
+use Rattle.log_model.specs.Heads.{stamp, owner_in, seq_in, name_in, is_of_length}
 use Rattle.dht_ids.specs.declared.judge.Judged.{Judged}
 
 -- a record's number in its log
@@ -32,7 +32,7 @@ pub record IsPlainHead (key : Key) (bytes : List ℕ) (judged : Judged) : Type 0
 -- they are a head under the key with that owner, number and name, and with an empty signature
 abbrev pub is_plain : Key → List ℕ → PubKey → ℕ → Key → Bool
 is_plain key bytes owner seq name =
-    is_block 60 owner.0 && nat_le 1 seq && nat_le seq most_records && is_block 20 name.0
+    is_of_length 60 owner.0 && nat_le 1 seq && nat_le seq most_records && is_of_length 20 name.0
     && bytes_eq bytes (head_block owner (stamp seq name) []) && bytes_eq key.0 (head_key_of owner).0
 
 abbrev pub is_plain_head : Key → List ℕ → Bool

@@ -13,16 +13,16 @@ abbrev pub IsOwned : PubKey → Record → Type 0
 IsOwned owner r = (r.owner ≡ owner) × HasSpelling r
 
 -- of one owner, each block is of one record, and none begins another's
-abbrev pub RecordsAreOne : Type 0
-RecordsAreOne = (owner : PubKey) → ReadsOne (IsOwned owner) record_block
+abbrev pub RecordsAreUnambiguous : Type 0
+RecordsAreUnambiguous = (owner : PubKey) → ReadsOne (IsOwned owner) record_block
 
 -- no record is too long
 abbrev pub RecordsAreShort : Type 0
 RecordsAreShort = (r : Record) → HasSpelling r → length (record_block r) ≤ longest_record
 
 -- each block is one head, and none begins another's
-abbrev pub HeadsAreOne : Type 0
-HeadsAreOne = ReadsOne IsHead head_bytes
+abbrev pub HeadsAreUnambiguous : Type 0
+HeadsAreUnambiguous = ReadsOne IsHead head_bytes
 
 -- the plain judge takes each head that has an empty signature under its owner's key, and nothing else
 abbrev pub PlainHeadsAreJudged : Type 0

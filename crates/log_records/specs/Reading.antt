@@ -6,7 +6,7 @@ use Rattle.block_parts.specs.declared.fault.BlockFault.TheVariants as block
 use Rattle.log_records.specs.declared.fault.RecordFault.{RecordFault}
 use Rattle.log_records.specs.declared.fault.RecordFault.TheVariants as fault
 
--- a part is refused where the bytes begin with none, and given up for want of memory
+-- a part is refused where the bytes begin with none, and given up because memory ran out
 abbrev pub Refuses : {A : Type 0} → (A → Type 0) → (A → List ℕ) → List ℕ → BlockFault → Type 0
 Refuses Fits spell bytes block.Malformed = HasNoFront Fits spell bytes
 Refuses Fits spell bytes block.Memory = Unit {0}
@@ -20,7 +20,7 @@ pub record IsSpelled {A : Type 0} (Fits : A → Type 0) (spell : A → List ℕ)
   pub fits : Fits x
   pub spelled : bytes ≡ spell x
 
--- the whole is refused where the bytes are the spelling of no value, and given up for want of memory
+-- the whole is refused where the bytes are the spelling of no value, and given up because memory ran out
 abbrev pub RefusesWhole : {A : Type 0} → (A → Type 0) → (A → List ℕ) → List ℕ → BlockFault → Type 0
 RefusesWhole {A} Fits spell bytes block.Malformed = (x : A) → IsSpelled Fits spell bytes x → ⊥
 RefusesWhole {A} Fits spell bytes block.Memory = Unit {0}

@@ -3,7 +3,7 @@
 ghost use Rattle.std.specs.Prelude.{◌≡◌, [], ◌∷◌, ◌++◌, Contains, None, map, IfOk, OnOk, IfErr, OnErr, IfSome};
 ghost use Rattle.log_model.specs.Vector.{stamp_at};
 ghost use Rattle.log_model.specs.Heads.{stamp};
-ghost use Rattle.log_model.specs.Fetched.{owner_of, stamp_in, GoesOnFrom, EndsAt, IsSound, IsOnward, ChainFails};
+ghost use Rattle.log_model.specs.Fetched.{owner_of, stamp_in, GoesOnFrom, EndsAtStamp, IsSound, IsOnward, ChainFails};
 ghost use Rattle.ivy_base.specs.Naming.{head_key_of};
 ghost use Rattle.log_records.specs.Records.{records_of};
 ghost use Rattle.log_records.specs.Batches.{owners_in, AreOfOneOwner, IsBatch};
@@ -66,7 +66,7 @@ impl Model for Batch {
 impl Batch {
     ghost use Rattle.log_records.specs.Kept.{chains_of};
 
-    /// A batch of no chains, over what is held, with the floor. The error is want of memory.
+    /// A batch of no chains, over what is held, with the floor. The error is: out of memory.
     pub fn over(alloc: Global, held: &Vector, floor: &Vector) -> Result<Batch, Memory>
         ensures { IfOk result (λ batch. batch ≡ record { held = held.now; floor = floor.now; chains = [] }) }
     {
@@ -83,8 +83,8 @@ impl Batch {
         })
     }
 
-    /// Adds a chain behind the others: the records of one log, oldest first, that were fetched for a judged head.
-    /// `edge` is what is known of the held record, where it is at hand.
+    /// Adds a chain after the others: the records of one log, oldest first, that were fetched for a judged head. `edge`
+    /// is what is known of the held record, where it is available.
     ///
     /// `Bad` comes exactly where the records don't keep the rules of a chain under the view, from the held record on,
     /// or the newest one hasn't the head's number and name. Each has to be good under the view, numbered next after the
@@ -93,7 +93,7 @@ impl Batch {
     /// oldest knows what the held record knows; that is left to whoever has that record.
     ///
     /// `Fork` comes exactly where else the oldest doesn't name the held record, or the floor is above what is held and
-    /// its record isn't among the records. `Memory` is want of memory. After an error the batch is as it was.
+    /// its record isn't among the records. `Memory` means out of memory. After an error the batch is as it was.
     pub fn add_chain(
         &mut self,
         alloc: Global,

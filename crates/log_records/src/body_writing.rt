@@ -155,7 +155,7 @@ fn put_verifier(out: &mut XdrWrite, verifier: &[u8; 8])
     out.put_fixed(verifier);
 }
 
-/// Appends a name behind its directory's number.
+/// Appends a name after its directory's number.
 fn put_place(out: &mut XdrWrite, dir: &Key, name: &Bytes)
     requires room { 20 + opaque_size name.now ≤ out.old.spare }
     requires short { IsShort name.now }

@@ -9,7 +9,7 @@ ghost use Rattle.log_model.specs.Spelling.{HasSpelling};
 ghost use Rattle.log_model.specs.Rank.{own_entry};
 ghost use Rattle.log_model.specs.Chain.{IsGood, Follows};
 ghost use Rattle.log_model.specs.Heads.{stamp};
-ghost use Rattle.log_model.specs.Fetched.{owner_of, stamp_in, MayBeNext, KnowsEdge, GoesOnFrom, EndsAt, Names, HasRecord, PassesFloor, IsSound, IsOnward, ChainFails};
+ghost use Rattle.log_model.specs.Fetched.{owner_of, stamp_in, MayBeNext, KnowsEdge, GoesOnFrom, EndsAtStamp, NamesPrevious, HasRecord, PassesFloor, IsSound, IsOnward, ChainFails};
 ghost use Rattle.log_records.specs.Records.{record_of, records_of};
 ghost use Rattle.log_records.specs.Kept.{names_of};
 ghost use Rattle.log_records.specs.Walks.{GoesOnInside, BeginsSpelled};
@@ -54,7 +54,7 @@ pub fn test_chain(
     Ok(())
 }
 
-/// The records' names. The error is want of memory.
+/// The records' names. The error is: out of memory.
 fn all_names(alloc: Global, chain: &[Record]) -> Result<Vec<Key>, Memory>
     ensures { IfOk result (λ names. names.items ≡ names_of chain.now) }
 {
@@ -229,7 +229,7 @@ fn is_linked(before: &Record, name: &Key, record: &Record) -> bool
 fn ends_at(head: &Judged, chain: &[Record], names: &[Key]) -> bool
     requires some { AreOfOneOwner (records_of chain.now) }
     requires names { names.now ≡ names_of chain.now }
-    ensures { IsTrue result ↔ EndsAt (stamp head.now.seq head.now.name) (records_of chain.now) }
+    ensures { IsTrue result ↔ EndsAtStamp (stamp head.now.seq head.now.name) (records_of chain.now) }
 {
     let last = chain.len() - 1;
     is_stamped(&chain[last], &names[last], head.seq, &head.name)
@@ -262,7 +262,7 @@ fn is_onward(log: &Key, held: &Vector, floor: &Vector, chain: &[Record], names: 
 
 /// Whether the record names the held one of its log, where there is one.
 fn names_held(log: &Key, held: &Vector, first: &Record) -> bool
-    ensures { IsTrue result ↔ Names (stamp_at held.now log.now) (record_of first.now) }
+    ensures { IsTrue result ↔ NamesPrevious (stamp_at held.now log.now) (record_of first.now) }
 {
     match held.get(log) {
         Some(entry) => is_same(&first.prev, &entry.name),

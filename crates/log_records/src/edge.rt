@@ -33,7 +33,7 @@ impl Edge {
         Edge { vector }
     }
 
-    /// What is known of that record once it is held. The error is want of memory.
+    /// What is known of that record once it is held. The error is: out of memory.
     pub fn of(alloc: Global, held: &Record) -> Result<Edge, Memory>
         ensures { IfOk result (λ edge. edge ≡ as_edge (record_of held.now)) }
     {

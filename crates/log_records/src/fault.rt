@@ -18,7 +18,7 @@ pub enum RecordFault {
     /// The record makes an inode, of another number than the one that this record makes.
     #[error("the record makes an inode of another number than its own")]
     BadNumber,
-    /// Want of memory. No clause ties this to a cause.
+    /// Out of memory. No clause ties this to a cause.
     #[error("out of memory")]
     Memory,
 }

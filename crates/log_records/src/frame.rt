@@ -27,7 +27,7 @@ pub struct Frame {
     pub vector: Vector,
 }
 
-/// The frame of a record of the log with that head key, and the bytes behind it. But for how many logs it cites, the bounds
+/// The frame of a record of the log with that head key, and the bytes after it. But for how many logs it cites, the bounds
 /// of its parts are tested where the record stands as a whole.
 pub fn read_frame<'a>(
     alloc: Global,

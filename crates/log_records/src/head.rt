@@ -44,7 +44,7 @@ impl<'a> Head<'a> {
         if parts.are_read() { Some(head) } else { None }
     }
 
-    /// The head's block. The error is want of memory; it also comes where the signature has 2^32 bytes or more.
+    /// The head's block. The error is: out of memory; it also comes where the signature has 2^32 bytes or more.
     pub fn write(&self, alloc: Global) -> Result<Bytes, Memory>
         ensures { IfOk result (λ block. block ≡ head_block self.now.owner (stamp self.now.seq self.now.name) self.now.signature.now) }
     {
@@ -64,7 +64,7 @@ impl<'a> Head<'a> {
     }
 }
 
-/// The block of a head with an empty signature, 92 bytes. The error is want of memory.
+/// The block of a head with an empty signature, 92 bytes. The error is: out of memory.
 pub fn plain_head(alloc: Global, owner: &PubKey, seq: u32, name: &Key) -> Result<Bytes, Memory>
     ensures { IfOk result (λ block. block ≡ head_block owner.now (stamp seq name.now) []) }
 {

@@ -13,8 +13,8 @@
 //!   whatever the record is.
 //! - [`Head::read`] takes exactly the blocks that are a head; [`Head::write`] and [`plain_head`] write one.
 //!   [`PlainJudge`] takes the heads that nobody signed.
-//! - [`blocks_are_one`] is the law that each block has one value, and that no other value's block begins with
-//!   it.
+//! - [`blocks_are_unambiguous`] is the law that each block has one value, and that no other value's block begins
+//!   with it.
 //! - After running out of memory nothing is changed.
 //!
 //! A [`Batch`] has chains that were fetched over what is held, one of each log at most.
@@ -81,7 +81,7 @@ pub use fault::RecordFault;
 pub use frame::MOST_CITED;
 pub use head::{Head, plain_head};
 pub use judge::PlainJudge;
-pub use laws::blocks_are_one;
+pub use laws::blocks_are_unambiguous;
 pub use log_model::ChainFault;
 pub use parts::MOST_RECORDS;
 pub use places::merge_place;

@@ -69,7 +69,7 @@ impl Record {
     ///
     /// `TooLong` comes exactly where there are more than 12,288 bytes, `Malformed` where else the bytes are the
     /// block of no record of the owner's, and `BadNumber` where they are one that makes an inode of another
-    /// number than [`number_of`] gives. `Memory` is want of memory.
+    /// number than [`number_of`] gives. `Memory` means out of memory.
     pub fn read(alloc: Global, bytes: &[u8], owner: &PubKey) -> Result<Record, RecordFault>
         ensures ok { IfOk result (λ r. IsRead owner.now bytes.now (record_of r)) }
         ensures short { OnOk result (length bytes.now ≤ longest_record) }
@@ -98,7 +98,7 @@ impl Record {
         Ok(record)
     }
 
-    /// A copy of this record and of what it has. The error is want of memory.
+    /// A copy of this record and of what it has. The error is: out of memory.
     pub fn copy(&self, alloc: Global) -> Result<Record, Memory>
         ensures { IfOk result (λ copy. copy ≡ self.now) }
     {
@@ -121,7 +121,7 @@ impl Record {
 
     /// The record's block.
     ///
-    /// The error is want of memory; it also comes where a text has 2^32 bytes or more or the vector as many
+    /// The error is: out of memory; it also comes where a text has 2^32 bytes or more or the vector as many
     /// entries, which no block can count.
     pub fn write(&self, alloc: Global) -> Result<Bytes, Memory>
         ensures { IfOk result (λ block. block ≡ record_block (record_of self.now)) }

@@ -51,7 +51,7 @@ impl Records {
         self.records.as_slice()
     }
 
-    /// A copy of these records and of what they have. The error is want of memory.
+    /// A copy of these records and of what they have. The error is: out of memory.
     pub fn copy(&self, alloc: Global) -> Result<Records, Memory>
         ensures { IfOk result (λ copy. copy ≡ self.now) }
     {

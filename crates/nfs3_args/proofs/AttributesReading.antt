@@ -13,8 +13,8 @@ use Rattle.nfs_model.specs.declared.arguments.SetTime.TheVariants.{Keep, Server,
 use Rattle.nfs_model.specs.declared.arguments.SetWhat.{SetWhat}
 use Rattle.nfs_model.specs.declared.arguments.How.{How}
 use Rattle.nfs_model.specs.declared.arguments.How.TheVariants.{Unchecked, Guarded, Exclusive}
-use Rattle.nfs_model.specs.declared.arguments.Node.{Node}
-use Rattle.nfs_model.specs.declared.arguments.Node.TheVariants.{Plain, Device, Other}
+use Rattle.nfs_model.specs.declared.arguments.SpecialNode.{SpecialNode}
+use Rattle.nfs_model.specs.declared.arguments.SpecialNode.TheVariants.{Plain, Device, Other}
 use Rattle.nfs_model.specs.Arguments.{set_time, set_what, create_how, special_node, IsTime, IsSetWhat, IsVerifier, IsHow, IsPlainKind, IsDeviceKind, IsOtherKind, IsNode}
 use Rattle.nfs3_args.proofs.Tags.{Tagged, Form, form_read, form_missed, nothing_there}
 
@@ -170,7 +170,7 @@ no_such_how {n = n} f h gone = form_missed tagged_how f others gone
 
 -- ---- special nodes
 
-abbrev node_tag : Node → ℕ
+abbrev node_tag : SpecialNode → ℕ
 node_tag (Plain kind) = kind
 node_tag (Device kind what major minor) = kind
 node_tag (Other kind what) = kind
@@ -185,12 +185,12 @@ IsNumbered d = (IsSetWhat d.0.0 × IsWord d.0.1) × IsWord d.1
 abbrev numbered : Numbered → List ℕ
 numbered d = set_what d.0.0 ++ word d.0.1 ++ word d.1
 
-abbrev node_after : Node → List ℕ
+abbrev node_after : SpecialNode → List ℕ
 node_after (Plain kind) = []
 node_after (Device kind what major minor) = numbered ((what, major), minor)
 node_after (Other kind what) = set_what what
 
-node_range : (x : Node) → IsNode x → (1 ≤ node_tag x) × (node_tag x ≤ 7)
+node_range : (x : SpecialNode) → IsNode x → (1 ≤ node_tag x) × (node_tag x ≤ 7)
 node_range (Plain kind) f = grind arith
 node_range (Device kind what major minor) f = let k = f.0 in grind arith
 node_range (Other kind what) f = let k = f.0 in grind arith
@@ -198,25 +198,25 @@ node_range (Other kind what) f = let k = f.0 in grind arith
 abbrev tagged_node : Tagged IsNode special_node
 tagged_node = record { tag = node_tag; after = node_after; small = small; spelled = spelled }
   where
-    small : (x : Node) → IsNode x → node_tag x < 2 ^ 32
+    small : (x : SpecialNode) → IsNode x → node_tag x < 2 ^ 32
     small x f = omega (arith, (node_range x f).1)
 
-    spelled : (x : Node) → special_node x ≡ word (node_tag x) ++ node_after x
+    spelled : (x : SpecialNode) → special_node x ≡ word (node_tag x) ++ node_after x
     spelled (Plain kind) = refl
     spelled (Device kind what major minor) = refl
     spelled (Other kind what) = refl
 
-plain_parts : (n : ℕ) → IsPlainKind n → (x : Node) → IsNode x → n ≡ node_tag x → PartsOf {A = Unit {0}} (λ u. ⊤) (λ u. []) (node_after x)
+plain_parts : (n : ℕ) → IsPlainKind n → (x : SpecialNode) → IsNode x → n ≡ node_tag x → PartsOf {A = Unit {0}} (λ u. ⊤) (λ u. []) (node_after x)
 plain_parts n h (Plain kind) f e = record { part = tt; fits = tt; spelled = refl }
 plain_parts n h (Device kind what major minor) f e = let k = f.0 in absurd (grind (arith, h, k, e))
 plain_parts n h (Other kind what) f e = let k = f.0 in absurd (grind (arith, h, k, e))
 
-device_parts : (n : ℕ) → IsDeviceKind n → (x : Node) → IsNode x → n ≡ node_tag x → PartsOf IsNumbered numbered (node_after x)
+device_parts : (n : ℕ) → IsDeviceKind n → (x : SpecialNode) → IsNode x → n ≡ node_tag x → PartsOf IsNumbered numbered (node_after x)
 device_parts n h (Plain kind) f e = absurd (grind (arith, h, f, e))
 device_parts n h (Device kind what major minor) f e = record { part = ((what, major), minor); fits = ((f.1, f.2), f.3); spelled = refl }
 device_parts n h (Other kind what) f e = let k = f.0 in absurd (grind (arith, h, k, e))
 
-other_parts : (n : ℕ) → IsOtherKind n → (x : Node) → IsNode x → n ≡ node_tag x → PartsOf IsSetWhat set_what (node_after x)
+other_parts : (n : ℕ) → IsOtherKind n → (x : SpecialNode) → IsNode x → n ≡ node_tag x → PartsOf IsSetWhat set_what (node_after x)
 other_parts n h (Plain kind) f e = absurd (grind (arith, h, f, e))
 other_parts n h (Device kind what major minor) f e = let k = f.0 in absurd (grind (arith, h, k, e))
 other_parts n h (Other kind what) f e = record { part = what; fits = f.1; spelled = refl }
@@ -252,5 +252,5 @@ device_read {n} f h g = form_read tagged_node (device_form n h) f g
 pub other_read : {a b c : Option (List ℕ)} {n : ℕ} {s : SetWhat} → Reads IsWord word a n b → IsOtherKind n → Reads IsSetWhat set_what b s c → Reads IsNode special_node a (Other n s) c
 other_read {n} f h g = form_read tagged_node (other_form n h) f g
 
-pub no_such_node : {a b c : Option (List ℕ)} {n : ℕ} {x : Node} → Reads IsWord word a n b → (n < 1) ⊎ (7 < n) → c ≡ None → Reads IsNode special_node a x c
+pub no_such_node : {a b c : Option (List ℕ)} {n : ℕ} {x : SpecialNode} → Reads IsWord word a n b → (n < 1) ⊎ (7 < n) → c ≡ None → Reads IsNode special_node a x c
 no_such_node f h gone = form_missed tagged_node f (λ y g e. let k = node_range y g in grind (arith, h, k, e)) gone

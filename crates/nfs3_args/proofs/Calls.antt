@@ -1,4 +1,4 @@
--- Whole calls: procedures without arguments, and such as aren't there, and what stands behind arguments.
+-- Whole calls: procedures without arguments, and such as aren't there, and what stands after arguments.
 use Rattle.std.proofs.Common.{◌≡◌, ℕ, ◌<◌, ◌≤◌, List, [], ◌∷◌, ◌++◌, Option, Some, None, refl, sym, ap, ◌∙◌, arith}
 use Rattle.std.specs.Prelude.{◌≢◌}
 use Rattle.std.proofs.lemmas.List.{append-nil}

@@ -8,7 +8,7 @@ use Rattle.nfs_model.specs.declared.arguments.Args.{Args}
 use Rattle.nfs_model.specs.declared.arguments.Args.TheVariants as call
 use Rattle.nfs_model.specs.declared.arguments.SetWhat.{SetWhat}
 use Rattle.nfs_model.specs.declared.arguments.How.{How}
-use Rattle.nfs_model.specs.declared.arguments.Node.{Node}
+use Rattle.nfs_model.specs.declared.arguments.SpecialNode.{SpecialNode}
 use Rattle.nfs_model.specs.Arguments.{arguments, set_what, create_how, special_node, IsHandle, IsShortText, IsSetWhat, IsVerifier, IsHow, IsNode}
 use Rattle.nfs_model.specs.Laws.{AreOf}
 use Rattle.nfs3_args.specs.Parts.{IsData, IsPath, IsStable, place, IsPlace}
@@ -134,14 +134,14 @@ made_symlink = record { whole = λ p f. record { program_is = refl; procedure_is
 
 -- ---- MKNOD
 
-abbrev mknod_with : (List ℕ × List ℕ) × Node → Args
+abbrev mknod_with : (List ℕ × List ℕ) × SpecialNode → Args
 mknod_with p = call.MkNod p.0.0 p.0.1 p.1
 
-mknod_of : (a : Args) → AreNfs 11 a → MadeOf {A = (List ℕ × List ℕ) × Node} (λ p. IsPlace p.0 × IsNode p.1) mknod_with a
+mknod_of : (a : Args) → AreNfs 11 a → MadeOf {A = (List ℕ × List ℕ) × SpecialNode} (λ p. IsPlace p.0 × IsNode p.1) mknod_with a
 mknod_of (call.MkNod dir name node) f = record { part = ((dir, name), node); fits = ((f.fit.0, f.fit.1), f.fit.2); same = refl }
 mknod_of a f = absurd (omega (arith, f.program_is, f.procedure_is))
 
-pub made_mknod : Made {A = (List ℕ × List ℕ) × Node} (λ p. IsPlace p.0 × IsNode p.1) (λ p. place p.0 ++ special_node p.1) (AreNfs 11) arguments mknod_with
+pub made_mknod : Made {A = (List ℕ × List ℕ) × SpecialNode} (λ p. IsPlace p.0 × IsNode p.1) (λ p. place p.0 ++ special_node p.1) (AreNfs 11) arguments mknod_with
 made_mknod = record { whole = λ p f. record { program_is = refl; procedure_is = refl; fit = (f.0.0, f.0.1, f.1) }; spelled = λ p. refl; parts = mknod_of }
 
 -- ---- REMOVE

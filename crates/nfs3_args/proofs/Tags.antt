@@ -7,7 +7,7 @@ use Rattle.wire_model.specs.Parts.{Told, Reads}
 use Rattle.wire_model.proofs.OneReading.{one_word}
 use Rattle.wire_model.proofs.Dependent.{PartsOf}
 
--- the form's number, and what stands behind it
+-- the form's number, and what stands after it
 pub record Tagged {A : Type 0} (Fits : A → Type 0) (spell : A → List ℕ) : Type 0 where
   pub tag : A → ℕ
   pub after : A → List ℕ
@@ -15,7 +15,7 @@ pub record Tagged {A : Type 0} (Fits : A → Type 0) (spell : A → List ℕ) : 
   pub spelled : (x : A) → spell x ≡ word (tag x) ++ after x
 
 module _ {A : Type 0} {Fits : A → Type 0} {spell : A → List ℕ} (t : Tagged Fits spell) where
-  -- the form of a number: the part that stands behind it, and the value that is made of it
+  -- the form of a number: the part that stands after it, and the value that is made of it
   pub record Form {B : Type 0} (Part : B → Type 0) (item : B → List ℕ) (n : ℕ) (make : B → A) : Type 0 where
     pub whole : (y : B) → Part y → Fits (make y)
     pub written : (y : B) → spell (make y) ≡ word n ++ item y
@@ -74,7 +74,7 @@ module _ {A : Type 0} {Fits : A → Type 0} {spell : A → List ℕ} (t : Tagged
       cases (Some a) None None gone p = no_tag p
       cases (Some a) (Some b) None gone p = no_form p other
 
--- no part stands behind the number
+-- no part stands after the number
 pub nothing_there : (b : Option (List ℕ)) → Reads {A = Unit {0}} (λ u. ⊤) (λ u. []) b tt b
 nothing_there b = record { told = cases b }
   where

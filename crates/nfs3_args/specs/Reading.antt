@@ -10,7 +10,7 @@ use Rattle.nfs_model.specs.declared.fault.ArgsFault.TheVariants.{Garbage, Memory
 pub record AreNoArguments (program procedure : ℕ) (bytes : List ℕ) : Type 0 where
   pub none : (args : Args) → AreArguments program procedure bytes args → ⊥
 
--- arguments are refused where the bytes are none; want of memory tells nothing of them
+-- arguments are refused where the bytes are none; running out of memory tells nothing of them
 abbrev pub RefusesArguments : ℕ → ℕ → List ℕ → ArgsFault → Type 0
 RefusesArguments program procedure bytes Garbage = AreNoArguments program procedure bytes
 RefusesArguments program procedure bytes Memory = Unit {0}

@@ -6,7 +6,7 @@ ghost use Rattle.nfs_model.specs.Arguments.{set_time, set_what, create_how, spec
 use crate::part_writing::{
     OPTIONAL, put_moment, put_optional_double_word, put_optional_word, put_verifier,
 };
-use nfs_model::{How, Node, SetTime, SetWhat};
+use nfs_model::{How, SetTime, SetWhat, SpecialNode};
 use xdr_codec::XdrWrite;
 
 /// The most bytes of sattr3 (RFC 1813, section 2.5): three optional words, a size and two times.
@@ -70,13 +70,13 @@ pub fn put_how(out: &mut XdrWrite, how: &How)
 }
 
 /// Appends what kind of special node is to be made.
-pub fn put_node(out: &mut XdrWrite, node: &Node)
+pub fn put_node(out: &mut XdrWrite, node: &SpecialNode)
     requires { NODE ≤ out.old.spare }
     ensures { out.new.written ≡ out.old.written ++ special_node node.now }
 {
     match node {
-        Node::Plain(kind) => out.put_u32(*kind),
-        Node::Device {
+        SpecialNode::Plain(kind) => out.put_u32(*kind),
+        SpecialNode::Device {
             kind,
             what,
             major,
@@ -87,7 +87,7 @@ pub fn put_node(out: &mut XdrWrite, node: &Node)
             out.put_u32(*major);
             out.put_u32(*minor);
         }
-        Node::Other { kind, what } => {
+        SpecialNode::Other { kind, what } => {
             out.put_u32(*kind);
             put_set_what(out, what);
         }

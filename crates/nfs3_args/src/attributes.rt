@@ -5,7 +5,7 @@ ghost use Rattle.wire_model.specs.Parts.{Reads};
 ghost use Rattle.nfs_model.specs.Arguments.{set_time, set_what, create_how, special_node, IsTime, IsSetWhat, IsHow, IsNode};
 
 use crate::parts::{read_moment, read_optional_double_word, read_optional_word};
-use nfs_model::{How, Node, SetTime, SetWhat};
+use nfs_model::{How, SetTime, SetWhat, SpecialNode};
 use xdr_codec::Parts;
 
 /// What is asked of a time (RFC 1813, section 2.5, set_atime and set_mtime).
@@ -59,17 +59,17 @@ pub fn read_how(parts: &mut Parts) -> How
 }
 
 /// What kind of special node is to be made (section 3.3.11, mknoddata3).
-pub fn read_node(parts: &mut Parts) -> Node
+pub fn read_node(parts: &mut Parts) -> SpecialNode
     ensures { Reads IsNode special_node parts.old result parts.new }
 {
     let kind = parts.u32();
     match kind {
-        1 | 2 | 5 => Node::Plain(kind),
+        1 | 2 | 5 => SpecialNode::Plain(kind),
         3 | 4 => {
             let what = read_set_what(parts);
             let major = parts.u32();
             let minor = parts.u32();
-            Node::Device {
+            SpecialNode::Device {
                 kind,
                 what,
                 major,
@@ -78,11 +78,11 @@ pub fn read_node(parts: &mut Parts) -> Node
         }
         6 | 7 => {
             let what = read_set_what(parts);
-            Node::Other { kind, what }
+            SpecialNode::Other { kind, what }
         }
         _ => {
             parts.miss();
-            Node::Plain(kind)
+            SpecialNode::Plain(kind)
         }
     }
 }

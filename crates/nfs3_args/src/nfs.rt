@@ -33,7 +33,7 @@ pub fn read_nfs(alloc: Global, parts: &mut Parts, procedure: u32) -> Result<Args
     }
 }
 
-/// A handle, and no other string behind it: GETATTR, SETATTR, ACCESS, READLINK, READ, READDIR, READDIRPLUS, FSSTAT,
+/// A handle, and no other string after it: GETATTR, SETATTR, ACCESS, READLINK, READ, READDIR, READDIRPLUS, FSSTAT,
 /// FSINFO, PATHCONF and COMMIT (sections 3.3.1 to 3.3.21).
 fn read_of_handle(alloc: Global, parts: &mut Parts, procedure: u32) -> Result<Args, Memory>
     requires { IsOfHandle procedure }
@@ -105,7 +105,7 @@ fn read_of_handle(alloc: Global, parts: &mut Parts, procedure: u32) -> Result<Ar
     }
 }
 
-/// A name in a directory, and no other string behind it: LOOKUP, CREATE, MKDIR, MKNOD, REMOVE and RMDIR (sections
+/// A name in a directory, and no other string after it: LOOKUP, CREATE, MKDIR, MKNOD, REMOVE and RMDIR (sections
 /// 3.3.3 to 3.3.13).
 fn read_of_place(alloc: Global, parts: &mut Parts, procedure: u32) -> Result<Args, Memory>
     requires { IsOfPlace procedure }

@@ -110,7 +110,7 @@ pub fn put_range(out: &mut XdrWrite, file: &Bytes, offset: u64, count: u32)
     out.put_u32(count);
 }
 
-/// Appends a page of a directory: its handle, the cookie behind which the page begins, and the cookie's verifier.
+/// Appends a page of a directory: its handle, the cookie after which the page begins, and the cookie's verifier.
 pub fn put_page(out: &mut XdrWrite, dir: &Bytes, cookie: u64, verifier: &[u8; 8])
     requires short { IsShort dir.now }
     requires room { 20 + padded (length dir.now) ≤ out.old.spare }

@@ -22,9 +22,9 @@ pub const MOUNT_PROGRAM: u32 = 100_005;
 /// The arguments of that procedure of NFS version 3 or MOUNT version 3 that the bytes are (RFC 1813, sections 3.3
 /// and 5.2).
 ///
-/// `Garbage` comes exactly where the bytes are no arguments of the procedure: cut, or with a byte behind the last
+/// `Garbage` comes exactly where the bytes are no arguments of the procedure: cut, or with a byte after the last
 /// one; with padding that isn't zero, a boolean or an enumeration outside its list, a handle above 64 bytes, a name
-/// or a text above 4,096, or a path above 1,024. So it does where there is no such procedure. `Memory` is want of
+/// or a text above 4,096, or a path above 1,024. So it does where there is no such procedure. `Memory` means out of
 /// memory, which is taken only for bytes that are there.
 pub fn read_args(
     alloc: Global,

@@ -11,14 +11,14 @@ use crate::attribute_writing::{put_how, put_node, put_set_what};
 use crate::part_writing::{put_optional_moment, put_page, put_place, put_range, put_string};
 use crate::room::room_for;
 use ivy_base::{Bytes, Memory, Moment};
-use nfs_model::{Args, How, Node, SetWhat};
+use nfs_model::{Args, How, SetWhat, SpecialNode};
 use std::alloc::Global;
 use xdr_codec::XdrWrite;
 
 /// The bytes of arguments (RFC 1813, sections 3.3 and 5.2). They are read back as these arguments where they are
 /// within the bounds of [`crate::read_args`].
 ///
-/// The error is want of memory, which is taken once; it also comes where a handle, a name, a text, a path or data has
+/// The error is: out of memory, which is taken once; it also comes where a handle, a name, a text, a path or data has
 /// 2^32 bytes or more, which no word counts.
 pub fn write_args(alloc: Global, args: &Args) -> Result<Bytes, Memory>
     ensures written { IfOk result (λ bytes. bytes ≡ arguments args.now) }
@@ -179,7 +179,7 @@ fn put_symlink(out: &mut XdrWrite, dir: &Bytes, name: &Bytes, what: &SetWhat, te
 }
 
 /// Appends the arguments of MKNOD (section 3.3.11).
-fn put_mknod(out: &mut XdrWrite, dir: &Bytes, name: &Bytes, node: &Node)
+fn put_mknod(out: &mut XdrWrite, dir: &Bytes, name: &Bytes, node: &SpecialNode)
     requires short_dir { IsShort dir.now }
     requires short_name { IsShort name.now }
     requires room { 80 + padded (length dir.now) + padded (length name.now) ≤ out.old.spare }

@@ -91,7 +91,7 @@ pub fn live_object(tree: &Tree, number: Key) -> Result<LiveObject<'_>, NfsStatus
     }
 }
 
-/// The file handle of an inode: `IVY1`, the view's name and the inode's number. The error is want of memory.
+/// The file handle of an inode: `IVY1`, the view's name and the inode's number. The error is: out of memory.
 pub fn handle_of(alloc: Global, view: &View, number: &Key) -> Result<Bytes, Memory>
     ensures handle { IfOk result (λ handle. handle ≡ handle_of view.now number.now) }
     ensures length { IfOk result (λ handle. length handle ≡ 44) }

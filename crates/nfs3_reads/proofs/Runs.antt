@@ -51,7 +51,7 @@ one_dropped k i es e lt at =
 
 -- ---- parts of a run
 
--- those behind a cookie, which may be past the end
+-- those after a cookie, which may be past the end
 pub behind_cookie : (all : List Pair) (cookie n : ℕ) → n ≡ min cookie (length all) → placed n (take (length all - n) (drop n all)) ≡ drop cookie (placed 0 all)
 behind_cookie all cookie n is =
     ap (λ (es : List Pair). placed n es) (take_rest all n)

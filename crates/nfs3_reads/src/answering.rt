@@ -17,7 +17,7 @@ use std::alloc::Global;
 use view_blocks::View;
 
 /// The answer of a reading procedure on this tree; to the calls that may change the tree, to NULL and to MOUNT's it is
-/// `Nothing`, as these are answered elsewhere. The error is want of memory.
+/// `Nothing`, as these are answered elsewhere. The error is: out of memory.
 pub fn answer(
     alloc: Global,
     tree: &Tree,

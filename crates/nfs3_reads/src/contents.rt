@@ -21,7 +21,7 @@ const MOST_READ: u32 = 8192;
 
 /// READLINK (RFC 1813, section 3.3.5): the text of a symbolic link.
 ///
-/// Refused are, in this order, a bad or stale handle, and what is no symbolic link (`Inval`). The error is want of
+/// Refused are, in this order, a bad or stale handle, and what is no symbolic link (`Inval`). The error is: out of
 /// memory.
 pub(crate) fn read_link(
     alloc: Global,
@@ -49,7 +49,7 @@ pub(crate) fn read_link(
 /// whether they reach the file's end.
 ///
 /// Refused are, in this order, a bad or stale handle, what is no regular file (`Inval`), and who may not read it and
-/// isn't its owner (`Acces`). The error is want of memory.
+/// isn't its owner (`Acces`). The error is: out of memory.
 pub(crate) fn read(
     alloc: Global,
     tree: &Tree,
@@ -93,7 +93,7 @@ fn read_fault(caller: &Caller, file: &Content) -> Option<NfsStatus>
     }
 }
 
-/// The bytes from the offset on, at most so many and at most 8,192. The error is want of memory.
+/// The bytes from the offset on, at most so many and at most 8,192. The error is: out of memory.
 fn part_of(alloc: Global, file: &Content, offset: u64, count: u32) -> Result<Bytes, Memory>
     ensures part { IfOk result (λ bytes. bytes ≡ part file.now.inode.body offset count) }
     ensures short { IfOk result (λ bytes. length bytes ≤ 8192) }

@@ -1,4 +1,4 @@
-//! What is cut off a run of entries: those behind a cookie, and those that fit.
+//! What is cut off a run of entries: those after a cookie, and those that fit.
 
 ghost use Rattle.std.specs.Prelude.{◌≡◌, ◌≤◌, ◌==◌, length, take, drop};
 ghost use Rattle.nfs_model.specs.Pages.{placed, fitting, at_least_one, too_small};
@@ -9,7 +9,7 @@ use crate::entries::Entries;
 use crate::measure::{FRAME, Measure, length_by, most_bytes};
 use ivy_base::{Bytes, Key};
 
-/// Those of all entries that come behind a cookie.
+/// Those of all entries that come after a cookie.
 pub fn behind(all: &[(Bytes, Key)], cookie: u64) -> Entries<'_>
     ensures { places result ≡ drop cookie (placed 0 all.now) }
 {

@@ -23,7 +23,7 @@ use view_blocks::View;
 ///
 /// Refused are, in this order, a bad or stale handle, what is no directory (`NotDir`), who may not search it (`Acces`),
 /// a name that is too long or invalid (`NameTooLong`, `Inval`), one that isn't there (`NoEnt`), and one whose inode is
-/// missing (`Stale`). The error is want of memory.
+/// missing (`Stale`). The error is: out of memory.
 pub(crate) fn lookup(
     alloc: Global,
     tree: &Tree,

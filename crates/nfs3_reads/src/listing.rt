@@ -21,7 +21,7 @@ pub struct Whole {
     pub verifier: [u8; 8],
 }
 
-/// All that the directory of that number has. The error is want of memory.
+/// All that the directory of that number has. The error is: out of memory.
 pub fn whole_of(alloc: Global, tree: &Tree, number: &Key) -> Result<Whole, Memory>
     requires { is_directory (inode_at tree.now number.now) ≡ true }
     ensures entries { IfOk result (λ whole. whole.entries.items ≡ all_entries tree.now number.now) }
@@ -36,7 +36,7 @@ pub fn whole_of(alloc: Global, tree: &Tree, number: &Key) -> Result<Whole, Memor
     })
 }
 
-/// The entries of a directory of that number and that parent. The error is want of memory.
+/// The entries of a directory of that number and that parent. The error is: out of memory.
 fn with_parents(
     alloc: Global,
     number: Key,

@@ -25,7 +25,7 @@ use rpc_wire::Caller;
 use std::alloc::Global;
 use view_blocks::View;
 
-/// Where a page begins: behind the entry of that cookie, of the listing that has that verifier (RFC 1813, sections
+/// Where a page begins: after the entry of that cookie, of the listing that has that verifier (RFC 1813, sections
 /// 3.3.16 and 3.3.17, cookie and cookieverf).
 #[derive(Clone, Copy)]
 pub struct PageStart {
@@ -35,12 +35,12 @@ pub struct PageStart {
     pub verifier: [u8; 8],
 }
 
-/// READDIR (RFC 1813, section 3.3.16): the entries behind the start, in at most `count` bytes, of which 32,768 are
-/// taken at most.
+/// READDIR (RFC 1813, section 3.3.16): the entries after the start, in at most `count` bytes, of which 32,768 are taken
+/// at most.
 ///
 /// Refused are, in this order, a bad or stale handle, what is no directory (`NotDir`), who may not read it (`Acces`), a
 /// cookie other than 0 with another verifier than the listing's (`BadCookie`), and a first entry that doesn't fit
-/// (`TooSmall`). The error is want of memory.
+/// (`TooSmall`). The error is: out of memory.
 pub fn read_directory(
     alloc: Global,
     tree: &Tree,
@@ -76,7 +76,7 @@ pub fn read_directory(
 
 /// READDIRPLUS (RFC 1813, section 3.3.17): the same with attributes and file handles, in at most `maxcount` bytes, of
 /// which 32,768 are taken at most; numbers, names and cookies take at most `dircount`, but one entry is given in any
-/// case. It is refused as [`read_directory`] is. The error is want of memory.
+/// case. It is refused as [`read_directory`] is. The error is: out of memory.
 pub fn read_directory_plus(
     alloc: Global,
     tree: &Tree,
@@ -162,7 +162,7 @@ fn are_same(a: &[u8; 8], b: &[u8; 8]) -> bool
     a == b
 }
 
-/// The page of these entries, with neither attributes nor handles. The error is want of memory.
+/// The page of these entries, with neither attributes nor handles. The error is: out of memory.
 fn plain_page(alloc: Global, entries: &Entries<'_>) -> Result<Page, Memory>
     ensures { IfOk result (λ page. page ≡ map listed (places entries.now)) }
 {
@@ -181,7 +181,7 @@ fn plain_page(alloc: Global, entries: &Entries<'_>) -> Result<Page, Memory>
     Ok(Page::of(page))
 }
 
-/// The page of these entries with their attributes and handles. The error is want of memory.
+/// The page of these entries with their attributes and handles. The error is: out of memory.
 fn page_plus(alloc: Global, tree: &Tree, view: &View, entries: &Entries<'_>) -> Result<Page, Memory>
     ensures { IfOk result (λ page. page ≡ map (listed_plus tree.now view.now) (places entries.now)) }
 {

@@ -1,4 +1,4 @@
--- Whole results are read: a status, and what stands behind it.
+-- Whole results are read: a status, and what stands after it.
 use Rattle.std.proofs.Common.{◌≡◌, ◌≢◌, ℕ, ◌<◌, ◌≤◌, ◌^◌, Bool, true, false, List, [], ◌∷◌, ◌++◌, length, get_or, zero, suc, ◌+◌, Option, Some, None, ◌⊎◌, inl, inr, refl, sym, ap, ◌∙◌, subst, arith, append_assoc}
 use Rattle.std.specs.Prelude.{nat_eq, nat_le, ◌&&◌, ◌-◌}
 use Rattle.std.proofs.lemmas.List.{append-nil}
@@ -8,7 +8,7 @@ use Rattle.wire_model.proofs.OneReading.{of_parts, one_word}
 use Rattle.nfs_model.specs.declared.arguments.Args.{Args}
 use Rattle.nfs_model.specs.declared.arguments.Args.TheVariants as call
 use Rattle.nfs_model.specs.declared.arguments.How.TheVariants.{Exclusive}
-use Rattle.nfs_model.specs.declared.arguments.Node.TheVariants.{Plain}
+use Rattle.nfs_model.specs.declared.arguments.SpecialNode.TheVariants.{Plain}
 use Rattle.nfs_model.specs.declared.replies.NfsStatus.{NfsStatus}
 use Rattle.nfs_model.specs.declared.replies.Fattr.{Fattr}
 use Rattle.nfs_model.specs.declared.replies.Wcc.{Wcc}
@@ -63,7 +63,7 @@ status_missed {n = n} f other no_status gone = number_missed number_of (λ o. nu
     none None e = other (sym e)
     none (Some s) e = no_status s e
 
--- ---- what stands behind a refusal
+-- ---- what stands after a refusal
 
 two_caches_of : (t : Tail) → IsTailOf 3 t → MadeOf AreTwoCaches (λ p. tails.TwoCaches p.0 p.1) t
 two_caches_of (tails.TwoCaches v w) f = record { part = (v, w); fits = f.1; same = refl }
@@ -92,7 +92,7 @@ one_tail_of form = record { one = λ t u r s f g e. same t u r s f.1 g.1 (f.0 �
         let p = one_attributes_and_cache.one (a, b) (c, d) r s f g e in (ap (λ (p : Option Fattr × Wcc). tails.AttributesAndCache p.0 p.1) p.0, p.1)
     same t u r s f g k e = absurd (omega (arith, k))
 
--- ---- what stands behind status 0
+-- ---- what stands after status 0
 
 one_done : (r : Reply) → 1 ≤ result_form r → result_form r ≤ 100 → ReadsOne (IsDone (result_form r)) after_status
 one_done (reply.Attributes object) f g = one_made made_attributes one_fattr
@@ -466,7 +466,7 @@ module _ (program procedure : ℕ) {bytes : List ℕ} {now : Option (List ℕ)} 
 pub null_read : (program procedure : ℕ) (a : Option (List ℕ)) → program ≡ nfs_program → procedure ≡ 0 → Reads (Answers program procedure) result a reply.Nothing a
 null_read program procedure a p q = subst (λ n. Reads (Answers n procedure) result a reply.Nothing a) (sym p) (subst (λ n. Reads (Answers nfs_program n) result a reply.Nothing a) (sym q) (nothing_read a))
 
--- ---- what stands behind a refusal
+-- ---- what stands after a refusal
 
 pub two_caches_read : {a b c : Option (List ℕ)} {v w : Wcc} → Reads IsWcc wcc a v b → Reads IsWcc wcc b w c → Reads (IsTailOf 3) tail a (tails.TwoCaches v w) c
 two_caches_read f g = (made_read made_two_caches (part one_wcc f ▸ part one_wcc g)).reads

@@ -12,7 +12,7 @@ use Rattle.nfs3_replies.specs.ReadParts.{constant}
 pub one_constant : (words : List ℕ) → ReadsOne IsAny (constant words)
 one_constant words = always (constant words tt)
 
--- what stands behind the first words
+-- what stands after the first words
 record Behind (w : ℕ) (left : List ℕ) : Type 0 where
   rest : List ℕ
   spelled : left ≡ word w ++ rest

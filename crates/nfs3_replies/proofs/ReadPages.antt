@@ -108,7 +108,7 @@ one_of_page plus = one_page (IsEntry plus) (entry_body plus) (one_entry plus)
 abbrev pub AreRead : Bool → List ℕ → List Listed → List ℕ → Type 0
 AreRead plus start done left = IsFront (AllByRecursion (IsEntry plus)) (flat_map (flagged_entry plus)) start done left
 
--- behind the first entries of a page stand the others, as a page
+-- after the first entries of a page stand the others, as a page
 record Others (plus : Bool) (left rest : List ℕ) : Type 0 where
   others : List Listed
   fits : ArePage plus others

@@ -24,7 +24,7 @@ use Rattle.tree_model.specs.Tree.{longest_file}
 record AtMost (bytes : List ℕ) (n : ℕ) : Type 0 where
   most : length bytes ≤ n
 
--- one part behind another
+-- one part after another
 infixl 60 ◌▷◌
 ◌▷◌ : {a b : ℕ} {xs ys : List ℕ} → AtMost xs a → AtMost ys b → AtMost (xs ++ ys) (a + b)
 ◌▷◌ {xs} {ys} p q = record { most = omega (arith, p.most, q.most, length-append xs ys) }

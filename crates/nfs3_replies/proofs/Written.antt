@@ -8,7 +8,7 @@ use Rattle.nfs_model.specs.Results.{fattr, wcc, write_verifier, many, result}
 use Rattle.nfs3_replies.proofs.ReadForms.{space_words, limits_words}
 use Rattle.tree_model.specs.Tree.{longest_file}
 
--- these bytes were put behind the first ones
+-- these bytes were put after the first ones
 pub record Puts (start done now : List ℕ) : Type 0 where
   pub is : now ≡ start ++ done
 

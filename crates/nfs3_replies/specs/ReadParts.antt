@@ -31,14 +31,14 @@ status_word status = word (status_number status)
 
 -- ---- results
 
--- attributes and cache data: LINK, and what stands behind a refusal of it
+-- attributes and cache data: LINK, and what stands after a refusal of it
 abbrev pub AreAttributesAndCache : Option Fattr × Wcc → Type 0
 AreAttributesAndCache p = IsOptional IsFattr p.0 × IsWcc p.1
 
 abbrev pub attributes_and_cache : Option Fattr × Wcc → List ℕ
 attributes_and_cache p = optional fattr p.0 ++ wcc p.1
 
--- cache data of two directories: RENAME, and what stands behind a refusal of it
+-- cache data of two directories: RENAME, and what stands after a refusal of it
 abbrev pub AreTwoCaches : Wcc × Wcc → Type 0
 AreTwoCaches p = IsWcc p.0 × IsWcc p.1
 
@@ -118,7 +118,7 @@ AreEntryParts p = (IsDoubleWord p.0.0 × IsText p.0.1) × IsDoubleWord p.1
 abbrev pub entry_parts : EntryParts → List ℕ
 entry_parts p = (double_word p.0.0 ++ opaque p.0.1) ++ double_word p.1
 
--- an entry of READDIRPLUS, or else of READDIR, behind its flag
+-- an entry of READDIRPLUS, or else of READDIR, after its flag
 abbrev pub IsEntry : Bool → Listed → Type 0
 IsEntry false = IsPlainEntry
 IsEntry true = IsPlusEntry
@@ -150,7 +150,7 @@ page_head p = optional fattr p.0 ++ as_it_stands p.1
 
 -- ---- forms
 
--- what stands behind the status of a result
+-- what stands after the status of a result
 abbrev pub after_status : Reply → List ℕ
 after_status r = drop 4 (result r)
 

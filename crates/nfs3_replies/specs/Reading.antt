@@ -21,7 +21,7 @@ pub record IsReply (program procedure : ℕ) (bytes : List ℕ) (reply : Reply) 
   pub fits : ReplyFits reply
   pub spelled : bytes ≡ result reply
 
--- the bytes are no reply to it; want of memory tells nothing of them
+-- the bytes are no reply to it; running out of memory tells nothing of them
 abbrev pub NoReply : ℕ → ℕ → List ℕ → ArgsFault → Type 0
 NoReply program procedure bytes Garbage = (reply : Reply) → IsReply program procedure bytes reply → ⊥
 NoReply program procedure bytes Memory = ⊤

@@ -50,7 +50,7 @@ fn read_page(alloc: Global, parts: &mut Parts, plus: bool) -> Result<Page, Memor
     Ok(Page::of(entries))
 }
 
-/// An entry behind its flag.
+/// An entry after its flag.
 fn read_entry(alloc: Global, parts: &mut Parts, plus: bool) -> Result<Listed, Memory>
     ensures { IfOk result (λ entry. Reads (IsEntry plus) (entry_body plus) parts.old entry parts.new) }
 {

@@ -29,8 +29,8 @@ const MOUNT_PROGRAM: u32 = 100_005;
 ///
 /// `Garbage` comes exactly where the bytes are no reply to the procedure: cut, followed by other bytes, with
 /// another status or another boolean, with padding that isn't zero, or with another number where this server's
-/// results always have the same one. `Memory` is want of memory; the memory that is taken is bounded by the bytes
-/// that are there, whatever lengths they tell.
+/// results always have the same one. `Memory` means out of memory; the memory that is taken is bounded by the
+/// bytes that are there, whatever lengths they tell.
 pub fn read_reply(
     alloc: Global,
     program: u32,

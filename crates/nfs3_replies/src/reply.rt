@@ -22,7 +22,7 @@ use xdr_codec::XdrWrite;
 /// The bytes of a result, from its status on (RFC 1813, sections 3.3 and 5.2).
 ///
 /// They are at most as many as its parts take, where the handles of a page of READDIRPLUS have at most 44 bytes each.
-/// The error is want of memory; it also comes where a string that the result shows has 2^32 bytes or more, which no word
+/// The error is: out of memory; it also comes where a string that the result shows has 2^32 bytes or more, which no word
 /// counts, and where the result has 2^64 bytes or more.
 pub fn write_reply(alloc: Global, reply: &Reply) -> Result<Bytes, Memory>
     ensures written { IfOk result (λ bytes. bytes ≡ bytes_of reply.now) }

@@ -5,7 +5,7 @@ use Rattle.nfs_model.specs.declared.replies.NfsStatus.{NfsStatus}
 use Rattle.nfs_model.specs.declared.replies.Tail.{Tail}
 use Rattle.nfs_model.specs.declared.replies.Reply.TheVariants as reply
 use Rattle.nfs_model.specs.Checks.{Check, first_failure}
-use Rattle.nfs_model.specs.Changing.{Plan, Refuse, unless}
+use Rattle.nfs_model.specs.Changing.{Plan, Refuse, plan_unless}
 
 or_first : (b : Bool) (fault : NfsStatus) (f g : Option NfsStatus) → option_or (cond b (Some fault) f) g ≡ cond b (Some fault) (option_or f g)
 or_first true fault f g = refl
@@ -24,7 +24,7 @@ or_some None last = refl
 or_some (Some fault) last = refl
 
 -- a last check that always fails
-pub refused_at_last : (xs : List Check) (last : NfsStatus) (with : Tail) (p : Plan) (fault : NfsStatus) → fault ≡ unwrap_or (first_failure xs) last → unless (xs ++ (true, last) ∷ []) with p ≡ Refuse (reply.Refused fault with)
+pub refused_at_last : (xs : List Check) (last : NfsStatus) (with : Tail) (p : Plan) (fault : NfsStatus) → fault ≡ unwrap_or (first_failure xs) last → plan_unless (xs ++ (true, last) ∷ []) with p ≡ Refuse (reply.Refused fault with)
 refused_at_last xs last with p fault h =
     let failed : first_failure (xs ++ (true, last) ∷ []) ≡ Some (unwrap_or (first_failure xs) last) = sym (first_of xs ((true, last) ∷ [])) ∙ or_some (first_failure xs) last in
     rw (failed, ← h) refl

@@ -52,7 +52,7 @@ impl Asked {
 
 // ---- MKDIR
 
-/// MKDIR (RFC 1813, section 3.3.9); a size is passed over. The error is want of memory.
+/// MKDIR (RFC 1813, section 3.3.9); a size is passed over. The error is: out of memory.
 pub fn plan_directory(
     alloc: Global,
     tree: &Tree,
@@ -102,7 +102,7 @@ fn directory_rest(
     ])
 }
 
-/// The operation that makes the inode, with the caller as its owner. The error is want of memory.
+/// The operation that makes the inode, with the caller as its owner. The error is: out of memory.
 fn make(
     alloc: Global,
     caller: &Caller,
@@ -123,7 +123,7 @@ fn make(
     })
 }
 
-/// The operation that gives an inode a name. The error is want of memory.
+/// The operation that gives an inode a name. The error is: out of memory.
 fn link(alloc: Global, dir: Key, name: &[u8], ino: Key) -> Result<Op, Memory>
     ensures { IfOk result (λ op. op ≡ Op.Link dir name.now ino) }
 {
@@ -135,7 +135,7 @@ fn link(alloc: Global, dir: Key, name: &[u8], ino: Key) -> Result<Op, Memory>
 }
 
 /// The plan of the operations that make an inode of that kind, name it in the directory, and set its times where any is
-/// given. The error is want of memory.
+/// given. The error is: out of memory.
 fn new_of_kind(
     alloc: Global,
     caller: &Caller,
@@ -152,7 +152,7 @@ fn new_of_kind(
 }
 
 /// The plan of the operation that makes an inode, of one that names it in the directory, and of one that sets its times
-/// where any is given. The error is want of memory.
+/// where any is given. The error is: out of memory.
 fn new_object(
     alloc: Global,
     inode: Op,
@@ -177,14 +177,14 @@ fn sets_a_time(change: &Change) -> bool
     change.atime.is_some() || change.mtime.is_some()
 }
 
-/// The plan of the operations that make an inode and name it. The error is want of memory.
+/// The plan of the operations that make an inode and name it. The error is: out of memory.
 fn two(alloc: Global, inode: Op, link: Op) -> Result<Plan, Memory>
     ensures { IfOk result (λ given. seen given ≡ Operations (inode ∷ link ∷ [])) }
 {
     Ok(Plan::Ops(Ops::of(vec![in alloc; inode, link]?)))
 }
 
-/// The plan of the operations that make an inode, name it and set its attributes. The error is want of memory.
+/// The plan of the operations that make an inode, name it and set its attributes. The error is: out of memory.
 fn three(alloc: Global, inode: Op, link: Op, ino: Key, change: Change) -> Result<Plan, Memory>
     ensures { IfOk result (λ given. seen given ≡ Operations (inode ∷ link ∷ Op.SetAttrs ino change ∷ [])) }
 {
@@ -194,7 +194,7 @@ fn three(alloc: Global, inode: Op, link: Op, ino: Key, change: Change) -> Result
 
 // ---- SYMLINK
 
-/// SYMLINK (RFC 1813, section 3.3.10); the text has 1 to 1,024 bytes, and a size is passed over. The error is want of
+/// SYMLINK (RFC 1813, section 3.3.10); the text has 1 to 1,024 bytes, and a size is passed over. The error is: out of
 /// memory.
 pub fn plan_symbolic_link(
     alloc: Global,
@@ -253,7 +253,7 @@ fn link_rest(
 // ---- CREATE
 
 /// CREATE (RFC 1813, section 3.3.8) at that moment, of which a new file gets that number. Under a verifier it is not
-/// supported. The error is want of memory.
+/// supported. The error is: out of memory.
 pub fn plan_create(
     alloc: Global,
     tree: &Tree,
@@ -293,7 +293,7 @@ fn refused_exclusive(tree: &Tree, view: &View, caller: &Caller, handle: &[u8], n
     }
 }
 
-/// CREATE with attributes. A file that is there may stand where the creation is not guarded. The error is want of memory.
+/// CREATE with attributes. A file that is there may stand where the creation is not guarded. The error is: out of memory.
 fn plan_file(
     alloc: Global,
     tree: &Tree,
@@ -386,7 +386,7 @@ fn may_cut(tree: &Tree, caller: &Caller, number: Option<Key>) -> bool
     }
 }
 
-/// What becomes of a file that is there: its size is set where one is given. The error is want of memory.
+/// What becomes of a file that is there: its size is set where one is given. The error is: out of memory.
 fn plan_existing(
     alloc: Global,
     tree: &Tree,
@@ -419,7 +419,7 @@ fn set_size(ino: Key, size: Option<u64>) -> Op
     Op::SetAttrs { ino, change }
 }
 
-/// The reply that tells of a file that is there and stays as it is. The error is want of memory.
+/// The reply that tells of a file that is there and stays as it is. The error is: out of memory.
 fn found(
     alloc: Global,
     tree: &Tree,
@@ -447,7 +447,7 @@ fn positive(size: Option<u64>) -> Option<u64>
     }
 }
 
-/// A new file: its times are set where they are given, and its size where it is above 0. The error is want of memory.
+/// A new file: its times are set where they are given, and its size where it is above 0. The error is: out of memory.
 fn plan_new(
     alloc: Global,
     caller: &Caller,

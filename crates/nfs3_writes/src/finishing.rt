@@ -15,7 +15,7 @@ use std::alloc::Global;
 use view_blocks::View;
 
 /// The reply to a call whose planned operations stand, of the trees before and after them. To the reading procedures,
-/// NULL and MOUNT's it is `Nothing`. The error is want of memory.
+/// NULL and MOUNT's it is `Nothing`. The error is: out of memory.
 pub fn finish(
     alloc: Global,
     before: &Tree,
@@ -75,7 +75,7 @@ fn written(before: &Tree, after: &Tree, view: &View, handle: &[u8], count: u32) 
 }
 
 /// The reply to CREATE, MKDIR and SYMLINK: the object that the first operation makes or sets, and its directory. The error
-/// is want of memory.
+/// is: out of memory.
 fn made(
     alloc: Global,
     before: &Tree,
@@ -95,7 +95,7 @@ fn made(
     made_in(alloc, before, after, view, &dir.number, &number)
 }
 
-/// The reply that tells of the object of that number, and of the directory. The error is want of memory.
+/// The reply that tells of the object of that number, and of the directory. The error is: out of memory.
 fn made_in(
     alloc: Global,
     before: &Tree,

@@ -5,7 +5,7 @@ ghost use Rattle.rpc_wire.specs.Callers.{identity_of};
 ghost use Rattle.tree_model.specs.Tree.{entry, inode_at, is_directory};
 ghost use Rattle.nfs_model.specs.Checks.{first_failure};
 ghost use Rattle.nfs_model.specs.Objects.{object_of, cache_data};
-ghost use Rattle.nfs_model.specs.Changing.{Nothing, Operations, unless, plan_remove, plan_remove_directory, plan_rename, plan_rename_between, plan_link, attributes_of, cache_of, inode_under, is_inside_moved, move_checks, same_target};
+ghost use Rattle.nfs_model.specs.Changing.{Nothing, Operations, plan_unless, plan_remove, plan_remove_directory, plan_rename, plan_rename_between, plan_link, attributes_of, cache_of, inode_under, is_inside_moved, move_checks, same_target};
 ghost use Rattle.nfs3_objects.specs.Seen.{seen as seen_object};
 ghost use Rattle.nfs3_writes.specs.Checks.{link_checks, link_rest, remove_checks, remove_directory_checks, remove_directory_rest, remove_rest, rename_checks, rename_rest, both_directories_checks};
 ghost use Rattle.nfs3_writes.specs.Seen.{seen};
@@ -29,7 +29,7 @@ const MOST_NAMES: u64 = 1000;
 
 // ---- REMOVE
 
-/// REMOVE (RFC 1813, section 3.3.12). The error is want of memory.
+/// REMOVE (RFC 1813, section 3.3.12). The error is: out of memory.
 pub fn plan_remove(
     alloc: Global,
     tree: &Tree,
@@ -75,7 +75,7 @@ fn remove_rest(tree: &Tree, name: &[u8], target: Option<Key>) -> Option<NfsStatu
     ])
 }
 
-/// The plan that a name goes. The error is want of memory.
+/// The plan that a name goes. The error is: out of memory.
 fn unlinked(alloc: Global, dir: Key, name: &[u8]) -> Result<Plan, Memory>
     ensures { IfOk result (λ given. seen given ≡ Operations (Op.Unlink dir name.now ∷ [])) }
 {
@@ -85,7 +85,7 @@ fn unlinked(alloc: Global, dir: Key, name: &[u8]) -> Result<Plan, Memory>
 
 // ---- RMDIR
 
-/// RMDIR (RFC 1813, section 3.3.13). The error is want of memory.
+/// RMDIR (RFC 1813, section 3.3.13). The error is: out of memory.
 pub fn plan_remove_directory(
     alloc: Global,
     tree: &Tree,
@@ -135,7 +135,7 @@ fn remove_directory_rest(tree: &Tree, name: &[u8], target: Option<Key>) -> Optio
 
 // ---- RENAME
 
-/// RENAME (RFC 1813, section 3.3.14). The error is want of memory.
+/// RENAME (RFC 1813, section 3.3.14). The error is: out of memory.
 pub fn plan_rename(
     alloc: Global,
     tree: &Tree,
@@ -179,7 +179,7 @@ fn told_of_both(tree: &Tree, view: &View, dir: &LiveObject<'_>, to_dir: &LiveObj
     Tail::TwoCaches(told_of(tree, view, dir), told_of(tree, view, to_dir))
 }
 
-/// RENAME where both handles stand. The error is want of memory.
+/// RENAME where both handles stand. The error is: out of memory.
 fn rename_between(
     alloc: Global,
     tree: &Tree,
@@ -301,7 +301,7 @@ fn is_inside_moved(tree: &Tree, dir: &Key, moved: Option<Key>) -> bool
     }
 }
 
-/// The plan that a name moves. The error is want of memory.
+/// The plan that a name moves. The error is: out of memory.
 fn renamed(
     alloc: Global,
     dir: Key,
@@ -322,7 +322,7 @@ fn renamed(
 
 // ---- LINK
 
-/// LINK (RFC 1813, section 3.3.15), of a file with less than 1,000 names. The error is want of memory.
+/// LINK (RFC 1813, section 3.3.15), of a file with less than 1,000 names. The error is: out of memory.
 pub fn plan_link(
     alloc: Global,
     tree: &Tree,
@@ -405,7 +405,7 @@ fn link_rest(
     ])
 }
 
-/// The plan that an inode gets a name. The error is want of memory.
+/// The plan that an inode gets a name. The error is: out of memory.
 fn linked(alloc: Global, dir: Key, name: &[u8], ino: Key) -> Result<Plan, Memory>
     ensures { IfOk result (λ given. seen given ≡ Operations (Op.Link dir name.now ino ∷ [])) }
 {

@@ -36,7 +36,7 @@ impl Ops {
         self.items.as_slice()
     }
 
-    /// A copy of these operations and of their bytes. The error is want of memory.
+    /// A copy of these operations and of their bytes. The error is: out of memory.
     pub fn copy(&self, alloc: Global) -> Result<Ops, Memory>
         ensures { IfOk result (λ copy. copy ≡ self.now) }
     {

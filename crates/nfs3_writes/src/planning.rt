@@ -18,7 +18,7 @@ use view_blocks::View;
 
 /// What the call is to do on this tree at this moment, where the caller's participant has the key `own` and its next
 /// record has the number `seq`. To the reading procedures, NULL and MOUNT's it is `Nothing`, as these are answered
-/// elsewhere. The error is want of memory.
+/// elsewhere. The error is: out of memory.
 pub fn plan(
     alloc: Global,
     tree: &Tree,

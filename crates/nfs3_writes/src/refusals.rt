@@ -52,7 +52,7 @@ pub fn told_at(tree: &Tree, view: &View, handle: &[u8]) -> Wcc
     }
 }
 
-/// The plan of that one operation. The error is want of memory.
+/// The plan of that one operation. The error is: out of memory.
 pub fn planned(alloc: Global, op: Op) -> Result<Plan, Memory>
     ensures { IfOk result (λ given. seen given ≡ Operations (op ∷ [])) }
 {

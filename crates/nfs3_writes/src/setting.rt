@@ -5,7 +5,7 @@ ghost use Rattle.std.specs.Option.{option_map_or};
 ghost use Rattle.rpc_wire.specs.Callers.{identity_of};
 ghost use Rattle.nfs_model.specs.Checks.{first_failure};
 ghost use Rattle.nfs_model.specs.Objects.{cache_data, is_owner, may_write};
-ghost use Rattle.nfs_model.specs.Changing.{Nothing, Operations, unless, plan_attributes, plan_write, set_attribute_checks, is_client_time, is_plain_owner, may_give, asked_change, taken_part};
+ghost use Rattle.nfs_model.specs.Changing.{Nothing, Operations, plan_unless, plan_attributes, plan_write, set_attribute_checks, is_client_time, is_plain_owner, may_give, asked_change, taken_part};
 ghost use Rattle.nfs3_objects.specs.Seen.{seen as seen_object};
 ghost use Rattle.nfs3_writes.specs.Checks.{write_checks};
 ghost use Rattle.nfs3_writes.specs.Seen.{seen};
@@ -31,7 +31,7 @@ const MOST_TAKEN: usize = 8192;
 // ---- SETATTR
 
 /// SETATTR (RFC 1813, section 3.3.2). It plans an operation also where nothing is given, which sets the ctime. The error
-/// is want of memory.
+/// is: out of memory.
 pub fn plan_attributes(
     alloc: Global,
     tree: &Tree,
@@ -142,7 +142,7 @@ fn may_give(caller: &Caller, what: &SetWhat) -> bool
 
 // ---- WRITE
 
-/// WRITE (RFC 1813, section 3.3.7). The first 8,192 bytes are taken. The error is want of memory.
+/// WRITE (RFC 1813, section 3.3.7). The first 8,192 bytes are taken. The error is: out of memory.
 pub fn plan_write(
     alloc: Global,
     tree: &Tree,
@@ -198,7 +198,7 @@ pub fn taken_part(bytes: &[u8]) -> &[u8]
     &bytes[..MOST_TAKEN.min(bytes.len())]
 }
 
-/// The operation that writes the bytes that are taken, where there are any. The error is want of memory.
+/// The operation that writes the bytes that are taken, where there are any. The error is: out of memory.
 fn write_taken(
     alloc: Global,
     tree: &Tree,

@@ -9,7 +9,7 @@ use Rattle.log_model.specs.View.{View}
 use Rattle.wire_model.specs.Rpc.{Identity}
 use Rattle.nfs_model.specs.declared.arguments.Args.{Args}
 use Rattle.nfs_model.specs.declared.arguments.Args.TheVariants as call
-use Rattle.nfs_model.specs.declared.arguments.Node.{Node}
+use Rattle.nfs_model.specs.declared.arguments.SpecialNode.{SpecialNode}
 use Rattle.nfs_model.specs.declared.replies.Fattr.{Fattr}
 use Rattle.nfs_model.specs.declared.replies.NfsStatus.{NfsStatus}
 use Rattle.nfs_model.specs.declared.replies.NfsStatus.TheVariants.{NoEnt, Inval, Acces, NotSupp, Stale}
@@ -104,7 +104,7 @@ module _ (t : Tree) (view : View) (who : Identity) (tree : TreeFits t) where
 
   -- ---- MKNOD and COMMIT
 
-  form_make_node : (handle name : List ℕ) (node : Node) → IsFittingReply (call.MkNod handle name node) (make_node t view handle)
+  form_make_node : (handle name : List ℕ) (node : SpecialNode) → IsFittingReply (call.MkNod handle name node) (make_node t view handle)
   form_make_node handle name node = with_about (IsFittingReply (call.MkNod handle name node)) (tails.Cache no_cache_data) (with_no_cache (call.MkNod handle name node) refl) (object_of t view handle) _
       (λ dir e. with_cache (call.MkNod handle name node) refl dir.number NotSupp)
 

@@ -27,7 +27,7 @@ use Rattle.nfs_model.specs.Checks.{Check, is_dot, is_dot_dot, same_bytes}
 use Rattle.nfs_model.specs.Objects.{Object, cache_data, is_owner, live_object, may_read, may_write, object_of, handle_tag}
 use Rattle.nfs_model.specs.Reading.{answer, found, found_inode, link_kind, lookup_checks, target_of}
 use Rattle.nfs_model.specs.Pages.{long_length, page_checks, plain_length}
-use Rattle.nfs_model.specs.Changing.{Plan, Refuse, Nothing, Operations, about, directory_checks, inode_under, is_empty_under, invalid_times, may_change, may_cut, move_checks, name_checks, too_large, finish, made, made_number, plan, plan_file, plan_file_at, plan_rename_between, same_target, set_attribute_checks, standing, taken, taken_part, unless}
+use Rattle.nfs_model.specs.Changing.{Plan, Refuse, Nothing, Operations, plan_about, directory_checks, inode_under, is_empty_under, invalid_times, may_change, may_cut, move_checks, name_checks, too_large, finish, made, made_number, plan, plan_file, plan_file_at, plan_rename_between, same_target, set_attribute_checks, standing, taken, taken_part, plan_unless}
 use Rattle.nfs_model.specs.Results.{result, status_number, tail}
 use Rattle.nfs_model.proofs.OneReplies.{one_status}
 
@@ -80,7 +80,7 @@ plain_differs reply.NoSuchPath t plain e = cc
 plain_differs reply.NoMounts t plain e = cc
 plain_differs reply.Exports t plain e = cc
 
--- ---- behind an object and checks
+-- ---- after an object and checks
 
 pub IsPlain : Reply → Type 0
 IsPlain r = is_plain r ≡ true
@@ -184,17 +184,17 @@ module _ (t : Tree) (view : View) (who : Identity) where
 -- ---- planning
 
 planned_check : (b : Bool) (fault : NfsStatus) (checks : List Check) (with : Tail) (p : Plan)
-    → is_plain_status fault ≡ true → IsPlainPlan (unless checks with p) → IsPlainPlan (unless ((b, fault) ∷ checks) with p)
+    → is_plain_status fault ≡ true → IsPlainPlan (plan_unless checks with p) → IsPlainPlan (plan_unless ((b, fault) ∷ checks) with p)
 unfolding IsPlainPlan
 planned_check true fault checks with p plain h = plain
 planned_check false fault checks with p plain h = h
 
-planned_unless : (checks : List Check) (with : Tail) (p : Plan) → are_plain checks ≡ true → IsPlainPlan p → IsPlainPlan (unless checks with p)
+planned_unless : (checks : List Check) (with : Tail) (p : Plan) → are_plain checks ≡ true → IsPlainPlan p → IsPlainPlan (plan_unless checks with p)
 planned_unless [] with p plain h = h
 planned_unless (c ∷ checks) with p plain h =
     planned_check c.0 c.1 checks with p (both_first (is_plain_status c.1) (are_plain checks) plain) (planned_unless checks with p (both_second (is_plain_status c.1) (are_plain checks) plain) h)
 
-planned_about : (found : Result Object NfsStatus) (with : Tail) (plan : Object → Plan) → IsPlainObject found → ((o : Object) → IsPlainPlan (plan o)) → IsPlainPlan (about found with plan)
+planned_about : (found : Result Object NfsStatus) (with : Tail) (plan : Object → Plan) → IsPlainObject found → ((o : Object) → IsPlainPlan (plan o)) → IsPlainPlan (plan_about found with plan)
 unfolding IsPlainObject IsPlainPlan
 planned_about (Ok o) with plan plain h = h o
 planned_about (Err fault) with plan plain h = plain

@@ -44,11 +44,11 @@ next_place n es (x ∷ some) rest [] same e = cc
 next_place n [] (x ∷ some) rest (p ∷ page) same e = cc
 next_place n (y ∷ es) (x ∷ some) rest (p ∷ page) same e =
     let first : x ≡ (n + 1, y) = cc in
-    let behind : some ++ rest ≡ placed (n + 1) es = cc in
+    let after : some ++ rest ≡ placed (n + 1) es = cc in
     let head : shown p ≡ seen x = cc in
     let tail : map shown page ≡ map seen some = cc in
     let cookie : p.cookie ≡ n + 1 = ap (λ (s : ℕ × (List ℕ × ℕ)). s.1.1) head ∙ ap (λ (z : Entry). z.0) first in
-    let again = next_place (n + 1) es some rest page tail behind in
+    let again = next_place (n + 1) es some rest page tail after in
     rw cookie (again ∙ omega arith)
 
 -- ---- the directory's entries
@@ -94,18 +94,18 @@ module _ (number : Key) (names : List (List ℕ × Key)) where
       let long = eqb-true (length p.shows.some) (length left) p.shows.ends in
       (p.above, p.shows.seen_is ∙ ap (λ (es : List Entry). map seen es) (all_left p.shows.some p.shows.front.0 left p.shows.front.1 long))
 
-  -- a page and those behind it
+  -- a page and those after it
   and_more : (cookie : ℕ) (page rest : List Listed) → IsPart cookie page false
       → (above : Key) × (map shown rest ≡ map seen (drop (next_cookie cookie page) (whole number names above)))
       → (above : Key) × (map shown (page ++ rest) ≡ map seen (drop cookie (whole number names above)))
   and_more cookie page rest p next =
       let some : List Entry = p.shows.some in
-      let behind : List Entry = p.shows.front.0 in
+      let after : List Entry = p.shows.front.0 in
       let left : List Entry = drop cookie (whole number names p.above) in
-      let front : some ++ behind ≡ left = p.shows.front.1 in
-      let first : some ≡ take (length some) left = sym (take-append_seam some behind) ∙ ap (λ (es : List Entry). take (length some) es) front in
+      let front : some ++ after ≡ left = p.shows.front.1 in
+      let first : some ≡ take (length some) left = sym (take-append_seam some after) ∙ ap (λ (es : List Entry). take (length some) es) front in
       let all : List (List ℕ × Key) = (46 ∷ [], number) ∷ (46 ∷ 46 ∷ [], p.above) ∷ names in
-      let place : next_cookie cookie page ≡ cookie + length some = next_place cookie (drop cookie all) some behind page p.shows.seen_is (front ∙ behind_cookie cookie all) in
+      let place : next_cookie cookie page ≡ cookie + length some = next_place cookie (drop cookie all) some after page p.shows.seen_is (front ∙ behind_cookie cookie all) in
       let next_left : drop (next_cookie cookie page) (whole number names next.0) ≡ drop (length some) (drop cookie (whole number names next.0)) =
       ap (λ (n : ℕ). drop n (whole number names next.0)) place ∙ sym (drop-drop (length some) cookie (whole number names next.0)) in
       let j = joined cookie (length some) p.above next.0 in (

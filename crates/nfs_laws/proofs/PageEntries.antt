@@ -79,7 +79,7 @@ at_place t dir cookie i x h =
     let place : 1 + (cookie + i) ≡ cookie + 1 + i = omega arith in
     (omega (arith, there.0), subst (λ (n : ℕ). StandsAt t dir n x.1.0 x.1.1) place (stands t dir (cookie + i) x.1 there.1))
 
--- ---- a page behind a cookie
+-- ---- a page after a cookie
 
 length_left : (t : Tree) (dir : Key) (cookie : ℕ) → length (entries_from t dir cookie) ≡ (2 + length (listing t dir)) - cookie
 length_left t dir cookie = omega (arith, length-drop cookie (placed 0 (all_entries t dir)), length_placed 0 (all_entries t dir))
@@ -230,7 +230,7 @@ checks_pass t view who handle cookie verifier dir size count found is_directory 
     by (inl first) = inl (eq-eqb cookie 0 first)
     by (inr given) = inr (ap (λ (v : List ℕ). same_bytes v (cookie_verifier t dir.number)) (given_again t view dir.number verifier (is_object t view handle dir found).number given) ∙ same_bytes_itself (cookie_verifier t dir.number))
 
--- the answer behind its checks
+-- the answer after its checks
 reached : (t : Tree) (view : View) (handle : List ℕ) (dir : Object) (none : Tail) (checks : Object → List Check) (with : Object → Tail) (r : Object → Reply)
     → object_of t view handle ≡ Ok dir → Pass (checks dir) → about (object_of t view handle) none (λ o. unless (checks o) (with o) (r o)) ≡ r dir
 reached t view handle dir none checks with r found pass =

@@ -98,7 +98,7 @@ holds given page eof _ (plain dir) = (refl, refl, refl)
 holds given page eof _ (plus dir) = (refl, refl, refl)
 
 module _ (t : Tree) (view : View) (who : Identity) (handle : List ℕ) (cookie : ℕ) (verifier given : List ℕ) (page : List Listed) (eof : Bool) where
-  -- the page shows the entries behind the cookie in the handle's directory
+  -- the page shows the entries after the cookie in the handle's directory
   abbrev pub IsShown : Reply → Type 0
   IsShown r = Holds given page eof r → (dir : Object) × (object_of t view handle ≡ Ok dir) × Shows (entries_from t dir.number cookie) page eof
 

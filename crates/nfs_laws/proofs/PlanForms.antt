@@ -24,7 +24,7 @@ use Rattle.nfs_model.specs.declared.replies.Reply.{Reply}
 use Rattle.nfs_model.specs.declared.replies.Reply.TheVariants as reply
 use Rattle.nfs_model.specs.Checks.{Check, is_dot, is_dot_dot}
 use Rattle.nfs_model.specs.Objects.{Object, object_of, cache_data, no_cache_data, may_write, is_owner}
-use Rattle.nfs_model.specs.Changing.{is_changing, Plan, Refuse, Nothing, Operations, unless, about, plan, finish, made, standing, plan_directory, plan_symbolic_link, plan_file, plan_file_at, plan_create, plan_attributes, plan_write, plan_remove, plan_remove_directory, plan_rename, plan_rename_between, plan_link, directory_checks, set_attribute_checks, move_checks, inode_under, is_empty_under, same_target, may_change, may_cut, invalid_times, too_large, taken, taken_part, name_checks, cache_of, attributes_of}
+use Rattle.nfs_model.specs.Changing.{is_changing, Plan, Refuse, Nothing, Operations, plan_unless, plan_about, plan, finish, made, standing, plan_directory, plan_symbolic_link, plan_file, plan_file_at, plan_create, plan_attributes, plan_write, plan_remove, plan_remove_directory, plan_rename, plan_rename_between, plan_link, directory_checks, set_attribute_checks, move_checks, inode_under, is_empty_under, same_target, may_change, may_cut, invalid_times, too_large, taken, taken_part, name_checks, cache_of, attributes_of}
 use Rattle.nfs_model.specs.Replies.{IsWcc, tail_form_of, result_form_of, IsFittingReply}
 use Rattle.nfs_laws.specs.Replies.{TreeFits, HasReplyTo, PlansAreReplies, FinishesAreReplies}
 use Rattle.nfs_laws.proofs.Fields.{handle_fits, attributes_fit, cache_fits, no_cache_fits, cache_of_fits, attributes_of_fit}
@@ -52,10 +52,10 @@ module _ (t after : Tree) (view : View) (who : Identity) (now : Moment) (own : P
   -- ---- procedures that refuse with what is said of one object
 
   module _ (args : Args) (form : 2 ≡ tail_form_of args) where
-    about_object : (handle : List ℕ) (plan : Object → Plan) → ((o : Object) → object_of t view handle ≡ Ok o → Leads args (plan o)) → Leads args (about (object_of t view handle) (tails.Cache no_cache_data) plan)
+    about_object : (handle : List ℕ) (plan : Object → Plan) → ((o : Object) → object_of t view handle ≡ Ok o → Leads args (plan o)) → Leads args (plan_about (object_of t view handle) (tails.Cache no_cache_data) plan)
     about_object handle plan h = with_plan_about (Leads args) (tails.Cache no_cache_data) (λ fault. record { form = form; fits = no_cache_fits }) (object_of t view handle) plan h
 
-    behind_checks : (o : Object) (checks : List Check) (plan : Plan) → (Pass checks → Leads args plan) → Leads args (unless checks (tails.Cache (cache_data t t view o.number)) plan)
+    behind_checks : (o : Object) (checks : List Check) (plan : Plan) → (Pass checks → Leads args plan) → Leads args (plan_unless checks (tails.Cache (cache_data t t view o.number)) plan)
     behind_checks o checks plan h = with_plan_unless (Leads args) (tails.Cache (cache_data t t view o.number)) (λ fault. record { form = form; fits = now_fits o.number }) checks plan h
 
   -- an object that is made, in a directory that was found

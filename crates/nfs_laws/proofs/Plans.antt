@@ -26,7 +26,7 @@ use Rattle.nfs_model.specs.declared.replies.Tail.{Tail}
 use Rattle.nfs_model.specs.declared.replies.Reply.TheVariants as reply
 use Rattle.nfs_model.specs.Checks.{Check, is_dot, is_dot_dot}
 use Rattle.nfs_model.specs.Objects.{Object, object_of, may_write, is_owner}
-use Rattle.nfs_model.specs.Changing.{Plan, Refuse, Nothing, Operations, unless, about, plan, make, plan_directory, plan_symbolic_link, plan_file, plan_file_at, plan_create, plan_attributes, plan_write, plan_remove, plan_remove_directory, plan_rename, plan_rename_between, plan_link, directory_checks, set_attribute_checks, move_checks, inode_under, is_empty_under, same_target, may_change, may_cut, invalid_times, too_large, taken, name_checks, made_number}
+use Rattle.nfs_model.specs.Changing.{Plan, Refuse, Nothing, Operations, plan_unless, plan_about, plan, make, plan_directory, plan_symbolic_link, plan_file, plan_file_at, plan_create, plan_attributes, plan_write, plan_remove, plan_remove_directory, plan_rename, plan_rename_between, plan_link, directory_checks, set_attribute_checks, move_checks, inode_under, is_empty_under, same_target, may_change, may_cut, invalid_times, too_large, taken, name_checks, made_number}
 use Rattle.nfs_laws.specs.Plans.{PlansAreFew}
 use Rattle.nfs_laws.proofs.Ways.{Pass, of_plan_unless, of_plan_about, of_plan_if, is_object}
 use Rattle.nfs_laws.proofs.Sizes.{IsShort, short_nothing, short_refused, short_written, short_made, short_renamed}
@@ -58,10 +58,10 @@ module _ (t : Tree) (view : View) (who : Identity) (now : Moment) (own : PubKey)
   new_number : length (inode_number own seq).0 ≡ 20
   new_number = length-digest _
 
-  behind_checks : (checks : List Check) (with : Tail) (p : Plan) → (Pass checks → Goes t p) → Goes t (unless checks with p)
+  behind_checks : (checks : List Check) (with : Tail) (p : Plan) → (Pass checks → Goes t p) → Goes t (plan_unless checks with p)
   behind_checks = of_plan_unless (Goes t) (goes_refused t)
 
-  behind_object : (found : Result Object NfsStatus) (none : Tail) (plan : Object → Plan) → ((o : Object) → found ≡ Ok o → Goes t (plan o)) → Goes t (about found none plan)
+  behind_object : (found : Result Object NfsStatus) (none : Tail) (plan : Object → Plan) → ((o : Object) → found ≡ Ok o → Goes t (plan o)) → Goes t (plan_about found none plan)
   behind_object = of_plan_about (Goes t) (goes_refused t)
 
   by_test : (b : Bool) (p q : Plan) → (b ≡ true → Goes t p) → (b ≡ false → Goes t q) → Goes t (cond b p q)

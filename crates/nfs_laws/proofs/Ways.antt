@@ -1,4 +1,4 @@
--- What holds of a refusal, and of what stands behind an object and its checks, holds of an answer and of a plan.
+-- What holds of a refusal, and of what stands after an object and its checks, holds of an answer and of a plan.
 use Rattle.std.proofs.Common.{◌≡◌, ℕ, Bool, true, false, cond, not, ◌&&◌, List, [], ◌∷◌, length, take, drop, Some, Result, Ok, Err, refl, ap, ◌∙◌, arith, length-drop}
 use Rattle.std.specs.Prelude.{◌==◌}
 use Rattle.std.specs.List.{AllByRecursion}
@@ -16,13 +16,13 @@ use Rattle.nfs_model.specs.Checks.{Check, same_bytes}
 use Rattle.nfs_model.specs.Objects.{Object, object_of, handle_tag}
 use Rattle.nfs_model.specs.Answers.{about, unless}
 use Rattle.nfs_model.proofs.Objects.{object_at}
-use Rattle.nfs_model.specs.Changing.{Plan, Refuse, about as plan_about, unless as plan_unless}
+use Rattle.nfs_model.specs.Changing.{Plan, Refuse, plan_about, plan_unless}
 
 -- no check fails
 abbrev pub Pass : List Check → Type 0
 Pass checks = AllByRecursion (λ c. c.0 ≡ false) checks
 
--- behind checks, and behind the object of a handle, with this tail
+-- after checks, and after the object of a handle, with this tail
 module _ (P : Reply → Type 0) (with : Tail) (refused : (fault : NfsStatus) → P (reply.Refused fault with)) where
   answer_check : (b : Bool) (fault : NfsStatus) (checks : List Check) (r : Reply)
       → ((b ≡ false) × Pass checks → P r) → ((Pass checks → P r) → P (unless checks with r)) → P (unless ((b, fault) ∷ checks) with r)
@@ -67,7 +67,7 @@ module _ (P : Plan → Type 0) (refused : (fault : NfsStatus) (with : Tail) → 
   pub of_plan_about : (found : Result Object NfsStatus) (none : Tail) (plan : Object → Plan) → ((o : Object) → found ≡ Ok o → P (plan o)) → P (plan_about found none plan)
   of_plan_about found none plan h = with_plan_about P none (λ fault. refused fault none) found plan h
 
--- behind a test
+-- after a test
 module _ (P : Plan → Type 0) where
   pub of_plan_if : (b : Bool) (p q : Plan) → (b ≡ true → P p) → (b ≡ false → P q) → P (cond b p q)
   of_plan_if true p q h g = h refl

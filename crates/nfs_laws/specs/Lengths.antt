@@ -35,8 +35,8 @@ NamesAreKeys t = AllByRecursion (λ e. IsKey e.0.0 × IsKey e.1) t.names
 abbrev pub LinksAreShort : Tree → Type 0
 LinksAreShort t = (number : Key) (i : Inode) → inode_at t number ≡ Some i → i.kind ≡ Lnk → length i.body ≤ 1024
 
--- A page takes, behind its status of 4 bytes, no more than the room that was asked for, and never more than 32,768 bytes; the
--- empty page at the end takes 104, whatever the room.
+-- A page takes, after its status of 4 bytes, no more than the room that was asked for, and never more than 32,768 bytes; the empty page at
+-- the end takes 104, whatever the room.
 abbrev pub PagesFit : Type 0
 PagesFit = (t : Tree) (view : View) (who : Identity) (args : Args) (count : ℕ) (verifier : List ℕ) (page : List Listed) (eof : Bool)
     → NamesAreKeys t → HasRoom count args → IsPage verifier page eof (answer t view who args)

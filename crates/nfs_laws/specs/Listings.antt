@@ -19,7 +19,7 @@ use Rattle.nfs_model.specs.Reading.{answer}
 abbrev pub shown : Listed → ℕ × (List ℕ × ℕ)
 shown e = (e.fileid, (e.name, e.cookie))
 
--- a call for the page behind the cookie, with or without attributes and handles, whatever the room
+-- a call for the page after the cookie, with or without attributes and handles, whatever the room
 pub data IsPageCall (handle : List ℕ) (cookie : ℕ) (verifier : List ℕ) : Args → Type 0 where
   plain : (count : ℕ) → IsPageCall handle cookie verifier (call.ReadDir handle cookie verifier count)
   plus : (dircount maxcount : ℕ) → IsPageCall handle cookie verifier (call.ReadDirPlus handle cookie verifier dircount maxcount)

@@ -37,18 +37,18 @@ SaysNoMore number e = (e.attributes ≡ None) × (e.handle ≡ None)
 abbrev pub SaysAll : Tree → View → Key → Listed → Type 0
 SaysAll t view number e = (e.attributes ≡ attributes_at t view number) × (e.handle ≡ Some (handle_of view number))
 
--- a page of the directory behind a cookie, with the directory's attributes and the verifier of its listing
+-- a page of the directory after a cookie, with the directory's attributes and the verifier of its listing
 pub record IsPageBehind (Says : Key → Listed → Type 0) (t : Tree) (view : View) (dir : Object) (cookie : ℕ)
     (attr : Option Fattr) (verifier : List ℕ) (page : List Listed) (eof : Bool) : Type 0 where
   pub attr_is : attr ≡ Some (attributes t view dir)
   pub verifier_is : verifier ≡ cookie_verifier t dir.number
-  -- its entries are those of the places behind the cookie, one after the other
+  -- its entries are those of the places after the cookie, one after the other
   pub entries : (i : ℕ) (e : Listed) → slice_get page i ≡ Some e
       → (number : Key) × IsEntryAt t dir.number (cookie + 1 + i) number e × Says number e
-  -- it says that it is the last where the directory has no place behind its own
+  -- it says that it is the last where the directory has no place after its own
   pub ends : IsTrue eof ↔ (2 + length (listing t dir.number) ≤ cookie + length page)
 
--- A page of READDIR has the entries behind its cookie, each by its name, its inode and its place.
+-- A page of READDIR has the entries after its cookie, each by its name, its inode and its place.
 abbrev pub PlainPagesSay : Type 0
 PlainPagesSay = (t : Tree) (view : View) (who : Identity) (handle : List ℕ) (cookie : ℕ) (verifier : List ℕ) (count : ℕ)
     (attr : Option Fattr) (given : List ℕ) (page : List Listed) (eof : Bool)
@@ -81,8 +81,8 @@ HasRoomFor (call.ReadDir handle cookie verifier count) name = 104 + plain_length
 HasRoomFor (call.ReadDirPlus handle cookie verifier dircount maxcount) name = 104 + long_length name ≤ min maxcount longest_page
 HasRoomFor _ name = Unit {0}
 
--- A directory that the caller may read answers by a page, where the cookie is 0 or the verifier was given with the same names,
--- and there is room for the entry behind the cookie, if there is one.
+-- A directory that the caller may read answers by a page, where the cookie is 0 or the verifier was given with the same names, and there is
+-- room for the entry after the cookie, if there is one.
 abbrev pub PagesAreGiven : Type 0
 PagesAreGiven = (t : Tree) (view : View) (who : Identity) (args : Args) (handle : List ℕ) (cookie : ℕ) (verifier : List ℕ) (dir : Object)
     → IsPageCall handle cookie verifier args

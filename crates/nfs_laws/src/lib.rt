@@ -22,7 +22,7 @@ pub fn directories_are_read_whole()
 
 /// A law and no code: what a page says of each entry, and which calls a page answers.
 ///
-/// A page has the directory's entries behind its cookie, one after the other: `.` is the directory, `..` the directory that
+/// A page has the directory's entries after its cookie, one after the other: `.` is the directory, `..` the directory that
 /// names it or else itself, and the names follow by their bytes. Each entry has its name, its inode's number and its place
 /// as the cookie, and in READDIRPLUS the inode's attributes and handle. A directory that may be read answers by a page where
 /// the verifier was given and there is room for one entry.

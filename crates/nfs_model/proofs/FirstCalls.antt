@@ -23,7 +23,7 @@ use Rattle.nfs_model.specs.Checks.{Check, first_failure, too_long_name, invalid_
 use Rattle.nfs_model.specs.Answers.{about, unless}
 use Rattle.nfs_model.specs.Objects.{Object, handle_of, live_object, attributes, attributes_at, cache_data, no_cache_data, may_search}
 use Rattle.nfs_model.specs.Reading.{answer, target_of, lookup_checks, found, found_inode}
-use Rattle.nfs_model.specs.Changing.{Plan, Refuse, Operations, plan, finish, made, about as about_plan, unless as unless_plan, invalid_times, taken, may_change}
+use Rattle.nfs_model.specs.Changing.{Plan, Refuse, Operations, plan, finish, made, plan_about as about_plan, plan_unless as unless_plan, invalid_times, taken, may_change}
 use Rattle.nfs_model.proofs.NameChecks.{is_short_name, is_valid_name, is_not_dot, is_not_dot_dot}
 use Rattle.nfs_model.proofs.Objects.{object_of_handle}
 

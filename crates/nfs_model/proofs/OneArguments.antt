@@ -12,10 +12,10 @@ use Rattle.nfs_model.specs.declared.arguments.SetTime.TheVariants.{Keep, Server,
 use Rattle.nfs_model.specs.declared.arguments.SetWhat.{SetWhat}
 use Rattle.nfs_model.specs.declared.arguments.How.{How}
 use Rattle.nfs_model.specs.declared.arguments.How.TheVariants.{Unchecked, Guarded, Exclusive}
-use Rattle.nfs_model.specs.declared.arguments.Node.{Node}
-use Rattle.nfs_model.specs.declared.arguments.Node.TheVariants.{Plain, Device, Other}
+use Rattle.nfs_model.specs.declared.arguments.SpecialNode.{SpecialNode}
+use Rattle.nfs_model.specs.declared.arguments.SpecialNode.TheVariants.{Plain, Device, Other}
 use Rattle.nfs_model.specs.Arguments.{program_of, procedure_of, arguments, set_time, set_what, create_how, special_node, IsHandle, IsShortText, IsTime, IsSetWhat, IsVerifier, IsHow, IsPlainKind, IsDeviceKind, IsOtherKind, IsNode, ArgumentsFit}
-use Rattle.nfs_model.specs.Laws.{ArgumentsReadOne, ArgumentsAreOne}
+use Rattle.nfs_model.specs.Laws.{ArgumentsReadOne, ArgumentsAreUnambiguous}
 
 -- ---- parts
 
@@ -101,7 +101,7 @@ device_after what major minor rest = set_what what ++ word major ++ word minor +
 pub one_node : ReadsOne IsNode special_node
 one_node = record { one = nodes }
   where
-    nodes : (x y : Node) (r s : List ℕ) → IsNode x → IsNode y → special_node x ++ r ≡ special_node y ++ s → (x ≡ y) × (r ≡ s)
+    nodes : (x y : SpecialNode) (r s : List ℕ) → IsNode x → IsNode y → special_node x ++ r ≡ special_node y ++ s → (x ≡ y) × (r ≡ s)
     nodes (Plain j) (Plain k) r s f g e = let p = one_word.one j k r s (plain_fits j f) (plain_fits k g) e in (ap Plain p.0, p.1)
     nodes (Plain j) (Device k what major minor) r s f g e =
         absurd (plain_or_device j k f g.0 (one_word.one j k r (device_after what major minor s) (plain_fits j f) (device_fits k g.0) e).0)
@@ -163,7 +163,7 @@ same_arguments (call.SymLink dir name what text) (call.SymLink dir2 name2 what2 
     same_made (λ (p : ((List ℕ × List ℕ) × SetWhat) × List ℕ). call.SymLink p.0.0.0 p.0.0.1 p.0.1 p.1)
     ((one_handle ▷ one_text ▷ one_set_what ▷ one_text).one (((dir, name), what), text) (((dir2, name2), what2), text2) r s (((f.0, f.1), f.2), f.3) (((g.0, g.1), g.2), g.3) e)
 same_arguments (call.MkNod dir name node) (call.MkNod dir2 name2 node2) r s p q f g e =
-    same_made (λ (p : (List ℕ × List ℕ) × Node). call.MkNod p.0.0 p.0.1 p.1)
+    same_made (λ (p : (List ℕ × List ℕ) × SpecialNode). call.MkNod p.0.0 p.0.1 p.1)
     ((one_handle ▷ one_text ▷ one_node).one ((dir, name), node) ((dir2, name2), node2) r s ((f.0, f.1), f.2) ((g.0, g.1), g.2) e)
 same_arguments (call.Remove dir name) (call.Remove dir2 name2) r s p q f g e =
     same_made (λ (p : List ℕ × List ℕ). call.Remove p.0 p.1)
@@ -203,7 +203,7 @@ read_one program procedure = record {
   one = λ args other r s f g e. same_arguments args other r s (sym f.program_is ∙ g.program_is) (sym f.procedure_is ∙ g.procedure_is) f.fit g.fit e;
 }
 
-pub one_arguments : ArgumentsAreOne
+pub one_arguments : ArgumentsAreUnambiguous
 one_arguments program procedure bytes args other f g =
     whole (read_one program procedure) args other
     (record { program_is = f.program_is; procedure_is = f.procedure_is; fit = f.fit })

@@ -25,7 +25,7 @@ use Rattle.nfs_model.specs.declared.replies.Reply.TheVariants as reply
 use Rattle.nfs_model.specs.Arguments.{IsHandle, IsVerifier}
 use Rattle.nfs_model.specs.Results.{status_number, fattr, before, wcc, tail, write_verifier, many, result}
 use Rattle.nfs_model.specs.Replies.{IsFattr, IsBefore, IsWcc, IsTail, IsText, IsPlainEntry, IsPlusEntry, ReplyFits, tail_form, tail_form_of, result_form, result_form_of, IsReplyTo}
-use Rattle.nfs_model.specs.Laws.{RepliesReadOne, RepliesAreOne}
+use Rattle.nfs_model.specs.Laws.{RepliesReadOne, RepliesAreUnambiguous}
 use Rattle.nfs_model.proofs.OneArguments.{one_handle, one_verifier, same_made}
 use Rattle.tree_model.specs.Tree.{longest_file}
 
@@ -190,7 +190,7 @@ one_refusal s s2 t t2 rest rest2 p f g e =
 
 -- ---- pages
 
--- entries, each behind a one, and a zero at their end
+-- entries, each after a one, and a zero at their end
 abbrev pub flagged : (Listed → List ℕ) → Listed → List ℕ
 flagged body e = word 1 ++ body e
 
@@ -467,5 +467,5 @@ read_one args = record {
       same_reply (tail_form_of args) (result_form_of args) (forms_of args) reply other r s (to_forms args reply f.form) (to_forms args other g.form) f.fits g.fits e;
 }
 
-pub one_reply : RepliesAreOne
+pub one_reply : RepliesAreUnambiguous
 one_reply args reply other p q f g e = whole (read_one args) reply other (record { form = p; fits = f }) (record { form = q; fits = g }) e

@@ -8,8 +8,8 @@ use Rattle.nfs_model.specs.declared.arguments.SetTime.TheVariants.{Keep, Server,
 use Rattle.nfs_model.specs.declared.arguments.SetWhat.{SetWhat}
 use Rattle.nfs_model.specs.declared.arguments.How.{How}
 use Rattle.nfs_model.specs.declared.arguments.How.TheVariants.{Unchecked, Guarded, Exclusive}
-use Rattle.nfs_model.specs.declared.arguments.Node.{Node}
-use Rattle.nfs_model.specs.declared.arguments.Node.TheVariants.{Plain, Device, Other}
+use Rattle.nfs_model.specs.declared.arguments.SpecialNode.{SpecialNode}
+use Rattle.nfs_model.specs.declared.arguments.SpecialNode.TheVariants.{Plain, Device, Other}
 
 -- ---- which procedure it is
 
@@ -83,7 +83,7 @@ create_how (Guarded s) = word 1 ++ set_what s
 create_how (Exclusive verifier) = word 2 ++ verifier
 
 -- mknoddata3 (3.3.11): the type's number, and what is given with it
-abbrev pub special_node : Node → List ℕ
+abbrev pub special_node : SpecialNode → List ℕ
 special_node (Plain kind) = word kind
 special_node (Device kind what major minor) = word kind ++ set_what what ++ word major ++ word minor
 special_node (Other kind what) = word kind ++ set_what what
@@ -165,7 +165,7 @@ IsDeviceKind kind = (kind ≡ 3) ⊎ (kind ≡ 4)
 abbrev pub IsOtherKind : ℕ → Type 0
 IsOtherKind kind = (kind ≡ 6) ⊎ (kind ≡ 7)
 
-abbrev pub IsNode : Node → Type 0
+abbrev pub IsNode : SpecialNode → Type 0
 IsNode (Plain kind) = IsPlainKind kind
 IsNode (Device kind what major minor) = IsDeviceKind kind × IsSetWhat what × (major < 2 ^ 32) × (minor < 2 ^ 32)
 IsNode (Other kind what) = IsOtherKind kind × IsSetWhat what

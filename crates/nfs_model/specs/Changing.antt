@@ -55,17 +55,17 @@ pub data Plan : Type 0 where
   Operations : (ops : List Op) → Plan
 
 -- the plan where no check fails, or a refusal with this tail
-abbrev pub unless : List Check → Tail → Plan → Plan
-unless checks with otherwise = refused_or (first_failure checks) with otherwise
+abbrev pub plan_unless : List Check → Tail → Plan → Plan
+plan_unless checks with otherwise = refused_or (first_failure checks) with otherwise
   where
     refused_or : Option NfsStatus → Tail → Plan → Plan
     refused_or None with otherwise = otherwise
     refused_or (Some fault) with otherwise = Refuse (reply.Refused fault with)
 
 -- the plan about the object of the handle, or the handle's fault with this tail
-abbrev pub about : Result Object NfsStatus → Tail → (Object → Plan) → Plan
-about (Err fault) none plan = Refuse (reply.Refused fault none)
-about (Ok o) none plan = plan o
+abbrev pub plan_about : Result Object NfsStatus → Tail → (Object → Plan) → Plan
+plan_about (Err fault) none plan = Refuse (reply.Refused fault none)
+plan_about (Ok o) none plan = plan o
 
 -- ---- the times and the modes that a client gives
 
@@ -160,8 +160,8 @@ set_times now what number =
 
 -- MKDIR (3.3.9); a size is passed over
 abbrev pub plan_directory : Tree → View → Identity → List ℕ → List ℕ → SetWhat → Moment → Key → Plan
-plan_directory t view who handle name what now number = about (object_of t view handle) (tail.Cache no_cache_data) (λ dir.
-    unless (directory_checks who dir ++ name_checks name ++ invalid_times what ∷ taken t dir name ∷ [])
+plan_directory t view who handle name what now number = plan_about (object_of t view handle) (tail.Cache no_cache_data) (λ dir.
+    plan_unless (directory_checks who dir ++ name_checks name ++ invalid_times what ∷ taken t dir name ∷ [])
     (tail.Cache (cache_data t t view dir.number))
     (Operations (make who Dir what number [] ∷ op.Link dir.number name number ∷ set_times now what number)))
 
@@ -177,8 +177,8 @@ is_empty_under t (Some number) = is_empty_directory t number
 
 -- SYMLINK (3.3.10): a text of 1 to 1,024 bytes; a size is passed over
 abbrev pub plan_symbolic_link : Tree → View → Identity → List ℕ → List ℕ → SetWhat → List ℕ → Moment → Key → Plan
-plan_symbolic_link t view who handle name what text now number = about (object_of t view handle) (tail.Cache no_cache_data) (λ dir.
-    unless (directory_checks who dir ++ name_checks name
+plan_symbolic_link t view who handle name what text now number = plan_about (object_of t view handle) (tail.Cache no_cache_data) (λ dir.
+    plan_unless (directory_checks who dir ++ name_checks name
     ++ (nat_lt 1024 (length text), status.NameTooLong) ∷ (length text == 0, status.Inval)
     ∷ invalid_times what ∷ taken t dir name ∷ [])
     (tail.Cache (cache_data t t view dir.number))
@@ -219,9 +219,9 @@ may_cut who (Some i) = may_write who i || is_owner who i
 
 -- CREATE (3.3.8) with attributes; a file that is there may stand where the creation is not guarded
 abbrev pub plan_file : Tree → View → Identity → List ℕ → List ℕ → Bool → SetWhat → Moment → Key → Plan
-plan_file t view who handle name guarded what now number = about (object_of t view handle) (tail.Cache no_cache_data) (λ dir.
+plan_file t view who handle name guarded what now number = plan_about (object_of t view handle) (tail.Cache no_cache_data) (λ dir.
     let existing = entry t dir.number name in
-    unless (directory_checks who dir ++ name_checks name
+    plan_unless (directory_checks who dir ++ name_checks name
     ++ invalid_times what ∷ too_large what.size
     ∷ (is_dot name || is_dot_dot name, status.Exist)
     ∷ (is_some existing && (guarded || not (is_file (inode_under t existing))), status.Exist)
@@ -233,8 +233,8 @@ plan_file t view who handle name guarded what now number = about (object_of t vi
 abbrev pub plan_create : Tree → View → Identity → List ℕ → List ℕ → How → Moment → Key → Plan
 plan_create t view who handle name (Unchecked what) now number = plan_file t view who handle name false what now number
 plan_create t view who handle name (Guarded what) now number = plan_file t view who handle name true what now number
-plan_create t view who handle name (Exclusive verifier) now number = about (object_of t view handle) (tail.Cache no_cache_data) (λ dir.
-    unless (directory_checks who dir ++ name_checks name ++ (true, status.NotSupp) ∷ []) (tail.Cache (cache_data t t view dir.number))
+plan_create t view who handle name (Exclusive verifier) now number = plan_about (object_of t view handle) (tail.Cache no_cache_data) (λ dir.
+    plan_unless (directory_checks who dir ++ name_checks name ++ (true, status.NotSupp) ∷ []) (tail.Cache (cache_data t t view dir.number))
     (Nothing reply.Nothing))
 
 -- ---- attributes and contents
@@ -279,8 +279,8 @@ set_attribute_checks who o what guard =
 
 -- SETATTR (3.3.2): it makes its record also where nothing is given, which sets the ctime
 abbrev pub plan_attributes : Tree → View → Identity → List ℕ → SetWhat → Option Moment → Moment → Plan
-plan_attributes t view who handle what guard now = about (object_of t view handle) (tail.Cache no_cache_data) (λ o.
-    unless (set_attribute_checks who o what guard) (tail.Cache (cache_data t t view o.number))
+plan_attributes t view who handle what guard now = plan_about (object_of t view handle) (tail.Cache no_cache_data) (λ o.
+    plan_unless (set_attribute_checks who o what guard) (tail.Cache (cache_data t t view o.number))
     (Operations (op.SetAttrs o.number (asked_change now what) ∷ [])))
 
 -- of the bytes of a write the first 8,192 are taken
@@ -289,8 +289,8 @@ taken_part bytes = take 8192 bytes
 
 -- WRITE (3.3.7): the end of what is taken is looked at also where there are no bytes
 abbrev pub plan_write : Tree → View → Identity → List ℕ → ℕ → ℕ → List ℕ → Plan
-plan_write t view who handle offset count bytes = about (object_of t view handle) (tail.Cache no_cache_data) (λ o.
-    unless ((not (file_kind o.inode.kind), status.Inval)
+plan_write t view who handle offset count bytes = plan_about (object_of t view handle) (tail.Cache no_cache_data) (λ o.
+    plan_unless ((not (file_kind o.inode.kind), status.Inval)
     ∷ (not (may_write who o.inode || is_owner who o.inode), status.Acces)
     ∷ (not (count == length bytes), status.Inval)
     ∷ (nat_lt longest_file (offset + length (taken_part bytes)), status.FBig) ∷ [])
@@ -302,9 +302,9 @@ plan_write t view who handle offset count bytes = about (object_of t view handle
 
 -- REMOVE (3.3.12)
 abbrev pub plan_remove : Tree → View → Identity → List ℕ → List ℕ → Plan
-plan_remove t view who handle name = about (object_of t view handle) (tail.Cache no_cache_data) (λ dir.
+plan_remove t view who handle name = plan_about (object_of t view handle) (tail.Cache no_cache_data) (λ dir.
     let target = entry t dir.number name in
-    unless (directory_checks who dir ++ name_checks name
+    plan_unless (directory_checks who dir ++ name_checks name
     ++ (is_dot name || is_dot_dot name, status.Inval) ∷ (not (is_some target), status.NoEnt)
     ∷ (is_directory (inode_under t target), status.IsDir) ∷ [])
     (tail.Cache (cache_data t t view dir.number))
@@ -312,9 +312,9 @@ plan_remove t view who handle name = about (object_of t view handle) (tail.Cache
 
 -- RMDIR (3.3.13)
 abbrev pub plan_remove_directory : Tree → View → Identity → List ℕ → List ℕ → Plan
-plan_remove_directory t view who handle name = about (object_of t view handle) (tail.Cache no_cache_data) (λ dir.
+plan_remove_directory t view who handle name = plan_about (object_of t view handle) (tail.Cache no_cache_data) (λ dir.
     let target = entry t dir.number name in
-    unless (directory_checks who dir ++ name_checks name
+    plan_unless (directory_checks who dir ++ name_checks name
     ++ (is_dot name, status.Inval) ∷ (is_dot_dot name, status.Exist) ∷ (not (is_some target), status.NoEnt)
     ∷ (not (is_directory (inode_under t target)), status.NotDir) ∷ (not (is_empty_under t target), status.NotEmpty) ∷ [])
     (tail.Cache (cache_data t t view dir.number))
@@ -343,13 +343,13 @@ plan_rename_between t view who dir name to_dir to_name =
     let moved = entry t dir.number name in
     let replaced = entry t to_dir.number to_name in
     let both = tail.TwoCaches (cache_data t t view dir.number) (cache_data t t view to_dir.number) in
-    unless ((not (directory_kind dir.inode.kind) || not (directory_kind to_dir.inode.kind), status.NotDir)
+    plan_unless ((not (directory_kind dir.inode.kind) || not (directory_kind to_dir.inode.kind), status.NotDir)
     ∷ (not (may_change who dir) || not (may_change who to_dir), status.Acces) ∷ []
     ++ name_checks name ++ name_checks to_name
     ++ (is_dot name || is_dot_dot name || is_dot to_name || is_dot_dot to_name, status.Inval)
     ∷ (not (is_some moved), status.NoEnt) ∷ []) both
     (if same_target moved replaced then Nothing (reply.Renamed (cache_data t t view dir.number) (cache_data t t view to_dir.number))
-    else unless (move_checks t to_dir.number moved replaced) both (Operations (op.Rename dir.number name to_dir.number to_name ∷ [])))
+    else plan_unless (move_checks t to_dir.number moved replaced) both (Operations (op.Rename dir.number name to_dir.number to_name ∷ [])))
 
 -- what is said of an object in a refusal: nothing, where its handle failed its checks
 abbrev pub cache_of : Tree → View → Result Object NfsStatus → Wcc
@@ -366,7 +366,7 @@ plan_rename t view who handle name to_handle to_name =
     let from = object_of t view handle in
     let to = object_of t view to_handle in
     let both = tail.TwoCaches (cache_of t view from) (cache_of t view to) in
-    about from both (λ dir. about to both (λ to_dir. plan_rename_between t view who dir name to_dir to_name))
+    plan_about from both (λ dir. plan_about to both (λ to_dir. plan_rename_between t view who dir name to_dir to_name))
 
 -- LINK (3.3.15): a file has at most 1,000 names
 abbrev pub plan_link : Tree → View → Identity → List ℕ → List ℕ → List ℕ → Plan
@@ -374,8 +374,8 @@ plan_link t view who file_handle handle name =
     let source = object_of t view file_handle in
     let place = object_of t view handle in
     let both = tail.AttributesAndCache (attributes_of t view source) (cache_of t view place) in
-    about source both (λ file. about place both (λ dir.
-    unless ((directory_kind file.inode.kind, status.Inval) ∷ directory_checks who dir ++ name_checks name
+    plan_about source both (λ file. plan_about place both (λ dir.
+    plan_unless ((directory_kind file.inode.kind, status.Inval) ∷ directory_checks who dir ++ name_checks name
     ++ taken t dir name ∷ (nat_le 1000 (name_count t file.number), status.MLink) ∷ []) both
     (Operations (op.Link dir.number name file.number ∷ []))))
 

@@ -18,8 +18,8 @@ abbrev pub ArgumentsReadOne : Type 0
 ArgumentsReadOne = (program procedure : ℕ) → ReadsOne (AreOf program procedure) arguments
 
 -- the bytes of a procedure's arguments are those of one value
-abbrev pub ArgumentsAreOne : Type 0
-ArgumentsAreOne = (program procedure : ℕ) (bytes : List ℕ) (args other : Args) → AreArguments program procedure bytes args
+abbrev pub ArgumentsAreUnambiguous : Type 0
+ArgumentsAreUnambiguous = (program procedure : ℕ) (bytes : List ℕ) (args other : Args) → AreArguments program procedure bytes args
     → AreArguments program procedure bytes other → args ≡ other
 
 -- the bytes of a result are those of one reply to the procedure, and begin no other's
@@ -27,6 +27,7 @@ abbrev pub RepliesReadOne : Type 0
 RepliesReadOne = (args : Args) → ReadsOne (IsFittingReply args) result
 
 -- the bytes of a result are those of one reply to the procedure
-abbrev pub RepliesAreOne : Type 0
-RepliesAreOne = (args : Args) (reply other : Reply) → IsReplyTo args reply → IsReplyTo args other → ReplyFits reply → ReplyFits other
+abbrev pub RepliesAreUnambiguous : Type 0
+RepliesAreUnambiguous = (args : Args) (reply other : Reply) → IsReplyTo args reply → IsReplyTo args other → ReplyFits reply
+    → ReplyFits other
     → result reply ≡ result other → reply ≡ other

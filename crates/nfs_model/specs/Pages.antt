@@ -61,7 +61,7 @@ longest_page = 32768
 abbrev pub room_for_entries : ℕ → ℕ
 room_for_entries count = min count longest_page - 104
 
--- the entries behind the cookie, which is the place of the last one that was given
+-- the entries after the cookie, which is the place of the last one that was given
 abbrev pub entries_from : Tree → Key → ℕ → List (ℕ × (List ℕ × Key))
 entries_from t dir cookie = drop cookie (placed 0 (all_entries t dir))
 

@@ -43,7 +43,7 @@ pub enum How {
 /// What kind of special node is to be made (RFC 1813, section 3.3.11, mknoddata3), by the number of its type
 /// (section 2.5, ftype3).
 #[derive(Clone, Copy, Debug)]
-pub enum Node {
+pub enum SpecialNode {
     /// A type with which nothing is given: 1, 2 or 5 (a file, a directory, a symbolic link).
     Plain(u32),
     /// A block device (3) or a character device (4), with attributes and the two numbers of the device.
@@ -129,7 +129,7 @@ pub enum Args {
     MkNod {
         dir: Bytes,
         name: Bytes,
-        node: Node,
+        node: SpecialNode,
     },
     /// REMOVE (3.3.12): a name that is no directory's goes.
     Remove {

@@ -113,7 +113,7 @@ pub enum Tail {
 /// An entry of a page of a directory (RFC 1813, section 3.3.16, entry3, and section 3.3.17, entryplus3).
 #[derive(Drop)]
 pub struct Listed {
-    /// The number of the object, its name, and the cookie that leads behind the entry.
+    /// The number of the object, its name, and the cookie that leads after the entry.
     pub fileid: u64,
     pub name: Bytes,
     pub cookie: u64,

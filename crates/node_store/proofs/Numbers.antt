@@ -5,8 +5,8 @@ use Rattle.std.proofs.lemmas.Bool.{lt-leb}
 use Rattle.dht_ids.specs.declared.ask.StoreFault.{StoreFault}
 use Rattle.dht_ids.specs.declared.ask.StoreFault.TheVariants.{Older}
 use Rattle.dht_ids.specs.declared.judge.Judged.{Judged}
-use Rattle.dhash_model.specs.declared.kind.Kind.{Kind}
-use Rattle.dhash_model.specs.declared.kind.Kind.TheVariants.{Content, Head}
+use Rattle.dhash_model.specs.declared.kind.BlockKind.{BlockKind}
+use Rattle.dhash_model.specs.declared.kind.BlockKind.TheVariants.{Content, Head}
 use Rattle.dhash_model.specs.Stores.{Block, number_of, older}
 use Rattle.node_store.specs.Numbers.{IsBelow}
 
@@ -20,7 +20,7 @@ below_if : (judges : List ℕ → Option Judged) (bytes : List ℕ) (seq : ℕ) 
 below_if judges bytes seq below None is = tt
 below_if judges bytes seq below (Some judged) is = below judged is
 
-number_below : (judges : List ℕ → Option Judged) (kind : Kind) (bytes : List ℕ) (seq : ℕ) → ((judged : Judged) → judges bytes ≡ Some judged → judged.seq < seq) → IsBelow seq (number_of judges (record { kind = kind; bytes = bytes }))
+number_below : (judges : List ℕ → Option Judged) (kind : BlockKind) (bytes : List ℕ) (seq : ℕ) → ((judged : Judged) → judges bytes ≡ Some judged → judged.seq < seq) → IsBelow seq (number_of judges (record { kind = kind; bytes = bytes }))
 number_below judges Content bytes seq below = tt
 number_below judges Head bytes seq below = below_if judges bytes seq below (judges bytes) refl
 

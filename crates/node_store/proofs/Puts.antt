@@ -18,7 +18,7 @@ use Rattle.ivy_base.specs.Naming.{key_cmp}
 use Rattle.dht_ids.specs.declared.ask.StoreFault.{StoreFault}
 use Rattle.dht_ids.specs.declared.ask.StoreFault.TheVariants.{WrongName}
 use Rattle.node_store.specs.declared.fault.PutFault.{PutFault}
-use Rattle.dhash_model.specs.Stores.{Block, Blocks, bytes_held, capacity, spoiled, with_byte, without}
+use Rattle.dhash_model.specs.Stores.{Block, Blocks, bytes_held, store_capacity, spoiled, with_byte, without}
 use Rattle.node_store.specs.Stores.{IsStore, Tells}
 use Rattle.node_store.proofs.Maps.{is_key, find-lookup, put-set_value, without-remove_entry}
 use Rattle.node_store.proofs.Sums.{size, size_of, held_after_removal}
@@ -47,10 +47,10 @@ pub wrongly_named : (b : Bool) (found : Option StoreFault) → b ≡ false → o
 wrongly_named true found is = cc
 wrongly_named false found is = refl
 
-pub stored_valid : (key : Key) (block : Block) (old new : Blocks) (total : ℕ) → new ≡ put key_cmp key block old → total ≡ bytes_held (put key_cmp key block old) → total ≤ capacity → IsStrictlySortedBy key_cmp (keys_of new) → (total ≡ bytes_held new) × IsStore new
+pub stored_valid : (key : Key) (block : Block) (old new : Blocks) (total : ℕ) → new ≡ put key_cmp key block old → total ≡ bytes_held (put key_cmp key block old) → total ≤ store_capacity → IsStrictlySortedBy key_cmp (keys_of new) → (total ≡ bytes_held new) × IsStore new
 stored_valid key block old new total is counted fits sorted =
     let same : total ≡ bytes_held new = counted ∙ ap bytes_held (sym is) in
-    (same, record { ascending = sorted; within = subst (λ n. n ≤ capacity) same fits })
+    (same, record { ascending = sorted; within = subst (λ n. n ≤ store_capacity) same fits })
 
 -- ---- removals
 
@@ -66,8 +66,8 @@ module _ (key : Key) (old new : Blocks) (valid : IsStore old) (removed : new ≡
 -- ---- damage
 
 module _ (key : Key) (offset byte : ℕ) (old new : Blocks) (valid : IsStore old) where
-  abbrev IsSpoilt : Bool → Type 0
-  IsSpoilt done = MatchBool done (with_byte key offset byte old ≡ Some new) ((with_byte key offset byte old ≡ None) × (new ≡ old))
+  abbrev IsCorrupted : Bool → Type 0
+  IsCorrupted done = MatchBool done (with_byte key offset byte old ≡ Some new) ((with_byte key offset byte old ≡ None) × (new ≡ old))
 
   abbrev With : Block → Option Blocks
   With block = if nat_lt offset (length block.bytes) then Some (put key_cmp key (spoiled offset byte block) old) else None
@@ -79,11 +79,11 @@ module _ (key : Key) (offset byte : ℕ) (old new : Blocks) (valid : IsStore old
     found : with_byte key offset byte old ≡ With block
     found = ap (option_and_then With) (find-lookup key old ∙ there)
 
-    pub spoilt : (done : Bool) → IsWritten done → IsSpoilt done
-    spoilt true h =
+    pub corrupted : (done : Bool) → IsWritten done → IsCorrupted done
+    corrupted true h =
         found ∙ ap (λ b. if b then Some (put key_cmp key (spoiled offset byte block) old) else None) (lt-ltb offset (length block.bytes) h.0)
         ∙ ap Some (sym (written ∙ put-set_value key block after old valid.ascending there ∙ ap (λ a. put key_cmp key a old) h.1))
-    spoilt false h = (
+    corrupted false h = (
       found ∙ ap (λ b. if b then Some (put key_cmp key (spoiled offset byte block) old) else None) (le-ltb offset (length block.bytes) h.0),
       written ∙ ap (set_value (is_key key) old) h.1 ∙ set_value_same (is_key key) old block there,
     )
@@ -92,8 +92,8 @@ module _ (key : Key) (offset byte : ℕ) (old new : Blocks) (valid : IsStore old
     same_size true h = ap size h.1 ∙ length-set block.bytes offset byte
     same_size false h = ap size h.1
 
-    pub spoilt_valid : (total : ℕ) (done : Bool) → total ≡ bytes_held old → IsWritten done → (total ≡ bytes_held new) × IsStore new
-    spoilt_valid total done counted h =
+    pub corrupted_valid : (total : ℕ) (done : Bool) → total ≡ bytes_held old → IsWritten done → (total ≡ bytes_held new) × IsStore new
+    corrupted_valid total done counted h =
         let same : bytes_held new ≡ bytes_held old = omega (arith, same_size done h, sum_by-set_value size (is_key key) old block after there, ap bytes_held written) in (
           counted ∙ sym same,
           record {
@@ -102,5 +102,5 @@ module _ (key : Key) (offset byte : ℕ) (old new : Blocks) (valid : IsStore old
           },
         )
 
-  pub not_spoilt : lookup (is_key key) old ≡ None → new ≡ old → IsSpoilt false
-  not_spoilt missing same = (ap (option_and_then With) (find-lookup key old ∙ missing), same)
+  pub not_corrupted : lookup (is_key key) old ≡ None → new ≡ old → IsCorrupted false
+  not_corrupted missing same = (ap (option_and_then With) (find-lookup key old ∙ missing), same)

@@ -10,22 +10,22 @@ use Rattle.dht_ids.specs.declared.post.PostKind.{PostKind}
 use Rattle.dht_ids.specs.declared.post.PostKind.TheVariants as post
 use Rattle.node_store.specs.declared.fault.PutFault.{PutFault}
 use Rattle.node_store.specs.declared.fault.PutFault.TheVariants.{Refused, Memory}
-use Rattle.dhash_model.specs.declared.kind.Kind.{Kind}
-use Rattle.dhash_model.specs.declared.kind.Kind.TheVariants.{Content, Head}
-use Rattle.dhash_model.specs.Stores.{Block, Blocks, bytes_held, capacity}
+use Rattle.dhash_model.specs.declared.kind.BlockKind.{BlockKind}
+use Rattle.dhash_model.specs.declared.kind.BlockKind.TheVariants.{Content, Head}
+use Rattle.dhash_model.specs.Stores.{Block, Blocks, bytes_held, store_capacity}
 
 -- what holds of every store: the keys ascend, each once, and there are no more bytes than the capacity
 pub record IsStore (blocks : Blocks) : Type 0 where
   pub ascending : IsStrictlySortedBy key_cmp (keys_of blocks)
-  pub within : bytes_held blocks ≤ capacity
+  pub within : bytes_held blocks ≤ store_capacity
 
--- a put tells of that fault exactly; want of memory comes only where there is none
+-- a put tells of that fault exactly; running out of memory comes only where there is none
 abbrev pub Tells : Option StoreFault → Result Unit PutFault → Type 0
 Tells found (Ok done) = found ≡ None
 Tells found (Err (Refused fault)) = found ≡ Some fault
 Tells found (Err Memory) = found ≡ None
 
-abbrev pub post_kind : Kind → PostKind
+abbrev pub post_kind : BlockKind → PostKind
 post_kind Content = post.Block
 post_kind Head = post.Head
 

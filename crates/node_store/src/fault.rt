@@ -13,7 +13,7 @@ pub enum PutFault {
     /// The store doesn't take the block.
     #[error("refused: {0}")]
     Refused(StoreFault),
-    /// Want of memory. No clause ties this to a cause.
+    /// Out of memory. No clause ties this to a cause.
     #[error("out of memory")]
     Memory,
 }

@@ -2,7 +2,7 @@
 
 ghost use Rattle.std.specs.Prelude.{◌≡◌, ◌<◌, ◌≤◌, length, IfOk, Some, MatchBool};
 
-use dhash_model::Kind;
+use dhash_model::BlockKind;
 use dht_ids::{Judge, Judged, Post, PostKind};
 use ivy_base::{Bytes, Key, Memory};
 use std::alloc::{AllocError, Global};
@@ -11,7 +11,7 @@ use std::marker::Model;
 /// A block and how it was put.
 #[derive(Drop)]
 pub struct Kept {
-    kind: Kind,
+    kind: BlockKind,
     bytes: Vec<u8>,
 }
 
@@ -27,8 +27,8 @@ impl Kept {
     ghost use Rattle.dhash_model.specs.Stores.{number_of, spoiled};
     ghost use Rattle.node_store.specs.Stores.{post_of};
 
-    /// A copy of the bytes, put so. The error is want of memory.
-    pub fn copy_of(alloc: Global, kind: Kind, bytes: &[u8]) -> Result<Kept, AllocError>
+    /// A copy of the bytes, put so. The error is: out of memory.
+    pub fn copy_of(alloc: Global, kind: BlockKind, bytes: &[u8]) -> Result<Kept, AllocError>
         ensures { IfOk result (λ block. block ≡ record { kind = kind; bytes = bytes.now }) }
     {
         Ok(Kept {
@@ -58,9 +58,9 @@ impl Kept {
         ensures { result ≡ number_of (J.judges judge.now key.now) self.now }
     {
         match self.kind {
-            Kind::Content => None,
-            Kind::Head if self.bytes.as_slice() == known => Some(says.seq),
-            Kind::Head => Some(judge.judge(key, self.bytes.as_slice())?.seq),
+            BlockKind::Content => None,
+            BlockKind::Head if self.bytes.as_slice() == known => Some(says.seq),
+            BlockKind::Head => Some(judge.judge(key, self.bytes.as_slice())?.seq),
         }
     }
 
@@ -76,7 +76,7 @@ impl Kept {
         true
     }
 
-    /// A copy as it is put at other nodes. The error is want of memory.
+    /// A copy as it is put at other nodes. The error is: out of memory.
     pub fn post(&self, alloc: Global, key: &Key) -> Result<Post, Memory>
         ensures { IfOk result (λ post. post ≡ post_of (key.now, self.now)) }
     {
@@ -84,8 +84,8 @@ impl Kept {
             key: *key,
             bytes: Bytes::copy_of(alloc, self.bytes.as_slice())?,
             kind: match self.kind {
-                Kind::Content => PostKind::Block,
-                Kind::Head => PostKind::Head,
+                BlockKind::Content => PostKind::Block,
+                BlockKind::Head => PostKind::Head,
             },
         })
     }

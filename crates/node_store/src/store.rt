@@ -7,7 +7,7 @@ ghost use Rattle.ivy_base.specs.Naming.{key_cmp, name};
 
 use crate::fault::PutFault;
 use crate::kept::Kept;
-use dhash_model::Kind;
+use dhash_model::BlockKind;
 use dht_ids::{Judge, Judged, Posts, StoreFault};
 use ivy_base::{Key, Memory, name_of};
 use std::alloc::Global;
@@ -39,7 +39,7 @@ impl Model for Store {
 }
 
 impl Store {
-    ghost use Rattle.dhash_model.specs.declared.kind.Kind.{Kind};
+    ghost use Rattle.dhash_model.specs.declared.kind.BlockKind.{BlockKind};
     ghost use Rattle.dhash_model.specs.Stores.{bytes_at, bytes_held, content, content_fault, full, head, head_fault, number_at, with_byte, without};
     ghost use Rattle.node_store.specs.Numbers.{IsBelow};
     ghost use Rattle.node_store.specs.Stores.{IsStore, Tells, post_of};
@@ -65,7 +65,7 @@ impl Store {
         if *key != name_of(bytes) {
             return Err(PutFault::Refused(StoreFault::WrongName));
         }
-        self.hold(alloc, key, Kind::Content, bytes)
+        self.hold(alloc, key, BlockKind::Content, bytes)
     }
 
     /// As [`Store::put_block`], for whoever may know that this is the name of the bytes, which aren't hashed then.
@@ -83,7 +83,7 @@ impl Store {
         ensures valid { OnOk result (IsStore self.new) }
     {
         if is_named {
-            return self.hold(alloc, key, Kind::Content, bytes);
+            return self.hold(alloc, key, BlockKind::Content, bytes);
         }
         self.put_block(alloc, key, bytes)
     }
@@ -110,7 +110,7 @@ impl Store {
         if let Some(fault) = self.older_at(judge, key, bytes, new) {
             return Err(PutFault::Refused(fault));
         }
-        self.hold(alloc, key, Kind::Head, bytes)
+        self.hold(alloc, key, BlockKind::Head, bytes)
     }
 
     /// The bytes that are held under the key.
@@ -142,7 +142,7 @@ impl Store {
         }
     }
 
-    /// Copies of all blocks, as they are put at other nodes, their keys ascending. The error is want of memory.
+    /// Copies of all blocks, as they are put at other nodes, their keys ascending. The error is: out of memory.
     pub fn held(&self, alloc: Global) -> Result<Posts, Memory>
         ensures listed { IfOk result (λ posts. posts ≡ map post_of self.now) }
         ensures valid { IsStore self.now }
@@ -155,7 +155,13 @@ impl Store {
     }
 
     // Holds a copy of the bytes in place of what the key held, where there is room for it.
-    fn hold(&mut self, alloc: Global, key: &Key, kind: Kind, bytes: &[u8]) -> Result<(), PutFault>
+    fn hold(
+        &mut self,
+        alloc: Global,
+        key: &Key,
+        kind: BlockKind,
+        bytes: &[u8],
+    ) -> Result<(), PutFault>
         ensures told { Tells (full key.now (record { kind = kind; bytes = bytes.now }) self.old) result }
         ensures stored { OnOk result (self.new ≡ put key_cmp key.now (record { kind = kind; bytes = bytes.now }) self.old) }
         ensures unchanged { OnErr result (self.new ≡ self.old) }
@@ -173,7 +179,7 @@ impl Store {
 
     // How many bytes are held once the key holds these.
     fn total_with(&self, key: &Key, bytes: &[u8]) -> u64
-        ensures { (kind : Kind) → result ≡ bytes_held (put key_cmp key.now (record { kind = kind; bytes = bytes.now }) self.now) }
+        ensures { (kind : BlockKind) → result ≡ bytes_held (put key_cmp key.now (record { kind = kind; bytes = bytes.now }) self.now) }
     {
         let replaced = match self.blocks.get(key) {
             Some(block) => block.len(),

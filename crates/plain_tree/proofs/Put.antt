@@ -12,16 +12,16 @@ use Rattle.std.proofs.lemmas.List.{drop_more, drop_all, append_assoc, take_all, 
 use Rattle.plain_tree.specs.Search.{IsFoundAt, BelongsAt}
 
 module _ {K X : Type 0} (R : K → K → Ordering) (k : K) (es : List (K × X)) where
-  -- what is put goes behind the first entries, so many
+  -- what is put goes after the first entries, so many
   abbrev pub GoesBehind : ℕ → Type 0
   GoesBehind at = (v : X) → put R k v es ≡ take at es ++ put R k v (drop at es)
 
   pub goes_behind_none : GoesBehind 0
   goes_behind_none v = refl
 
-  module _ (at : ℕ) (d : K × X) (within : at < length es) (behind : GoesBehind at) where
+  module _ (at : ℕ) (d : K × X) (within : at < length es) (after : GoesBehind at) where
     here : (v : X) → put R k v es ≡ take at es ++ by_order (R k (slice_index_or es at d).0) ((k, v) ∷ slice_index_or es at d ∷ drop (at + 1) es) (((slice_index_or es at d).0, v) ∷ drop (at + 1) es) (slice_index_or es at d ∷ put R k v (drop (at + 1) es))
-    here v = behind v ∙ ap (λ l. take at es ++ put R k v l) (drop_more es at d within)
+    here v = after v ∙ ap (λ l. take at es ++ put R k v l) (drop_more es at d within)
 
     pub belongs_here : R k (slice_index_or es at d).0 ≡ Less → BelongsAt R k at es
     belongs_here less = record {
@@ -46,9 +46,9 @@ module _ {K X : Type 0} (R : K → K → Ordering) (k : K) (es : List (K × X)) 
         ∙ ap (λ l. l ++ put R k v (drop (at + 1) es)) (sym (take_more es at d within))
 
   pub belongs_last : (at : ℕ) → length es ≤ at → GoesBehind at → BelongsAt R k (length es) es
-  belongs_last at past behind = record {
+  belongs_last at past after = record {
     within = omega arith;
-    puts = λ v. behind v
+    puts = λ v. after v
         ∙ (λ i. take_all at es past i ++ put R k v (drop_all at es past i))
         ∙ (λ i. sym (take_all (length es) es (omega arith)) i ++ (k, v) ∷ sym (drop_all (length es) es (omega arith)) i);
   }

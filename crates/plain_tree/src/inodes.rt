@@ -24,7 +24,7 @@ pub(crate) fn find<'a>(inodes: &'a [(Key, Content)], ino: &Key) -> Option<&'a Co
     None
 }
 
-// Lets the number stand for that inode. The error is want of memory, and then nothing has changed.
+// Lets the number stand for that inode. The error is: out of memory, and then nothing has changed.
 pub(crate) fn put(
     inodes: &mut Vec<(Key, Content)>,
     ino: &Key,
@@ -55,7 +55,7 @@ fn search(inodes: &[(Key, Content)], ino: &Key) -> Result<usize, usize>
     Err(inodes.len())
 }
 
-// The same list, each inode with bytes of its own. The error is want of memory.
+// The same list, each inode with bytes of its own. The error is: out of memory.
 pub(crate) fn copy(inodes: &[(Key, Content)], alloc: Global) -> Result<Vec<(Key, Content)>, Memory>
     ensures { IfOk result (λ copy. copy.items ≡ inodes.now) }
 {

@@ -9,7 +9,7 @@
 //! Definitions: `specs/View.antt` is the tree that the lists are, `specs/Search.antt` where an entry goes in one.
 //!
 //! Costs: a look-up goes through all names or all inodes, and each operation works on a copy of the whole tree, so
-//! that want of memory leaves the tree as it was.
+//! that running out of memory leaves the tree as it was.
 #![tactic(auto)]
 
 mod inodes;

@@ -57,7 +57,7 @@ fn search(names: &[Name], dir: &Key, name: &[u8]) -> Result<usize, usize>
     Err(names.len())
 }
 
-// Lets the name at that place lead to the inode. The error is want of memory, and then nothing has changed.
+// Lets the name at that place lead to the inode. The error is: out of memory, and then nothing has changed.
 pub(crate) fn put(
     names: &mut Vec<Name>,
     alloc: Global,
@@ -114,7 +114,7 @@ pub(crate) fn climb_ends(names: &[Name], most: usize, ino: &Key, dir: &Key) -> b
     true
 }
 
-// The same list, each name with bytes of its own. The error is want of memory.
+// The same list, each name with bytes of its own. The error is: out of memory.
 pub(crate) fn copy(names: &[Name], alloc: Global) -> Result<Vec<Name>, Memory>
     ensures { IfOk result (λ copy. copy.items ≡ names.now) }
 {

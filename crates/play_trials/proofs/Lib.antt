@@ -1,2 +1,2 @@
 mod SameStanding
-mod UnderWay
+mod InProgress

@@ -1,1 +1,1 @@
-pub mod UnderWay
+pub mod InProgress

@@ -40,12 +40,12 @@ impl Sink for Slow<MemSink> {
 
 /// How the calls of a reader or a writer go: so many are interrupted, then one fails if it is to, and the others go well.
 #[derive(Clone, Copy)]
-pub struct Course {
+pub struct Schedule {
     pub interruptions: u32,
     pub fails: bool,
 }
 
-impl Course {
+impl Schedule {
     /// Whether the next call goes well.
     fn next(&mut self) -> io::Result<()> {
         if self.interruptions > 0 {
@@ -60,23 +60,23 @@ impl Course {
     }
 }
 
-/// A reader or a writer of std with such a course.
+/// A reader or a writer of std with such an execution.
 #[derive(Drop)]
 pub struct Halting<T> {
     pub inner: T,
-    pub course: Course,
+    pub schedule: Schedule,
 }
 
 impl Read for Halting<&[u8]> {
     fn read(&mut self, into: &mut [u8]) -> io::Result<usize> {
-        self.course.next()?;
+        self.schedule.next()?;
         self.inner.read(into)
     }
 }
 
 impl Write for Halting<Vec<u8>> {
     fn write(&mut self, from: &[u8]) -> io::Result<usize> {
-        self.course.next()?;
+        self.schedule.next()?;
         self.inner.write(from)
     }
 

@@ -3,7 +3,7 @@
 use crate::text::Text;
 use crate::words::Words;
 
-/// Puts the line, or what its form stands for, behind the script. A script with a word that its form can't have isn't whole.
+/// Puts the line, or what its form stands for, after the script. A script with a word that its form can't have isn't whole.
 pub fn put_line(script: &mut Text, line: &str) {
     let mut words = Words::new(script.alloc, line);
     match words.word() {

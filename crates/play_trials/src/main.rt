@@ -1,19 +1,19 @@
-//! Plays scripts, and runs sessions and fetches, as the lines of the standard input say. A line `== FAMILY` begins a family anew,
-//! where no script has begun, and the lines behind it are of that; at first it is `scripts`. `no answer` stands for a line that is
-//! none of its family's, of which a part may have been done, and for want of memory.
+//! Plays scripts, and runs sessions and fetches, as the lines of the standard input say. A line `== FAMILY` begins a family
+//! again, where no script has begun, and the lines after it are of that; at first it is `scripts`. `no answer` stands for a line
+//! that is none of its family's, of which a part may have been done, and when out of memory.
 //!
 //! Of `== scripts`: each script is played as [`ivy_play::play`] plays it over a source and a sink, and what was written is told,
 //! and the status that it ended with.
 //!
-//! A line that begins with `----` ends a script, and says behind it how the script is played:
+//! A line that begins with `----` ends a script, and says after it how the script is played:
 //!
 //! - nothing: over bytes in memory
 //! - `open`: the same, without the script's last newline
 //! - `brief`: the same, and of each line no more than 62 bytes are told, which are a reply up to its status of NFS
 //! - `reads`, `writes`: again and again, where the first call fails, then the second, up to a call that isn't made
 //! - `slow`: by reads and writes of one byte each
-//! - `std R W`: over a reader and a writer of std, whose first R and W calls are interrupted; with a `!` behind the
-//!   number the call behind them fails
+//! - `std R W`: over a reader and a writer of std, whose first R and W calls are interrupted; with a `!` after the number the
+//!   call after them fails
 //!
 //! Lines of a script may have a form that begins with `@`:
 //!
@@ -23,8 +23,8 @@
 //! - `@lines N TEXT`: so many lines, one for each number from 0: `#` stands for the number, the k-th `?` for its k-th
 //!   bit, from the lowest, and the k-th `!` for the other bit
 //!
-//! What was written is told whole up to 1,200 bytes, and as its length and SHA-1 above. A line `---- STATUS` follows it,
-//! with the line that was played alone or the call that failed behind it.
+//! What was written is told whole up to 1,200 bytes, and as its length and SHA-1 above. A line `---- STATUS` follows it, with the
+//! line that was played alone or the call that failed after it.
 //!
 //! The answers of the stored run are written by hand from the rules of scripts and RFC 1813, but for the replies that
 //! stand there whole: these, and the lengths and SHA-1s, are those of a model of the program in another language.
@@ -46,21 +46,20 @@
 //! - `call WHO SEC NSEC MESSAGE`: a session of its agent with that message, whose turn is at that moment
 //! - `publish WHO`: a session that only publishes
 //! - `pending WHO`: what its agent has still to publish
-//! - `view LOG ..`, `view LOG .. former LOG ..`: whose logs are fetched from now on, by who knows nothing and has nothing at hand; a
-//!   log is written as two digits, the byte that its key repeats
+//! - `view LOG ..`, `view LOG .. former LOG ..`: whose logs are fetched from now on, by who knows nothing and has nothing
+//!   available; a log is written as two digits, the byte that its key repeats
 //! - `own LOG`: who fetches
-//! - `hand BYTES`: the block is at hand to who fetches, and is given where it is wanted
+//! - `hand BYTES`: the block is available to who fetches, and is given where it is wanted
 //! - `floor KEY NUMBER NAME ..`, `held KEY NUMBER NAME ..`: the newest records that were known, and those that are held,
 //!   by their logs' head keys
 //! - `edge LOG KEY NUMBER NAME ..`: what the held record of that log cites
-//! - `fetch`: the fetch: each ask, `given` for each block that was at hand, then the chains that came, with the number of the
+//! - `fetch`: the fetch: each ask, `given` for each block that was available, then the chains that came, with the number of the
 //!   first record and the number and the name of the last, then the notes, how it ended, and how many gets it began
 //!
 //! A session tells each ask, with the node's number and what it answers: `route`, `get`, `put` and `head`, the put of a head,
-//! with the record's number and name; `turn`; `settle`, with the keys of what was
-//! acknowledged; `cut`, where its publishing ended for want of memory; then how it ended, and what was noted. There is no answer
-//! for a view that isn't entered, for a caller in no view, and for a fetch that may not begin. Empty lines and those that begin with `#` say
-//! what comes.
+//! with the record's number and name; `turn`; `settle`, with the keys of what was acknowledged; `cut`, where its publishing ended
+//! because memory ran out; then how it ended, and what was noted. There is no answer for a view that isn't entered, for a caller
+//! in no view, and for a fetch that may not begin. Empty lines and those that begin with `#` say what comes.
 //!
 //! The answers of the stored run are those of a model in another language, written from the rules alone.
 #![tactic(auto)]

@@ -1,6 +1,6 @@
 //! Runs of a script, each over another source and sink, and what is told of them.
 
-use crate::ends::{Course, Halting, Slow};
+use crate::ends::{Halting, Schedule, Slow};
 use crate::text::Text;
 use crate::told::{put_brief, put_status, put_written};
 use ivy_base::{Bytes, Memory};
@@ -17,7 +17,7 @@ pub struct Plan {
 }
 
 impl Plan {
-    /// Each call goes well, and all is told.
+    /// Each call goes well, and all is reported.
     pub const WHOLE: Plan = Plan {
         read: 0,
         write: 0,
@@ -89,15 +89,15 @@ pub fn tell_slow(told: &mut Text, script: &[u8]) {
     told.byte(b'\n');
 }
 
-/// Tells the run over a reader and a writer of std, with these courses.
-pub fn tell_over_std(told: &mut Text, script: &[u8], reads: Course, writes: Course) {
+/// Tells the run over a reader and a writer of std, with these executions.
+pub fn tell_over_std(told: &mut Text, script: &[u8], reads: Schedule, writes: Schedule) {
     let mut source = StdSource::new(Halting {
         inner: script,
-        course: reads,
+        schedule: reads,
     });
     let mut sink = StdSink::new(Halting {
         inner: Vec::new(told.alloc),
-        course: writes,
+        schedule: writes,
     });
     let status = status_of(told, &mut source, &mut sink);
     put_written(told, sink.into_writer().inner.as_slice());

@@ -4,8 +4,8 @@ use itoa::Buffer;
 use ivy_base::Key;
 use std::alloc::Global;
 
-/// A text that is put together piece by piece. Want of memory is noted, and told once, where the text is read, so that no
-/// piece has an error of its own.
+/// A text that is put together piece by piece. Running out of memory is noted, and told once, where the text is read, so
+/// that no piece has an error of its own.
 #[derive(Drop)]
 pub struct Text {
     pub alloc: Global,
@@ -23,7 +23,7 @@ impl Text {
         }
     }
 
-    /// What was put together; `None` where something is wanting.
+    /// What was put together; `None` where something is missing.
     pub fn whole(&self) -> Option<&[u8]> {
         if self.is_whole {
             Some(self.bytes.as_slice())
@@ -32,12 +32,12 @@ impl Text {
         }
     }
 
-    /// Notes that something is wanting.
+    /// Notes that something is missing.
     pub fn lack(&mut self) {
         self.is_whole = false;
     }
 
-    /// Notes that something is wanting, where it wasn't done.
+    /// Notes that something is missing, where it wasn't done.
     pub fn note(&mut self, done: bool) {
         if !done {
             self.is_whole = false;

@@ -1,6 +1,6 @@
 //! A trial of scripts: a script, the way that it is played, and what is told of it.
 
-use crate::ends::Course;
+use crate::ends::Schedule;
 use crate::forms::put_line;
 use crate::runs::{Plan, tell, tell_over_std, tell_slow};
 use crate::text::Text;
@@ -56,7 +56,7 @@ impl Trial {
         }
     }
 
-    /// Adds a line to the script, where it isn't the one behind which each is played alone.
+    /// Adds a line to the script, where it isn't the one after which each is played alone.
     fn add(&mut self, line: &str) {
         match line {
             "@each" => self.is_each_alone = true,
@@ -113,7 +113,7 @@ fn tell_by(told: &mut Text, script: &[u8], words: &mut Words<'_>) {
         "open" => tell_line(told, opened(script), Plan::WHOLE),
         "brief" => tell_line(told, script, Plan::BRIEF),
         "slow" => tell_slow(told, script),
-        "std" => tell_over_std(told, script, course_of(words), course_of(words)),
+        "std" => tell_over_std(told, script, schedule_of(words), schedule_of(words)),
         "reads" => tell_failing(told, script, ": read ", STATUS_READ_FAULT),
         "writes" => tell_failing(told, script, ": write ", STATUS_WRITE_FAULT),
         _ => words.fail(),
@@ -154,14 +154,14 @@ fn failing_plan(fault: Status, number: u64) -> Plan {
     plan
 }
 
-/// The course that the next word names: `3!` is three interruptions and a failure.
-fn course_of(words: &mut Words<'_>) -> Course {
+/// The execution that the next word names: `3!` is three interruptions and a failure.
+fn schedule_of(words: &mut Words<'_>) -> Schedule {
     let word = words.word();
     let (number, fails) = match word.strip_suffix('!') {
         Some(number) => (number, true),
         None => (word, false),
     };
-    Course {
+    Schedule {
         interruptions: words.number_of(number),
         fails,
     }

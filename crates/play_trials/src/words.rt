@@ -11,7 +11,7 @@ const SECOND: u32 = 1_000_000_000;
 /// The first moment.
 pub const NEVER: Moment = Moment { sec: 0, nsec: 0 };
 
-/// The words of a line, taken from the front. A word that isn't of the kind that is asked for is noted, and so is want of
+/// The words of a line, taken from the front. A word that isn't of the kind that is asked for is noted, and so means out of
 /// memory, and something harmless stands for it. Whoever takes words need not look for that; whoever answers the line does.
 #[derive(Clone, Copy)]
 pub struct Words<'a> {
@@ -41,7 +41,7 @@ impl<'a> Words<'a> {
         self.is_fine && self.rest.is_none()
     }
 
-    /// Notes that a word isn't of its kind, or that memory was wanting.
+    /// Notes that a word isn't of its kind, or that memory ran out.
     pub fn fail(&mut self) {
         self.is_fine = false;
     }

@@ -31,7 +31,7 @@ reversed Greater h = cc
 after : (q r : Record) → IsBefore q r → record_cmp r q ≡ Greater
 after q r h = records_total.antisymm r q ∙ reversed (record_cmp q r) h
 
--- ---- records that are behind a front of the held ones
+-- ---- records that are after a front of the held ones
 
 with_behind : (s t : List Record) (r : Record) → AllByRecursion (λ q. IsBefore q r) s → with_record (s ++ t) r ≡ s ++ with_record t r
 with_behind [] t r h = refl
@@ -93,7 +93,7 @@ pub first_within : (held more : List Record) → first_place held more ≤ lengt
 first_within held [] = omega arith
 first_within held (r ∷ more) = place_within (rank r) held
 
--- the place of records that are behind all others
+-- the place of records that are after all others
 pub last_place : (held more : List Record) → AreBehind held more → first_place held more ≡ length held
 last_place held [] h = refl
 last_place held (r ∷ more) h = all_under held h.0

@@ -9,8 +9,7 @@ use Rattle.turn_model.specs.Basis.{Basis, StandsFor, IsAboveTide, kept_tree}
 use Rattle.replay_engine.specs.Places.{AreNew, AreBehind}
 use Rattle.replay_engine.specs.Engines.{Engine, holding, taken_in, undone}
 
--- a call that takes new records in, wherever they go; one that takes them in behind all others; and one that takes the last of
--- these back
+-- a call that takes new records in, wherever they go; one that takes them in after all others; and one that takes the last of these back
 pub data Call : Type 0 where
   Absorb : List Record → Call
   Append : List Record → Call

@@ -6,7 +6,7 @@ use Rattle.log_model.specs.Record.{Record}
 use Rattle.log_model.specs.Rank.{rank, record_cmp}
 use Rattle.log_records.specs.Places.{merge_place}
 
--- the place of the first new record, behind all where there is none
+-- the place of the first new record, after all where there is none
 abbrev pub first_place : List Record → List Record → ℕ
 first_place held [] = length held
 first_place held (r ∷ more) = merge_place held (rank r)
@@ -15,7 +15,7 @@ first_place held (r ∷ more) = merge_place held (rank r)
 abbrev pub AreNew : List Record → List Record → Type 0
 AreNew held more = AllByRecursion (λ r. AllByRecursion (λ q. IsTrue (not (is_eq (record_cmp r q)))) held) more
 
--- each new record is behind each held one
+-- each new record is after each held one
 abbrev pub AreBehind : List Record → List Record → Type 0
 AreBehind held more = AllByRecursion (λ r. AllByRecursion (λ q. IsTrue (is_lt (record_cmp q r))) held) more
 

@@ -18,7 +18,7 @@ pub record IsRow (s : List Record) : Type 0 where
 abbrev pub union : List Record → List Record → List Record
 union held new = fold with_record held new
 
--- the union has that record behind the union of what is left
+-- the union has that record after the union of what is left
 abbrev pub TakesGreatest : List Record → List Record → List Record → List Record → Record → Type 0
 TakesGreatest held new held_left new_left r = union held new ≡ union held_left new_left ++ r ∷ []
 

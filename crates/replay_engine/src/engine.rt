@@ -69,7 +69,7 @@ impl Model for Engine {
 }
 
 impl Engine {
-    /// The basis alone. The error is want of memory.
+    /// The basis alone. The error is: out of memory.
     pub fn over(alloc: Global, basis: Basis) -> Result<Engine, Memory>
         ensures { IfOk result (λ e. e ≡ record { basis = basis_of basis; held = []; before = [] }) }
     {
@@ -141,8 +141,8 @@ impl Engine {
         self.state.take_back(replaced);
     }
 
-    /// Takes new records in, wherever they go, and says how many records were applied, with a step for each. The error is
-    /// want of memory, and then nothing has changed.
+    /// Takes new records in, wherever they go, and says how many records were applied, with a step for each. The error
+    /// is: out of memory, and then nothing has changed.
     pub fn absorb<L: Ledger>(
         &mut self,
         alloc: Global,
@@ -163,7 +163,7 @@ impl Engine {
         self.take_in(alloc, place, more, steps)
     }
 
-    /// Takes new records in that are behind all others, and says how many there are, with a step for each. The error is want
+    /// Takes new records in that are after all others, and says how many there are, with a step for each. The error is: out
     /// of memory, and then nothing has changed.
     pub fn append<L: Ledger>(
         &mut self,
@@ -206,7 +206,7 @@ impl Engine {
         Ok(count)
     }
 
-    // Copies of the records from that place on, and the new ones among them. The error is want of memory.
+    // Copies of the records from that place on, and the new ones among them. The error is: out of memory.
     fn tail_with(
         &self,
         alloc: Global,
@@ -228,7 +228,7 @@ impl Engine {
     }
 
     // The tree before that place. The replay begins there, where it is the end, and else at the checkpoint at or before it.
-    // The error is want of memory.
+    // The error is: out of memory.
     fn reach<L: Ledger>(
         &self,
         alloc: Global,
@@ -251,7 +251,7 @@ impl Engine {
         })
     }
 
-    // The tree before that place, which is the end or that of a checkpoint. The error is want of memory.
+    // The tree before that place, which is the end or that of a checkpoint. The error is: out of memory.
     fn tree_at(&self, alloc: Global, place: usize) -> Result<Tree, Memory>
         requires within { place ≤ length self.now.held }
         requires mark { (place ≡ length self.now.held) ⊎ (place % 64 ≡ 0) }
@@ -264,8 +264,8 @@ impl Engine {
         checkpoints[place / SPACE].copy(alloc)
     }
 
-    // Puts these records in place of those from that place on, with the tree and the checkpoints that they make. The error is
-    // want of memory, and then nothing has changed.
+    // Puts these records in place of those from that place on, with the tree and the checkpoints that they make. The error
+    // is: out of memory, and then nothing has changed.
     fn put_in(&mut self, place: usize, tail: Vec<Record>, replayed: Replayed) -> Result<(), Memory>
         requires place { place ≤ length self.old.held }
         requires row { IsRow (take place self.old.held ++ records_of tail.items) }

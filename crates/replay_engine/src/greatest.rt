@@ -8,7 +8,7 @@ ghost use Rattle.replay_engine.specs.Rows.{IsRow, last_order, TakesGreatest};
 use log_records::Record;
 use std::cmp::Ordering;
 
-/// Puts the record behind the others, where there is room for one more.
+/// Puts the record after the others, where there is room for one more.
 pub fn put(records: &mut Vec<Record>, record: Record)
     requires { vec_len records.old < vec_capacity records.old }
     ensures items { records.new.items ≡ records.old.items ++ «record» ∷ [] }

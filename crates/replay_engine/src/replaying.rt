@@ -25,7 +25,7 @@ pub struct Replayed {
     pub passed: Vec<Tree>,
 }
 
-/// Applies the records to a tree that stands at that place, a step for each. The error is want of memory.
+/// Applies the records to a tree that stands at that place, a step for each. The error is: out of memory.
 pub fn replay<L: Ledger>(
     alloc: Global,
     tree: Tree,
@@ -51,7 +51,7 @@ pub fn replay<L: Ledger>(
     Ok(Replayed { tree, passed })
 }
 
-// Applies one record, which is a step. The error is want of memory, and then the tree is as it was.
+// Applies one record, which is a step. The error is: out of memory, and then the tree is as it was.
 fn apply_record<L: Ledger>(
     alloc: Global,
     tree: &mut Tree,
@@ -66,7 +66,7 @@ fn apply_record<L: Ledger>(
     tree.apply(alloc, record.moment, &record.op)
 }
 
-// Keeps a copy of the tree, where the place is one of a checkpoint. The error is want of memory.
+// Keeps a copy of the tree, where the place is one of a checkpoint. The error is: out of memory.
 fn mark(alloc: Global, passed: &mut Vec<Tree>, place: usize, tree: &Tree) -> Result<(), Memory>
     ensures { OnOk result (passed.new.items ≡ passed.old.items ++ marked place tree.now []) }
 {

@@ -16,7 +16,7 @@ use log_records::Record;
 use std::alloc::Global;
 use version_vectors::{Entry, Vector};
 
-/// Takes the new records into the held ones, by rank; of two of one rank the held one stays. The error is want of memory,
+/// Takes the new records into the held ones, by rank; of two of one rank the held one stays. The error is: out of memory,
 /// and then what is held is as it was. Either way it ascends, and each of its records has a spelling.
 pub fn merge(alloc: Global, held: &mut Vec<Record>, new: Vec<Record>) -> Result<(), Memory>
     requires held { IsAscending (records_of held.old.items) }
@@ -39,7 +39,7 @@ pub fn merge(alloc: Global, held: &mut Vec<Record>, new: Vec<Record>) -> Result<
     Ok(())
 }
 
-/// The front of the records: of each log the newest record that is among them or cited by one. The error is want of memory.
+/// The front of the records: of each log the newest record that is among them or cited by one. The error is: out of memory.
 pub fn front(alloc: Global, records: &[Record]) -> Result<Vector, Memory>
     requires spelled { AllByRecursion HasSpelling (records_of records.now) }
     ensures { IfOk result (λ v. v ≡ front (records_of records.now)) }
@@ -51,7 +51,7 @@ pub fn front(alloc: Global, records: &[Record]) -> Result<Vector, Memory>
     Ok(front)
 }
 
-/// The record's vector with the record itself. The error is want of memory.
+/// The record's vector with the record itself. The error is: out of memory.
 fn full_vector(alloc: Global, record: &Record) -> Result<Vector, Memory>
     requires { HasSpelling (record_of «record».now) }
     ensures { IfOk result (λ v. v ≡ full_vector (record_of «record».now)) }
@@ -64,7 +64,7 @@ fn full_vector(alloc: Global, record: &Record) -> Result<Vector, Memory>
     record.vector.with(alloc, entry)
 }
 
-/// Applies the records to the tree, in their order. The error is want of memory, and then the tree is of no more use.
+/// Applies the records to the tree, in their order. The error is: out of memory, and then the tree is of no more use.
 pub fn apply_records(alloc: Global, tree: &mut Tree, records: &[Record]) -> Result<(), Memory>
     requires spelled { AllByRecursion HasSpelling (records_of records.now) }
     ensures { OnOk result (tree.new ≡ apply_all tree.old (map effect (records_of records.now))) }
@@ -75,7 +75,7 @@ pub fn apply_records(alloc: Global, tree: &mut Tree, records: &[Record]) -> Resu
     Ok(())
 }
 
-/// The tree that the records stand for, from the root alone. The error is want of memory.
+/// The tree that the records stand for, from the root alone. The error is: out of memory.
 pub fn replay(alloc: Global, records: &[Record]) -> Result<Tree, Memory>
     requires ascending { IsAscending (records_of records.now) }
     requires spelled { AllByRecursion HasSpelling (records_of records.now) }

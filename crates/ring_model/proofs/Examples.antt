@@ -1,7 +1,7 @@
 -- The definitions, tried on a circle of eight places with members at 1, 3 and 6.
 use Rattle.std.proofs.Common.{◌≡◌, ℕ, ◌-◌, true, false, List, [], ◌∷◌, Some, refl}
 use Rattle.ring_model.specs.Circle.{be_number, circle_size, clockwise, is_between}
-use Rattle.ring_model.specs.Arc.{is_inside}
+use Rattle.ring_model.specs.Arc.{is_strictly_between}
 use Rattle.ring_model.specs.Members.{following, from_place, owners}
 use Rattle.ring_model.specs.Ring.{start}
 use Rattle.ring_model.specs.Route.{route_of}
@@ -25,16 +25,16 @@ beginning_is_not = refl
 all_is_between_one : is_between 3 3 3 ≡ true
 all_is_between_one = refl
 
-inside_over_zero : is_inside 6 1 3 ≡ true
+inside_over_zero : is_strictly_between 6 1 3 ≡ true
 inside_over_zero = refl
 
-ends_are_outside : is_inside 3 6 6 ≡ false
+ends_are_outside : is_strictly_between 3 6 6 ≡ false
 ends_are_outside = refl
 
-whole_circle_but_one : is_inside 3 1 3 ≡ true
+whole_circle_but_one : is_strictly_between 3 1 3 ≡ true
 whole_circle_but_one = refl
 
-one_is_outside : is_inside 3 3 3 ≡ false
+one_is_outside : is_strictly_between 3 3 3 ≡ false
 one_is_outside = refl
 
 behind_three : following (λ n. n) members 3 ≡ 6 ∷ 1 ∷ []

@@ -2,7 +2,7 @@
 use Rattle.std.proofs.Common.{◌≡◌, ℕ, zero, suc, ◌*◌, ◌<◌, ◌≤◌, Bool, true, List, [], ◌∷◌, length, take, set, Option, Some, refl, sym, ap, ◌∙◌, subst, arith, inl, inr, ⊎_elim, ◌⊎◌, length-set}
 use Rattle.std.proofs.lemmas.Bool.{cases_eq}
 use Rattle.std.proofs.lemmas.List.{get_or-set_same, get_or-set_other}
-use Rattle.ring_model.specs.Members.{IsAmong, first, IsAscending, following, from_place}
+use Rattle.ring_model.specs.Members.{IsAmong, first, HasAscendingPlaces, following, from_place}
 use Rattle.ring_model.specs.Ring.{Links, start, IsFinger}
 use Rattle.ring_model.specs.Lookup.{AreNames}
 use Rattle.ring_model.specs.Round.{with_finger, IsFingerFixed, AreFixed}
@@ -18,7 +18,7 @@ finger_set k r found (x ∷ xs) f links pos e h =
     ap (λ o. with_finger k o links) (e ∙ ap (λ l. Some l) (take_first (2 * r) x xs (omega arith)))
     ∙ ap (λ z. record links { fingers = set links.fingers k z }) (some_same x f h)
 
-module _ {A : Type 0} (place : A → ℕ) (r bits : ℕ) (pos : 1 ≤ r) (live : List A) (lives : A → Bool) (asc : IsAscending place live) (living : (m : A) → lives m ≡ true → IsAmong m live) (all : (m : A) → IsAmong m live → lives m ≡ true) (names : List A) (few : length names ≤ 512) (named : (m : A) → IsAmong m live → IsAmong m names) where
+module _ {A : Type 0} (place : A → ℕ) (r bits : ℕ) (pos : 1 ≤ r) (live : List A) (lives : A → Bool) (asc : HasAscendingPlaces place live) (living : (m : A) → lives m ≡ true → IsAmong m live) (all : (m : A) → IsAmong m live → lives m ≡ true) (names : List A) (few : length names ≤ 512) (named : (m : A) → IsAmong m live → IsAmong m names) where
   -- a ring whose lists are right
   pub record IsListed (ring : A → Links A) : Type 0 where
     pub lists : (m : A) → IsAmong m live → (ring m).list ≡ take (2 * r) (following place live m)

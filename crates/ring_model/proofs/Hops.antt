@@ -5,8 +5,8 @@ use Rattle.std.proofs.lemmas.Bool.{false_from_ne_true, true≢false, cases_Bool,
 use Rattle.std.proofs.lemmas.Bool.Decides.{nat_tests}
 use Rattle.std.proofs.Math.Nat.{mod-eq_of_lt, pow-succ'}
 use Rattle.std.proofs.lemmas.Nat.{mod-mul-add, mod_below, pow_pos}
-use Rattle.ring_model.specs.Arc.{is_inside}
-use Rattle.ring_model.specs.Members.{IsAmong, first, IsAscending, following, from_place}
+use Rattle.ring_model.specs.Arc.{is_strictly_between as is_inside}
+use Rattle.ring_model.specs.Members.{IsAmong, first, HasAscendingPlaces, following, from_place}
 use Rattle.ring_model.specs.Ring.{Links, start, IsSettledRing}
 use Rattle.ring_model.specs.Route.{Route, HasOneAtEach, IsNearestFirst, IsRoute}
 use Rattle.ring_model.specs.Lookup.{IsLookup, answers_in, IsFate}
@@ -15,7 +15,7 @@ use Rattle.ring_model.proofs.Lists.{among-right, among-cases, all-among, among_f
 use Rattle.ring_model.proofs.Arcs.{is_inside-itself, is_inside-later}
 use Rattle.ring_model.proofs.Members.{among_live, same_member, ascending_filter, all_from_place, from_place_live}
 
--- how far b is clockwise behind a, of t places
+-- how far b is clockwise after a, of t places
 abbrev pub ahead : ℕ → ℕ → ℕ → ℕ
 ahead t a b = cond (ltb b a) ((b + t) - a) (b - a)
 
@@ -32,7 +32,7 @@ start_cases t n w hn hw = ⊎_elim (λ h. inl (mod-eq_of_lt h)) (λ h. inr (wrap
     wrapped : (d : ℕ) → d < t → n + w ≡ 1 * t + d → n + w ≡ t + (n + w) % t
     wrapped d hd e = let m : (n + w) % t ≡ d = ap (λ z. z % t) e ∙ mod-mul-add 1 t d hd in omega arith
 
--- who is at least w behind n is as far from the finger's start, less w
+-- who is at least w after n is as far from the finger's start, less w
 from_start : (t n w s m : ℕ) → n < t → m < t → s < t → ((s ≡ n + w) ⊎ (n + w ≡ t + s)) → w ≤ ahead t n m → ahead t s m + w ≡ ahead t n m
 from_start t n w s m hn hm hs (inl e) h = rw e (grind (arith, nat_tests))
 from_start t n w s m hn hm hs (inr e) h = grind (arith, nat_tests)
@@ -45,7 +45,7 @@ from_start_back t n w s f hn hf hs hw (inr e) h = grind (arith, nat_tests)
 nearer_inside : (t n p f key : ℕ) → n < t → p < t → f < t → is_inside n p key ≡ true → 0 < ahead t n f → ahead t n f ≤ ahead t n p → is_inside n f key ≡ true
 nearer_inside t n p f key hn hp hf i a b = grind (arith, nat_tests)
 
--- one strictly between n and the key with p not behind it
+-- one strictly between n and the key with p not after it
 not_past : (t n p x key : ℕ) → n < t → p < t → x < t → is_inside n p key ≡ true → is_inside n x key ≡ true → is_inside p x key ≡ false → ahead t n x ≤ ahead t n p
 not_past t n p x key hn hp hx i j k = grind (arith, nat_tests)
 
@@ -73,13 +73,13 @@ pow_up i (suc j) h =
     (cases_lt i (suc j))
 
 module _ {A : Type 0} (place : A → ℕ) where
-  first_least : (l : List A) (f m : A) → IsAscending place l → first l ≡ Some f → IsAmong m l → place f ≤ place m
+  first_least : (l : List A) (f m : A) → HasAscendingPlaces place l → first l ≡ Some f → IsAmong m l → place f ≤ place m
   first_least [] f m a e h = elim h [ ]
   first_least (x ∷ xs) f m a e (inl q) = let h1 : place x ≡ place f = ap place (some_same x f e) in let h2 : place x ≡ place m = ap place q in omega arith
   first_least (x ∷ xs) f m a e (inr h) = let h1 : place x ≡ place f = ap place (some_same x f e) in let l : place x < place m = all-among (λ y. place x < place y) m xs a.0 h in omega arith
 
-  -- the first member from a place on is the least far behind it
-  first_nearest : (t : ℕ) (live : List A) (s : ℕ) (f m : A) → IsAscending place live → ((z : A) → IsAmong z live → place z < t) → s < t → first (from_place place live s) ≡ Some f → IsAmong m live → ahead t s (place f) ≤ ahead t s (place m)
+  -- the first member from a place on is the least far after it
+  first_nearest : (t : ℕ) (live : List A) (s : ℕ) (f m : A) → HasAscendingPlaces place live → ((z : A) → IsAmong z live → place z < t) → s < t → first (from_place place live s) ≡ Some f → IsAmong m live → ahead t s (place f) ≤ ahead t s (place m)
   first_nearest t live s f m a w hs e i = by (filter (λ z. leb s (place z)) live) refl
     where
       lemma_up : (f m : ℕ) → s ≤ f → f < t → m < t → ((s ≤ m → f ≤ m)) → ahead t s f ≤ ahead t s m

@@ -100,7 +100,7 @@ filter-filter p q (x ∷ xs) a =
     (cases_Bool (q x)))
     (cases_Bool (p x))
 
--- the first r of a list are those of its first k, and of the list with more behind it
+-- the first r of a list are those of its first k, and of the list with more after it
 pub take_enough : {X : Type 0} (r k : ℕ) (xs : List X) (ys zs : List X) → r ≤ length (take k xs) → take r (take k xs ++ ys) ≡ take r (xs ++ zs)
 take_enough r k xs ys zs h =
     let s : r ≤ k = omega (arith, length-take k xs) in

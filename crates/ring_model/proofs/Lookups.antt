@@ -2,7 +2,7 @@
 use Rattle.std.proofs.Common.{◌≡◌, ℕ, suc, ◌≤◌, Bool, true, false, List, [], ◌∷◌, ◌++◌, length, take, filter, Option, Some, None, refl, sym, ap, ◌∙◌, subst, arith, inl, inr, ⊎_elim, ◌⊎◌, length-append}
 use Rattle.std.specs.List.{AllByRecursion}
 use Rattle.std.proofs.lemmas.Bool.{false_from_ne_true, true≢false}
-use Rattle.ring_model.specs.Arc.{is_inside}
+use Rattle.ring_model.specs.Arc.{is_strictly_between}
 use Rattle.ring_model.specs.Members.{IsAmong, owners}
 use Rattle.ring_model.specs.Ring.{Links, IsCoveredRing}
 use Rattle.ring_model.specs.Route.{Route, owners_part, IsRoute}
@@ -55,32 +55,32 @@ module _ {A : Type 0} (place : A → ℕ) (r : ℕ) (live : List A) (lives : A �
     pub node : A
     pub here : IsAmong node live
     pub found_is : found ≡ Some (owners_part place r node (ring node).list key)
-    pub quiet : AllByRecursion (λ m. lives m ≡ true → is_inside (place node) (place m) key ≡ false) (ring node).list
+    pub quiet : AllByRecursion (λ m. lives m ≡ true → is_strictly_between (place node) (place m) key ≡ false) (ring node).list
 
   -- where the last answer is n's
   pub record IsAt (n : A) (asked : List A) (owned ps : List A) : Type 0 where
     pub here : IsAmong n live
     pub owned_is : owned ≡ owners_part place r n (ring n).list key
-    pub passed : (m : A) → IsAmong m asked → lives m ≡ true → is_inside (place n) (place m) key ≡ false
-    pub rest : (m : A) → IsAmong m (ring n).list → is_inside (place n) (place m) key ≡ true → IsAmong m asked ⊎ IsAmong m ps
-    pub inside : (m : A) → IsAmong m ps → is_inside (place n) (place m) key ≡ true
+    pub passed : (m : A) → IsAmong m asked → lives m ≡ true → is_strictly_between (place n) (place m) key ≡ false
+    pub rest : (m : A) → IsAmong m (ring n).list → is_strictly_between (place n) (place m) key ≡ true → IsAmong m asked ⊎ IsAmong m ps
+    pub inside : (m : A) → IsAmong m ps → is_strictly_between (place n) (place m) key ≡ true
     pub named : (m : A) → IsAmong m ps → IsAmong m names
     pub asked_named : (m : A) → IsAmong m asked → IsAmong m names
     pub apart : IsApart asked
 
-  pub found_at : (n : A) (asked owned ps : List A) → IsAt n asked owned ps → ((m : A) → IsAmong m (ring n).list → lives m ≡ true → is_inside (place n) (place m) key ≡ true → IsAmong m asked) → HasFound (Some owned)
+  pub found_at : (n : A) (asked owned ps : List A) → IsAt n asked owned ps → ((m : A) → IsAmong m (ring n).list → lives m ≡ true → is_strictly_between (place n) (place m) key ≡ true → IsAmong m asked) → HasFound (Some owned)
   found_at n asked owned ps s all =
       record {
         node = n;
         here = s.here;
         found_is = ap (λ l. Some l) s.owned_is;
-        quiet = all_from (λ m. lives m ≡ true → is_inside (place n) (place m) key ≡ false) (ring n).list (λ m i l.
-            false_from_ne_true (is_inside (place n) (place m) key) (λ t. true≢false (sym t ∙ s.passed m (all m i l t) l)));
+        quiet = all_from (λ m. lives m ≡ true → is_strictly_between (place n) (place m) key ≡ false) (ring n).list (λ m i l.
+            false_from_ne_true (is_strictly_between (place n) (place m) key) (λ t. true≢false (sym t ∙ s.passed m (all m i l t) l)));
       }
 
-  pub at_next : (n : A) (asked owned : List A) (p : A) (ps : List A) (route : Route A) → (IsAmong p asked → ⊥) → ((m : A) → IsAmong m asked → lives m ≡ true → is_inside (place p) (place m) key ≡ false)
+  pub at_next : (n : A) (asked owned : List A) (p : A) (ps : List A) (route : Route A) → (IsAmong p asked → ⊥) → ((m : A) → IsAmong m asked → lives m ≡ true → is_strictly_between (place p) (place m) key ≡ false)
       → IsAmong p names → ((m : A) → IsAmong m asked → IsAmong m names) → IsApart asked → lives p ≡ true → IsRoute place r p (ring p) key route → IsAt p (p ∷ asked) route.owners route.nearer
-  at_next n asked owned p ps route new behind pn an apart l route_is =
+  at_next n asked owned p ps route new after pn an apart l route_is =
       let here : IsAmong p live = c.living p l in
       record {
         here = here;
@@ -93,9 +93,9 @@ module _ {A : Type 0} (place : A → ℕ) (r : ℕ) (live : List A) (lives : A �
         apart = (new, apart);
       }
     where
-      passed : (m : A) → IsAmong m (p ∷ asked) → lives m ≡ true → is_inside (place p) (place m) key ≡ false
-      passed m (inl e) lm = subst (λ z. is_inside (place p) (place z) key ≡ false) e (is_inside-itself (place p) key)
-      passed m (inr i) lm = behind m i lm
+      passed : (m : A) → IsAmong m (p ∷ asked) → lives m ≡ true → is_strictly_between (place p) (place m) key ≡ false
+      passed m (inl e) lm = subst (λ z. is_strictly_between (place p) (place z) key ≡ false) e (is_inside-itself (place p) key)
+      passed m (inr i) lm = after m i lm
 
       asked_named : (m : A) → IsAmong m (p ∷ asked) → IsAmong m names
       asked_named m (inl e) = subst (λ z. IsAmong z names) e pn
@@ -131,7 +131,7 @@ module _ {A : Type 0} (place : A → ℕ) (r : ℕ) (live : List A) (lives : A �
   from_answer (answered {asked = asked} {p = p} {ps = ps} {route = route} few_asked new more) fates n owned e s =
       from_answer more fates.1 p route.owners refl
       (at_next n asked owned p ps route new
-      (λ m i l. false_from_ne_true (is_inside (place p) (place m) key) (λ t. true≢false (sym (is_inside-later (place n) (place p) (place m) key (s.inside p (inl refl)) t) ∙ s.passed m i l)))
+      (λ m i l. false_from_ne_true (is_strictly_between (place p) (place m) key) (λ t. true≢false (sym (is_inside-later (place n) (place p) (place m) key (s.inside p (inl refl)) t) ∙ s.passed m i l)))
       (s.named p (inl refl)) s.asked_named s.apart fates.0.0 fates.0.1)
 
   pub from_entries : {asked : List A} {last : Option (List A)} {ps : List A} {trail : List (A × Option (Route A))} {found : Option (List A)}

@@ -5,8 +5,8 @@ use Rattle.std.proofs.lemmas.Bool.{lt-ltb, le-ltb, le-leb, lt-leb, ltb-true, ltb
 use Rattle.std.proofs.lemmas.Bool.Decides.{nat_tests}
 use Rattle.std.proofs.lemmas.List.{append-nil, take_all}
 use Rattle.std.proofs.lemmas.List.Elements.{filter-append}
-use Rattle.ring_model.specs.Arc.{is_inside}
-use Rattle.ring_model.specs.Members.{IsAmong, IsAscending, following, from_place, owners}
+use Rattle.ring_model.specs.Arc.{is_strictly_between as is_inside}
+use Rattle.ring_model.specs.Members.{IsAmong, HasAscendingPlaces, following, from_place, owners}
 use Rattle.ring_model.specs.Ring.{IsCovered}
 use Rattle.ring_model.specs.Route.{owners_part}
 use Rattle.ring_model.proofs.Lists.{among-cases, all-among, all_from, all-left, all-right, all_weaker, filter_all, filter_none, filter_gives, filter-filter, take_enough}
@@ -23,14 +23,14 @@ at_key : (n m key : ℕ) → key ≤ n → is_inside n m key ≡ false → key �
 at_key n m key h j = grind (arith, nat_tests)
 
 module _ {A : Type 0} (place : A → ℕ) where
-  -- where nobody lives strictly between n and the key, the members from the key on are those behind n, and then n
-  pub from_place_is : (live : List A) (n : A) (key : ℕ) → IsAscending place live → IsAmong n live
+  -- where nobody lives strictly between n and the key, the members from the key on are those after n, and then n
+  pub from_place_is : (live : List A) (n : A) (key : ℕ) → HasAscendingPlaces place live → IsAmong n live
       → AllByRecursion (λ m. is_inside (place n) (place m) key ≡ false) (following place live n) → from_place place live key ≡ following place live n ++ n ∷ []
   from_place_is live n key a h quiet = let p = split_of place live n h in from p.0 p.1 p.2
     where
       from : (front back : List A) → live ≡ front ++ n ∷ back → from_place place live key ≡ following place live n ++ n ∷ []
       from front back w =
-          let a' : IsAscending place (front ++ n ∷ back) = subst (IsAscending place) w a in
+          let a' : HasAscendingPlaces place (front ++ n ∷ back) = subst (HasAscendingPlaces place) w a in
           let f : following place live n ≡ back ++ front = ap (λ l. following place l n) w ∙ following-split place front n back a' in
           let q : IsSplit place (front ++ n ∷ back) front n back = split_from_whole place front n back a' in
           let out : AllByRecursion (λ m. is_inside (place n) (place m) key ≡ false) (back ++ front) = subst (AllByRecursion (λ m. is_inside (place n) (place m) key ≡ false)) f quiet in
@@ -57,7 +57,7 @@ module _ {A : Type 0} (place : A → ℕ) where
           parts front (t ∷ back) q ob of (inr g) = absurd (none_above (place n) (place t) key g q.above.0 ob.0)
 
   -- where the next member isn't strictly between n and the key, nobody is
-  pub quiet_arc : (live : List A) (n x : A) (rest : List A) (key : ℕ) → IsAscending place live → IsAmong n live → following place live n ≡ x ∷ rest
+  pub quiet_arc : (live : List A) (n x : A) (rest : List A) (key : ℕ) → HasAscendingPlaces place live → IsAmong n live → following place live n ≡ x ∷ rest
       → (place x ≡ place n → ⊥) → is_inside (place n) (place x) key ≡ false → AllByRecursion (λ m. is_inside (place n) (place m) key ≡ false) (following place live n)
   quiet_arc live n x rest key a h e d o =
       all_from (λ m. is_inside (place n) (place m) key ≡ false) (following place live n) (λ m i.
@@ -76,7 +76,7 @@ module _ {A : Type 0} (place : A → ℕ) where
       passes p xs = filter_gives p (λ m. p m ≡ true) xs (all_from (λ m. p m ≡ true → p m ≡ true) xs (λ m i t. t))
 
   -- the last route's first r live entries are the key's owners
-  pub owners_are : (r : ℕ) (live : List A) (lives : A → Bool) (n : A) (list : List A) (key : ℕ) → 1 ≤ r → IsAscending place live → IsAmong n live → lives n ≡ true
+  pub owners_are : (r : ℕ) (live : List A) (lives : A → Bool) (n : A) (list : List A) (key : ℕ) → 1 ≤ r → HasAscendingPlaces place live → IsAmong n live → lives n ≡ true
       → IsCovered place r live lives n list → AllByRecursion (λ m. lives m ≡ true → is_inside (place n) (place m) key ≡ false) list
       → take r (filter lives (owners_part place r n list key)) ≡ owners place r live key
   owners_are r live lives n list key pos a h ln c quiet =

@@ -3,8 +3,8 @@ use Rattle.std.proofs.Common.{◌≡◌, ℕ, zero, suc, ◌+◌, ◌-◌, ◌*�
 use Rattle.std.specs.List.{find}
 use Rattle.std.proofs.lemmas.Bool.{true≢false, cases_eq, cases_Bool, cond-true, cond-false, ne_eqb, eq-eqb}
 use Rattle.std.proofs.lemmas.List.{take_all, take-take}
-use Rattle.ring_model.specs.Arc.{is_inside}
-use Rattle.ring_model.specs.Members.{IsAmong, first, IsAscending, following}
+use Rattle.ring_model.specs.Arc.{is_strictly_between}
+use Rattle.ring_model.specs.Members.{IsAmong, first, HasAscendingPlaces, following}
 use Rattle.ring_model.specs.Ring.{Links}
 use Rattle.ring_model.specs.Pass.{some_list, until, between_them, renewed, nearest_before, notified, heard, list_after, IsStabilised, IsPass, ArePasses}
 use Rattle.ring_model.specs.Pass.IsPass.{done, more}
@@ -44,27 +44,27 @@ module _ {A : Type 0} (place : A → ℕ) where
   renewed-plain r n a b la d e = ap (take (2 * r)) (ap (λ l. until place n (l ++ a ∷ la)) e ∙ until-other n a la d)
 
   -- a new list that begins with the predecessor that the answering node names
-  pub renewed-between : (r : ℕ) (n a p : A) (la : List A) → (place a ≡ place n → ⊥) → (place p ≡ place n → ⊥) → is_inside (place n) (place p) (place a) ≡ true → renewed place r n a (Some p) la ≡ take (2 * r) (p ∷ a ∷ until place n la)
+  pub renewed-between : (r : ℕ) (n a p : A) (la : List A) → (place a ≡ place n → ⊥) → (place p ≡ place n → ⊥) → is_strictly_between (place n) (place p) (place a) ≡ true → renewed place r n a (Some p) la ≡ take (2 * r) (p ∷ a ∷ until place n la)
   renewed-between r n a p la d q t =
-      ap (take (2 * r)) (ap (λ l. until place n (l ++ a ∷ la)) (cond-true (is_inside (place n) (place p) (place a)) (p ∷ []) [] t) ∙ until-other n p (a ∷ la) q ∙ ap (λ l. p ∷ l) (until-other n a la d))
+      ap (take (2 * r)) (ap (λ l. until place n (l ++ a ∷ la)) (cond-true (is_strictly_between (place n) (place p) (place a)) (p ∷ []) [] t) ∙ until-other n p (a ∷ la) q ∙ ap (λ l. p ∷ l) (until-other n a la d))
 
-  pub between-cases : (n a : A) (b : Option A) → (between_them place n a b ≡ []) ⊎ ((p : A) × (b ≡ Some p) × (is_inside (place n) (place p) (place a) ≡ true))
+  pub between-cases : (n a : A) (b : Option A) → (between_them place n a b ≡ []) ⊎ ((p : A) × (b ≡ Some p) × (is_strictly_between (place n) (place p) (place a) ≡ true))
   between-cases n a None = inl refl
   between-cases n a (Some p) =
-      ⊎_elim (λ t. inr (p, refl, t)) (λ f. inl (cond-false (is_inside (place n) (place p) (place a)) (p ∷ []) [] f)) (cases_Bool (is_inside (place n) (place p) (place a)))
+      ⊎_elim (λ t. inr (p, refl, t)) (λ f. inl (cond-false (is_strictly_between (place n) (place p) (place a)) (p ∷ []) [] f)) (cases_Bool (is_strictly_between (place n) (place p) (place a)))
 
-module _ {A : Type 0} (place : A → ℕ) (r : ℕ) (pos : 1 ≤ r) (live : List A) (lives : A → Bool) (asc : IsAscending place live) (lives_all : (m : A) → IsAmong m live → lives m ≡ true) (x : A) (lx : IsAmong x live) where
-  -- v is the next member behind m, or, where that is x, the one behind x
+module _ {A : Type 0} (place : A → ℕ) (r : ℕ) (pos : 1 ≤ r) (live : List A) (lives : A → Bool) (asc : HasAscendingPlaces place live) (lives_all : (m : A) → IsAmong m live → lives m ≡ true) (x : A) (lx : IsAmong x live) where
+  -- v is the next member after m, or, where that is x, the one after x
   abbrev pub IsReadyAt : A → Option A → Type 0
   IsReadyAt m v = (v ≡ first (following place live m)) ⊎ ((rest : List A) × (following place live m ≡ x ∷ rest) × (v ≡ first rest))
 
-  -- predecessors live, and each list's first live entry is the next member, or the one behind x where the next member is x
+  -- predecessors live, and each list's first live entry is the next member, or the one after x where the next member is x
   pub record IsSound (ring : A → Links A) : Type 0 where
     pub befores : (m b : A) → IsAmong m live → (ring m).before ≡ Some b → IsAmong b live
     pub firsts : (m : A) → IsAmong m live → IsReadyAt m (find lives (ring m).list)
     pub lone : (m : A) → IsAmong m live → following place live m ≡ x ∷ [] → find lives (ring m).list ≡ None → (ring m).list ≡ []
 
-  -- the next member behind y knows of y
+  -- the next member after y knows of y
   pub record IsKnown (y : A) (ring : A → Links A) : Type 0 where
     pub before : (s : A) (rest : List A) → following place live y ≡ s ∷ rest → (ring s).before ≡ Some y
     pub some : (s : A) (rest : List A) → following place live y ≡ s ∷ rest → (ring s).list ≡ [] → ⊥
@@ -114,7 +114,7 @@ module _ {A : Type 0} (place : A → ℕ) (r : ℕ) (pos : 1 ≤ r) (live : List
           (λ named. inr (between named.0 named.1 named.2 a la d ready))
           (between-cases place n a (ring a).before)
         where
-          between : (p : A) → (ring a).before ≡ Some p → is_inside (place n) (place p) (place a) ≡ true → (b : A) → IsAmong a live → (place a ≡ place n → ⊥) → IsReadyAt n (Some a) → (f : A) × BeginsWith n (renewed place r n a (ring a).before (ring a).list) f
+          between : (p : A) → (ring a).before ≡ Some p → is_strictly_between (place n) (place p) (place a) ≡ true → (b : A) → IsAmong a live → (place a ≡ place n → ⊥) → IsReadyAt n (Some a) → (f : A) × BeginsWith n (renewed place r n a (ring a).before (ring a).list) f
           between p e t b la d (inl g) =
               let q = first_cons (following place live n) a g in
               absurd (true≢false (sym t ∙ nobody_between place live n a p q.0 asc h q.1 (s.befores a p la e)))
@@ -198,9 +198,9 @@ module _ {A : Type 0} (place : A → ℕ) (r : ℕ) (pos : 1 ≤ r) (live : List
   nearest_cases n f None b e = inl (some_same b n (sym e))
   nearest_cases n f (Some c) b e =
       ⊎_elim
-      (λ t. inl (some_same b n (sym e ∙ cond-true (is_inside (place c) (place n) (place f)) (Some n) (Some c) t)))
-      (λ g. inr (sym (cond-false (is_inside (place c) (place n) (place f)) (Some n) (Some c) g) ∙ e))
-      (cases_Bool (is_inside (place c) (place n) (place f)))
+      (λ t. inl (some_same b n (sym e ∙ cond-true (is_strictly_between (place c) (place n) (place f)) (Some n) (Some c) t)))
+      (λ g. inr (sym (cond-false (is_strictly_between (place c) (place n) (place f)) (Some n) (Some c) g) ∙ e))
+      (cases_Bool (is_strictly_between (place c) (place n) (place f)))
 
   -- the list of another node after a step
   pub other_list : (n m : A) (old new : A → Links A) → IsSound old → IsAmong n live → IsAmong m live → (m ≡ n → ⊥) → new m ≡ notified place m (old m) n
@@ -276,7 +276,7 @@ module _ {A : Type 0} (place : A → ℕ) (r : ℕ) (pos : 1 ≤ r) (live : List
           by (own q) = subst (λ z. (new z).before ≡ Some y) (sym q) (st.before ∙ subst (λ z. (old z).before ≡ Some y) q (k.before t rest e))
           by (told ne q) =
               ap (λ z. z.before) q ∙ ap (λ o. nearest_before place t o n) (k.before t rest e)
-              ∙ cond-false (is_inside (place y) (place n) (place t)) (Some n) (Some y) (nobody_between place live y t n rest asc ly e ln)
+              ∙ cond-false (is_strictly_between (place y) (place n) (place t)) (Some n) (Some y) (nobody_between place live y t n rest asc ly e ln)
           by (stays ne q) = ap (λ z. z.before) q ∙ k.before t rest e
 
       own_some : (t : A) (rest : List A) → following place live y ≡ t ∷ rest → t ≡ n → ((list_after place r lives old n ≡ []) × (find lives (old n).list ≡ None) × IsReadyAt n None) ⊎ ((f : A) × BeginsWith n (list_after place r lives old n) f) → (new n).list ≡ [] → ⊥
@@ -327,12 +327,12 @@ module _ {A : Type 0} (place : A → ℕ) (r : ℕ) (pos : 1 ≤ r) (live : List
           by (Some b) q =
               let lb : IsAmong b live = s.befores t b (among_live place live x t t_in) q in
               ⊎_elim
-              (λ i. cond-true (is_inside (place b) (place x) (place t)) (Some x) (Some b) i)
+              (λ i. cond-true (is_strictly_between (place b) (place x) (place t)) (Some x) (Some b) i)
               (λ i. ⊎_elim
-              (λ j. cond-false (is_inside (place b) (place x) (place t)) (Some x) (Some b) i ∙ ap (λ z. Some z) (same_member place live b x asc lb lx j))
+              (λ j. cond-false (is_strictly_between (place b) (place x) (place t)) (Some x) (Some b) i ∙ ap (λ z. Some z) (same_member place live b x asc lb lx j))
               (λ j. absurd (true≢false (sym (is_inside-turned (place x) (place b) (place t) (nobody_between place live x t b rest asc lx e lb) j (λ w. apart_from_next place live x t t_in (sym w))) ∙ i)))
               (cases_eq (place b) (place x)))
-              (cases_Bool (is_inside (place b) (place x) (place t)))
+              (cases_Bool (is_strictly_between (place b) (place x) (place t)))
 
       some : (t : A) (rest : List A) → following place live x ≡ t ∷ rest → (new t).list ≡ [] → ⊥
       some t rest e z = some_list_some (old t).list x (sym (ap (λ w. w.list) (told_next t rest e)) ∙ z)

@@ -3,7 +3,7 @@ use Rattle.std.proofs.Common.{◌≡◌, ℕ, ◌*◌, ◌<◌, ◌≤◌, Bool,
 use Rattle.std.specs.List.{AllByRecursion}
 use Rattle.std.proofs.lemmas.Bool.{cases_Bool, cond-true, cond-false}
 use Rattle.std.proofs.lemmas.List.{take_all}
-use Rattle.ring_model.specs.Members.{IsAmong, first, IsAscending, following, from_place, is_other}
+use Rattle.ring_model.specs.Members.{IsAmong, first, HasAscendingPlaces, following, from_place, is_other}
 use Rattle.ring_model.specs.Ring.{Links, IsCovered, IsCoveredRing}
 use Rattle.ring_model.specs.Route.{Route}
 use Rattle.ring_model.specs.Lookup.{IsLookup, IsFate, AreNames}
@@ -24,13 +24,13 @@ living_is lives (Some c) b e =
 
 module _ {A : Type 0} (place : A → ℕ) (r : ℕ) (pos : 1 ≤ r) (lives : A → Bool) where
   -- after parts 1 and 2 of a round that follows fewer than r stops the lists are right, and the fingers as before
-  pub round_after_stops : (before : List A) (ns : List A) (old new : A → Links A) → IsAscending place before → ((m : A) → lives m ≡ true → IsAmong m (filter lives before)) → length (filter (λ m. not (lives m)) before) < r
+  pub round_after_stops : (before : List A) (ns : List A) (old new : A → Links A) → HasAscendingPlaces place before → ((m : A) → lives m ≡ true → IsAmong m (filter lives before)) → length (filter (λ m. not (lives m)) before) < r
       → ((m : A) → IsAmong m (filter lives before) → (old m).list ≡ take (2 * r) (following place before m))
       → ((m : A) → IsAmong m ns → IsAmong m (filter lives before)) → ((m : A) → IsAmong m (filter lives before) → IsAmong m ns) → AreListsRenewed place r lives ns old new
       → (m : A) → IsAmong m (filter lives before) → ((new m).list ≡ take (2 * r) (following place (filter lives before) m)) × ((new m).fingers ≡ (old m).fingers)
   round_after_stops before ns old new asc living few right f g round m lm =
       let live : List A = filter lives before in
-      let asc2 : IsAscending place live = ascending_filter place lives before asc in
+      let asc2 : HasAscendingPlaces place live = ascending_filter place lives before asc in
       let all : (z : A) → IsAmong z live → lives z ≡ true = λ z i. all-among (λ y. lives y ≡ true) z live (filter_gives lives (λ y. lives y ≡ true) before (all_from (λ y. lives y ≡ true → lives y ≡ true) before (λ y j t. t))) i in
       let sound = sound_after_stops place r pos live lives asc2 all m lm round.mid
       (λ z b lz e. living b (living_is lives (old z).before b (sym (round.forgotten.before z (all z lz)) ∙ e)))
@@ -44,7 +44,7 @@ module _ {A : Type 0} (place : A → ℕ) (r : ℕ) (pos : 1 ≤ r) (lives : A �
       short l = omega (arith, length-take (2 * r) l)
 
   -- and so after parts 1 and 2 of a round that follows the join of x
-  pub round_after_join : (live : List A) (x : A) (ns : List A) (old new : A → Links A) → IsAscending place live → ((m : A) → lives m ≡ true → IsAmong m live) → ((m : A) → IsAmong m live → lives m ≡ true) → IsAmong x live
+  pub round_after_join : (live : List A) (x : A) (ns : List A) (old new : A → Links A) → HasAscendingPlaces place live → ((m : A) → lives m ≡ true → IsAmong m live) → ((m : A) → IsAmong m live → lives m ≡ true) → IsAmong x live
       → (old x).list ≡ take (2 * r) (following place live x) → ((m : A) → IsAmong m live → (place m ≡ place x → ⊥) → (old m).list ≡ take (2 * r) (following place (filter (is_other place x) live) m))
       → ((m : A) → IsAmong m ns → IsAmong m live) → ((m : A) → IsAmong m live → IsAmong m ns) → AreListsRenewed place r lives ns old new
       → ((m : A) → IsAmong m live → length (old m).list ≤ 2 * r)
@@ -60,7 +60,7 @@ module _ {A : Type 0} (place : A → ℕ) (r : ℕ) (pos : 1 ≤ r) (lives : A �
       )
 
   -- where the lists are right, a look-up gives the next 2r members from the key on: so a joining node's list and each finger come out right
-  pub lookup_right : (live : List A) (ring : A → Links A) (key : ℕ) (entries names : List A) (trail : List (A × Option (Route A))) (found : Option (List A)) → IsAscending place live → ((m : A) → lives m ≡ true → IsAmong m live) → ((m : A) → IsAmong m live → lives m ≡ true)
+  pub lookup_right : (live : List A) (ring : A → Links A) (key : ℕ) (entries names : List A) (trail : List (A × Option (Route A))) (found : Option (List A)) → HasAscendingPlaces place live → ((m : A) → lives m ≡ true → IsAmong m live) → ((m : A) → IsAmong m live → lives m ≡ true)
       → ((m : A) → IsAmong m live → (ring m).list ≡ take (2 * r) (following place live m)) → AreNames live ring entries names → AllByRecursion (IsFate place r lives ring key) trail → (e : A) → lives e ≡ true → IsAmong e entries
       → IsLookup [] None entries trail found → found ≡ Some (take (2 * r) (from_place place live key))
   lookup_right live ring key entries names trail found asc living all right n fates e le ie k =

@@ -2,7 +2,7 @@
 use Rattle.std.proofs.Common.{◌≡◌, ℕ, ◌*◌, ◌^◌, ◌<◌, ◌≤◌, Bool, true, List, [], length, take, filter, Option, Some, None, sym, ap, ◌∙◌, subst, arith, inr, ⊎_elim, length-take, eqb}
 use Rattle.std.specs.List.{AllByRecursion}
 use Rattle.std.proofs.lemmas.Bool.{cases_eq, not_from_false, ne_eqb}
-use Rattle.ring_model.specs.Members.{IsAmong, IsAscending, following, is_other}
+use Rattle.ring_model.specs.Members.{IsAmong, HasAscendingPlaces, following, is_other}
 use Rattle.ring_model.specs.Ring.{Links, IsCoveredRing, IsSettledRing}
 use Rattle.ring_model.specs.Route.{Route}
 use Rattle.ring_model.specs.Lookup.{IsLookup, IsFate, AreNames}
@@ -30,7 +30,7 @@ module _ {A : Type 0} (place : A → ℕ) where
   }
 
   -- parts 1 to 3 settle a ring whose lists parts 1 and 2 make right
-  settled_by : (r bits : ℕ) (live : List A) (lives : A → Bool) (names ns : List A) (old new : A → Links A) → 1 ≤ r → IsAscending place live → ((m : A) → IsAmong m live → place m < 2 ^ bits) → ((m : A) → lives m ≡ true → IsAmong m live) → ((m : A) → IsAmong m live → lives m ≡ true)
+  settled_by : (r bits : ℕ) (live : List A) (lives : A → Bool) (names ns : List A) (old new : A → Links A) → 1 ≤ r → HasAscendingPlaces place live → ((m : A) → IsAmong m live → place m < 2 ^ bits) → ((m : A) → lives m ≡ true → IsAmong m live) → ((m : A) → IsAmong m live → lives m ≡ true)
       → length names ≤ 512 → ((m : A) → IsAmong m live → IsAmong m names) → ((m : A) → IsAmong m live → length (old m).fingers ≡ bits) → ((n m : A) → IsAmong n live → IsAmong m (old n).fingers → IsAmong m names)
       → ((m : A) → IsAmong m ns → IsAmong m live) → ((m : A) → IsAmong m live → IsAmong m ns) → (round : IsRound place r bits lives ns old new)
       → ((m : A) → IsAmong m live → (round.mid m).list ≡ take (2 * r) (following place live m)) → ((m : A) → IsAmong m live → (round.mid m).fingers ≡ (old m).fingers) → IsSettledRing place r bits live lives new

@@ -6,8 +6,8 @@ use Rattle.std.proofs.lemmas.Bool.Decides.{nat_tests}
 use Rattle.std.proofs.lemmas.List.{take_all, take_min, take-append-le, append-nil}
 use Rattle.std.proofs.lemmas.List.Elements.{filter-append}
 use Rattle.std.proofs.lemmas.List.Filters.{length-filter_both}
-use Rattle.ring_model.specs.Arc.{is_inside}
-use Rattle.ring_model.specs.Members.{IsAmong, first, IsAscending, following, from_place, is_other}
+use Rattle.ring_model.specs.Arc.{is_strictly_between as is_inside}
+use Rattle.ring_model.specs.Members.{IsAmong, first, HasAscendingPlaces, following, from_place, is_other}
 use Rattle.ring_model.specs.Ring.{Links, IsCovered}
 use Rattle.ring_model.specs.Route.{owners_part}
 use Rattle.ring_model.proofs.Lists.{among-left, all-among, all_from, filter_all, among_filtered, filter-keeps, filter-drops, filter_swap, filter_front, find_filter, length_both, length_front, none_some, take_first}
@@ -61,7 +61,7 @@ module _ {A : Type 0} (place : A → ℕ) where
           (cases_lt (2 * r) (length (following place before n)))
 
   -- a ring whose nodes are covered and whose predecessors live is ready for the passes, whoever x is
-  pub sound_after_stops : (r : ℕ) (pos : 1 ≤ r) (live : List A) (lives : A → Bool) (asc : IsAscending place live) (lives_all : (m : A) → IsAmong m live → lives m ≡ true) (x : A) (lx : IsAmong x live) (ring : A → Links A)
+  pub sound_after_stops : (r : ℕ) (pos : 1 ≤ r) (live : List A) (lives : A → Bool) (asc : HasAscendingPlaces place live) (lives_all : (m : A) → IsAmong m live → lives m ≡ true) (x : A) (lx : IsAmong x live) (ring : A → Links A)
       → ((m b : A) → IsAmong m live → (ring m).before ≡ Some b → IsAmong b live) → ((m : A) → IsAmong m live → IsCovered place r live lives m (ring m).list) → IsSound place r pos live lives asc lives_all x lx ring
   sound_after_stops r pos live lives asc lives_all x lx ring befores covered =
       record {
@@ -107,7 +107,7 @@ module _ {A : Type 0} (place : A → ℕ) where
       among_front (suc k) m (z ∷ zs) (inr h) = inr (among_front k m zs h)
 
   -- the owners' part of the last route is then the next 2r members from the key on
-  pub owners_part_right : (r : ℕ) (live : List A) (lives : A → Bool) (n : A) (list : List A) (key : ℕ) → 1 ≤ r → IsAscending place live → IsAmong n live → ((m : A) → IsAmong m live → lives m ≡ true)
+  pub owners_part_right : (r : ℕ) (live : List A) (lives : A → Bool) (n : A) (list : List A) (key : ℕ) → 1 ≤ r → HasAscendingPlaces place live → IsAmong n live → ((m : A) → IsAmong m live → lives m ≡ true)
       → list ≡ take (2 * r) (following place live n) → AllByRecursion (λ m. lives m ≡ true → is_inside (place n) (place m) key ≡ false) list
       → owners_part place r n list key ≡ take (2 * r) (from_place place live key)
   owners_part_right r live lives n list key pos a h all e quiet =
@@ -166,7 +166,7 @@ module _ {A : Type 0} (place : A → ℕ) where
   same_down : (x z : ℕ) → not (eqb z x) ≡ false → ltb z x ≡ false
   same_down x z h = grind (arith, nat_tests)
 
-  -- the members from a new node's place on, before it joins, are those behind it
+  -- the members from a new node's place on, before it joins, are those after it
   pub from_place_new : (live : List A) (x : A) → from_place place (filter (is_other place x) live) (place x) ≡ following place live x
   from_place_new live x =
       rw (
@@ -174,7 +174,7 @@ module _ {A : Type 0} (place : A → ℕ) where
         filter_two (λ m. ltb (place m) (place x)) (is_other place x) (λ m. ltb (place m) (place x)) (λ z h. refl) (λ z h. same_down (place x) (place z) h) live,
       ) refl
 
-  pub sound_after_join : (r : ℕ) (pos : 1 ≤ r) (live : List A) (lives : A → Bool) (asc : IsAscending place live) (lives_all : (m : A) → IsAmong m live → lives m ≡ true) (x : A) (lx : IsAmong x live) (ring : A → Links A)
+  pub sound_after_join : (r : ℕ) (pos : 1 ≤ r) (live : List A) (lives : A → Bool) (asc : HasAscendingPlaces place live) (lives_all : (m : A) → IsAmong m live → lives m ≡ true) (x : A) (lx : IsAmong x live) (ring : A → Links A)
       → ((m b : A) → IsAmong m live → (ring m).before ≡ Some b → IsAmong b live) → (ring x).list ≡ take (2 * r) (following place live x)
       → ((m : A) → IsAmong m live → (place m ≡ place x → ⊥) → (ring m).list ≡ take (2 * r) (following place (filter (is_other place x) live) m)) → IsSound place r pos live lives asc lives_all x lx ring
   sound_after_join r pos live lives asc lives_all x lx ring befores own others =

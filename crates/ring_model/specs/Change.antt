@@ -1,6 +1,6 @@
 -- Rings that change: after stops, and after a join.
 use Rattle.std.specs.Prelude.{◌≡◌, ℕ, ◌*◌, ◌^◌, ◌<◌, Bool, true, not, List, length, take, filter}
-use Rattle.ring_model.specs.Members.{IsAmong, IsAscending, following, is_other}
+use Rattle.ring_model.specs.Members.{IsAmong, HasAscendingPlaces, following, is_other}
 use Rattle.ring_model.specs.Ring.{Links, IsSettledRing}
 
 module _ {A : Type 0} (place : A → ℕ) where
@@ -15,7 +15,7 @@ module _ {A : Type 0} (place : A → ℕ) where
   pub record IsJoin (r bits : ℕ) (live : List A) (lives : A → Bool) (x : A) (ring : A → Links A) : Type 0 where
     pub lived : A → Bool
     pub settled : IsSettledRing place r bits (filter (is_other place x) live) lived ring
-    pub ascending : IsAscending place live
+    pub ascending : HasAscendingPlaces place live
     pub living : (m : A) → lives m ≡ true → IsAmong m live
     pub lives_all : (m : A) → IsAmong m live → lives m ≡ true
     pub member : IsAmong x live

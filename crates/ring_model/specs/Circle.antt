@@ -19,7 +19,7 @@ identifier_bits = 160
 abbrev pub circle_size : ℕ
 circle_size = 2 ^ identifier_bits
 
--- how far b is clockwise behind a
+-- how far b is clockwise after a
 abbrev pub clockwise : ℕ → ℕ → ℕ
 clockwise a b = (b + (circle_size - a)) % circle_size
 

@@ -85,7 +85,7 @@ abbrev pub IsAcknowledged : {A X : Type 0} → (X → Bool) → ℕ → List A �
 IsAcknowledged holds r once trail = (r ≤ answered_in holds trail) ⊎ ((nodes trail ≡ once) × (1 ≤ answered_in holds trail))
 
 -- a put asks until r nodes have answered, whatever they answer
-pub record IsPut {A X : Type 0} (answers holds : X → Bool) (r : ℕ) (owners : List A) (trail : List (A × X))
+pub record IsPutTrail {A X : Type 0} (answers holds : X → Bool) (r : ℕ) (owners : List A) (trail : List (A × X))
     (acknowledged : Bool) : Type 0 where
   pub asks : AreAsks owners (λ t. r ≤ answered_in answers t) trail
   pub ends : MatchBool acknowledged (IsAcknowledged holds r asks.once trail) (IsAcknowledged holds r asks.once trail → ⊥)

@@ -49,7 +49,7 @@ module _ {A : Type 0} (place : A → ℕ) where
       → ((m : A) → IsAmong m ns → IsAmong m (filter lives before)) → ((m : A) → IsAmong m (filter lives before) → IsAmong m ns)
       → IsRound place r bits lives ns old new → IsSettledRing place r bits (filter lives before) lives new
 
-  -- The look-up of a node that wants to join a settled ring finds the next 2r members behind its place.
+  -- The look-up of a node that wants to join a settled ring finds the next 2r members after its place.
   abbrev pub JoinFindsList : Type 0
   JoinFindsList = (r bits : ℕ) (live : List A) (lives : A → Bool) (x : A) (ring : A → Links A) (entries names : List A)
       (trail : List (A × Option (Route A))) (found : Option (List A))

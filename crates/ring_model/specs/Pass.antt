@@ -2,7 +2,7 @@
 -- (Chord, SIGCOMM 2001, section 5.1: stabilize and notify; section 5.2: successor lists).
 use Rattle.std.specs.Prelude.{◌≡◌, ℕ, suc, ◌*◌, Bool, nat_eq, if◌then◌else◌, List, [], ◌∷◌, ◌++◌, take, Option, Some, None}
 use Rattle.std.specs.List.{find}
-use Rattle.ring_model.specs.Arc.{is_inside}
+use Rattle.ring_model.specs.Arc.{is_strictly_between}
 use Rattle.ring_model.specs.Members.{first}
 use Rattle.ring_model.specs.Ring.{Links}
 
@@ -20,7 +20,7 @@ module _ {A : Type 0} (place : A → ℕ) where
   -- the predecessor that the answering node a names, where it stands strictly between n and a
   abbrev pub between_them : A → A → Option A → List A
   between_them n a None = []
-  between_them n a (Some b) = if is_inside (place n) (place b) (place a) then b ∷ [] else []
+  between_them n a (Some b) = if is_strictly_between (place n) (place b) (place a) then b ∷ [] else []
 
   -- the list that n makes of what a answers: its predecessor, where that is between them, a itself and a's list, up to n's own entry and at
   -- most 2r
@@ -30,7 +30,7 @@ module _ {A : Type 0} (place : A → ℕ) where
   -- the predecessor of n after a notice of p: p where there was none, or where p is strictly between it and n
   abbrev pub nearest_before : A → Option A → A → Option A
   nearest_before n None p = Some p
-  nearest_before n (Some b) p = if is_inside (place b) (place p) (place n) then Some p else Some b
+  nearest_before n (Some b) p = if is_strictly_between (place b) (place p) (place n) then Some p else Some b
 
   -- what n knows after a notice of p
   abbrev pub notified : A → Links A → A → Links A

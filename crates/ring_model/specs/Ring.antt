@@ -1,7 +1,7 @@
 -- Rings: what each node knows of the others, and how much of it is right.
 -- A ring is the list of its live members, ascending by place, a test of who lives, and what each node knows.
 use Rattle.std.specs.Prelude.{◌≡◌, ℕ, ◌+◌, ◌*◌, ◌%◌, ◌^◌, ◌<◌, ◌≤◌, Bool, true, List, length, get_or, take, filter, Option, Some, ◌⊎◌}
-use Rattle.ring_model.specs.Members.{IsAmong, IsAscending, following, from_place, first}
+use Rattle.ring_model.specs.Members.{IsAmong, HasAscendingPlaces, following, from_place, first}
 
 -- what a node knows of others: the list of the next members, the predecessor and the fingers (Chord: the successor
 -- list, the predecessor and the finger table)
@@ -21,7 +21,7 @@ module _ {A : Type 0} (place : A → ℕ) where
   -- each live node is covered
   pub record IsCoveredRing (r : ℕ) (live : List A) (lives : A → Bool) (ring : A → Links A) : Type 0 where
     pub positive : 1 ≤ r
-    pub ascending : IsAscending place live
+    pub ascending : HasAscendingPlaces place live
     pub living : (m : A) → lives m ≡ true → IsAmong m live
     pub lives_all : (m : A) → IsAmong m live → lives m ≡ true
     pub covered : (m : A) → IsAmong m live → IsCovered r live lives m (ring m).list
@@ -30,14 +30,14 @@ module _ {A : Type 0} (place : A → ℕ) where
   abbrev pub start : ℕ → A → ℕ → ℕ
   start bits n k = (place n + 2 ^ k) % 2 ^ bits
 
-  -- n's finger of that index is the first member at its start or behind it
+  -- n's finger of that index is the first member at its start or after it
   abbrev pub IsFinger : ℕ → List A → A → ℕ → List A → Type 0
   IsFinger bits live n k fingers = Some (get_or fingers k n) ≡ first (from_place place live (start bits n k))
 
   -- each list is the next 2r members, all others where there are fewer, and each finger is right; there are 2^bits places
   pub record IsSettledRing (r bits : ℕ) (live : List A) (lives : A → Bool) (ring : A → Links A) : Type 0 where
     pub positive : 1 ≤ r
-    pub ascending : IsAscending place live
+    pub ascending : HasAscendingPlaces place live
     pub within : (m : A) → IsAmong m live → place m < 2 ^ bits
     pub living : (m : A) → lives m ≡ true → IsAmong m live
     pub lives_all : (m : A) → IsAmong m live → lives m ≡ true

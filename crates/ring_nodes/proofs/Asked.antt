@@ -16,9 +16,9 @@ use Rattle.dht_ids.specs.declared.ask.Ask.TheVariants as ask
 use Rattle.dht_ids.specs.declared.ask.Heard.{Heard}
 use Rattle.dht_ids.specs.declared.peer.Peer.{Peer}
 use Rattle.dht_ids.specs.declared.post.Post.{Post}
-use Rattle.dhash_model.specs.Course.{Told, told_all, outcome}
+use Rattle.dhash_model.specs.Execution.{Told, told_all, outcome}
 use Rattle.dhash_model.specs.Puts.{is_of_put}
-use Rattle.dhash_client.specs.Course.{Asking, CourseState, IsStage, awaited_at, next_owner}
+use Rattle.dhash_client.specs.Execution.{Asking, ExecutionState, IsStage, awaited_at, next_owner}
 use Rattle.dhash_client.specs.Puts.{IsEnoughPut, put_awaited, question_of}
 use Rattle.session_laws.proofs.AskedLookups.{look_goes_on}
 use Rattle.dhash_repair.specs.Putting.{Putting, PuttingIsAfter, is_own_of, made_of, told_of}
@@ -81,7 +81,7 @@ module _ (made : List Peer) where
 
   -- ---- who is asked
 
-  module _ (entries : List Peer) (all_made : AreAllAmong made entries) (own : Ask) (c : CourseState) (looks asks : Told) (named : AllNamed made looks) where
+  module _ (entries : List Peer) (all_made : AreAllAmong made entries) (own : Ask) (c : ExecutionState) (looks asks : Told) (named : AllNamed made looks) where
     asks_made : (o : Option Asking) (node : Peer) (question : Ask) → IsStage is_of_put (IsEnoughPut c.look.key c.replicas) c.look.key entries looks asks c.look o → awaited_at own c o ≡ Some (node, question) → IsAmong node made
     asks_made None node question stage waits = by c.look.waiting refl waits
       where
@@ -111,11 +111,11 @@ module _ (made : List Peer) where
   put_made r trail s node question is_made named behind waits =
       let heard : AllByRecursion (λ h. NamesOnly made h.got) (told_of behind.asks) = heard_naming behind.asks (all_naming s.node behind.asks behind.own (subst AreNaming behind.made named)) in
       let after = behind.after in
-      let key : Key = s.put.course.look.key in
+      let key : Key = s.put.execution.look.key in
       let looked : AllNamed made after.looks =
       looks_naming key after.looks
       (all-left (λ h. NamesOnly made h.got) (told_all (ask.Route key) after.looks) (told_all (question_of s.put.what s.put.bytes key) after.asks) (subst (λ (l : List Heard). AllByRecursion (λ h. NamesOnly made h.got) l) after.told heard)) in
-      asks_made (s.node ∷ []) (is_made, tt) (question_of s.put.what s.put.bytes key) s.put.course after.looks after.asks looked s.put.course.asking node question after.stage waits
+      asks_made (s.node ∷ []) (is_made, tt) (question_of s.put.what s.put.bytes key) s.put.execution after.looks after.asks looked s.put.execution.asking node question after.stage waits
 
   -- who is asked next was made
   pub repair_made : (posts : List Post) (trail : List Asked) (s : RepairState) (node : Peer) (question : Ask) → IsAmong s.node made → AreNaming trail → RepairIsAfter posts trail s → repair_awaited s ≡ Some (node, question) → IsAmong node made

@@ -10,7 +10,7 @@ use Rattle.ring_model.proofs.Lists.{none_some, some_same}
 use Rattle.dht_ids.specs.Peers.{place}
 use Rattle.dht_ids.specs.declared.judge.Judged.{Judged}
 use Rattle.dht_ids.specs.declared.peer.Peer.{Peer}
-use Rattle.dhash_model.specs.Course.{outcome}
+use Rattle.dhash_model.specs.Execution.{outcome}
 use Rattle.dhash_model.specs.declared.miss.Miss.{Miss}
 use Rattle.dhash_model.specs.State.{with_links}
 use Rattle.world_model.specs.Nodes.{Node}

@@ -5,7 +5,7 @@ use Rattle.std.specs.List.{AllByRecursion}
 use Rattle.std.specs.Option.{option_map_or}
 use Rattle.ivy_base.specs.declared.key.Key.{Key}
 use Rattle.ivy_base.specs.declared.memory.Memory.{Memory}
-use Rattle.ring_model.specs.Arc.{is_inside}
+use Rattle.ring_model.specs.Arc.{is_strictly_between}
 use Rattle.ring_model.specs.Circle.{number}
 use Rattle.ring_model.specs.Members.{IsAmong}
 use Rattle.ring_model.specs.Route.{nearer_with, owners_part, with_nearer}
@@ -30,7 +30,7 @@ use Rattle.ring_nodes.specs.NodesState.{BringsOnly, NamesOnly}
 module _ (P : Peer → Type 0) where
   all_nearer : (key : ℕ) (x : Peer) (ys : List Peer) → P x → AllByRecursion P ys → AllByRecursion P (with_nearer place key x ys)
   all_nearer key x [] h a = (h, tt)
-  all_nearer key x (y ∷ ys) h a = by (nat_eq (place x) (place y)) (is_inside (place y) (place x) key) (all_nearer key x ys h a.1)
+  all_nearer key x (y ∷ ys) h a = by (nat_eq (place x) (place y)) (is_strictly_between (place y) (place x) key) (all_nearer key x ys h a.1)
     where
       by : (s t : Bool) → AllByRecursion P (with_nearer place key x ys) → AllByRecursion P (cond s (y ∷ ys) (cond t (x ∷ y ∷ ys) (y ∷ with_nearer place key x ys)))
       by true t rest = a
@@ -39,7 +39,7 @@ module _ (P : Peer → Type 0) where
 
   all_nearer_with : (n : Peer) (key : ℕ) (xs found : List Peer) → AllByRecursion P xs → AllByRecursion P found → AllByRecursion P (nearer_with place n key xs found)
   all_nearer_with n key [] found a f = f
-  all_nearer_with n key (x ∷ xs) found a f = all_nearer_with n key xs (cond (is_inside (place n) (place x) key) (with_nearer place key x found) found) a.1 (by (is_inside (place n) (place x) key))
+  all_nearer_with n key (x ∷ xs) found a f = all_nearer_with n key xs (cond (is_strictly_between (place n) (place x) key) (with_nearer place key x found) found) a.1 (by (is_strictly_between (place n) (place x) key))
     where
       by : (t : Bool) → AllByRecursion P (cond t (with_nearer place key x found) found)
       by true = all_nearer key x found a.0 f
@@ -47,8 +47,8 @@ module _ (P : Peer → Type 0) where
 
   all_owners : (r : ℕ) (n : Peer) (list : List Peer) (key : ℕ) → P n → AllByRecursion P list → AllByRecursion P (owners_part place r n list key)
   all_owners r n list key h a =
-      all-both P (filter (λ m. not (is_inside (place n) (place m) key)) list) (cond (nat_lt (length list) (2 * r)) (n ∷ []) [])
-      (filter_gives (λ m. not (is_inside (place n) (place m) key)) P list (all_weaker P (λ q. not (is_inside (place n) (place q) key) ≡ true → P q) list (λ q i t. i) a))
+      all-both P (filter (λ m. not (is_strictly_between (place n) (place m) key)) list) (cond (nat_lt (length list) (2 * r)) (n ∷ []) [])
+      (filter_gives (λ m. not (is_strictly_between (place n) (place m) key)) P list (all_weaker P (λ q. not (is_strictly_between (place n) (place q) key) ≡ true → P q) list (λ q i t. i) a))
       (by (nat_lt (length list) (2 * r)))
     where
       by : (t : Bool) → AllByRecursion P (cond t (n ∷ []) [])

@@ -16,7 +16,7 @@ use Rattle.dht_ids.specs.declared.ask.Ask.TheVariants as ask
 use Rattle.dht_ids.specs.declared.ask.Want.TheVariants as want
 use Rattle.dht_ids.specs.declared.judge.Judged.{Judged}
 use Rattle.dht_ids.specs.declared.peer.Peer.{Peer}
-use Rattle.dhash_model.specs.Course.{Told, outcome}
+use Rattle.dhash_model.specs.Execution.{Told, outcome}
 use Rattle.dhash_model.specs.declared.miss.Miss.{Miss}
 use Rattle.dhash_client.specs.Machine.{FollowsAfter, IsWanted, State, Trail, fresh}
 use Rattle.dhash_client.proofs.Driven.{follows_both, is_look_up}
@@ -49,7 +49,7 @@ module _ (made : List Peer) where
   route_named answer.Noted h = tt
   route_named answer.Silent h = tt
 
-  -- whoever is asked behind answers that name made peers alone was made
+  -- whoever is asked after answers that name made peers alone was made
   pub next_made : {asked : List Peer} {last : Option (List Peer)} {ps : List Peer} {trail : Trail} {found : Option (List Peer)} → IsLookup asked last ps trail found
       → (looks : Told) (node : Peer) (route : Option (Route Peer)) (more : Trail) → trail ≡ routes looks ++ (node, route) ∷ more → AreAllAmong made ps → AllNamed looks → IsAmong node made
   next_made over [] node route more e all named = absurd (nil_cons {X = Step} (node, route) more e)

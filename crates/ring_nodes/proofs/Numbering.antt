@@ -1,4 +1,4 @@
--- Lists in which each element is put before the first one that is to stand behind it.
+-- Lists in which each element is put before the first one that is to stand after it.
 use Rattle.std.proofs.Common.{◌≡◌, ℕ, suc, ◌+◌, ◌≤◌, Bool, true, false, cond, not, List, [], ◌∷◌, ◌++◌, length, fold, refl, sym, ap, ◌∙◌, subst, Option, Some, None, arith}
 use Rattle.std.specs.Prelude.{nat_lt, insert, unwrap_or}
 use Rattle.std.specs.List.{position, position_or_len}
@@ -48,7 +48,7 @@ is_numbered_below p q = nat_lt p.number q.number
 pub numbered_inserted : (qs : List Peer) (p : Peer) → with_numbered qs p ≡ insert qs (position_or_len (is_numbered_below p) qs) p
 numbered_inserted = inserted is_numbered_below with_numbered (λ p. refl) (λ q qs p. refl)
 
--- the list behind an insertion at the place that a walk found
+-- the list after an insertion at the place that a walk found
 pub put_by_number : (qs after : List Peer) (p : Peer) (found : Option ℕ) (k end : ℕ) → found ≡ position (is_numbered_below p) qs → end ≡ length qs → k ≡ unwrap_or found end → after ≡ insert qs k p → after ≡ with_numbered qs p
 put_by_number qs after p found k end is len at e =
     let place = at ∙ (λ i. unwrap_or (is i) (len i)) ∙ place_or_end (is_numbered_below p) qs in

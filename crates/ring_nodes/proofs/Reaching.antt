@@ -12,7 +12,7 @@ use Rattle.dht_ids.specs.declared.judge.Judged.{Judged}
 use Rattle.dht_ids.specs.declared.peer.Peer.{Peer}
 use Rattle.world_model.specs.Nodes.{Node, answered}
 use Rattle.world_model.specs.World.{World, node_at, peer_of, with_node}
-use Rattle.world_model.specs.Fates.{FateOf, IsLost, counted}
+use Rattle.world_model.specs.Fates.{FateOf, IsLost, ask_counted as counted}
 use Rattle.world_model.specs.Fates.FateOf.{lost as was_lost, stopped as was_stopped, answers as was_answered}
 use Rattle.round_laws.specs.RingOf.{AreApart}
 use Rattle.round_laws.proofs.Nodes.{at, replaced}
@@ -66,7 +66,7 @@ module _ (judged : Key → List ℕ → Option Judged) (to : Peer) (question : A
       let world : counted (with_nodes w reached) ≡ with_nodes w next = λ k. record w { nodes = sym nodes k; asked = (ap (λ n. n + 1) asked ∙ sym counts) k; lost = sym same k } in
       subst (FateOf judged w to question given) world (fate w is here)
 
-  -- the same by what a walk and a call give: the node that was found, and the state behind the call
+  -- the same by what a walk and a call give: the node that was found, and the state after the call
   pub silent_reach : (s next : NodesState) (i : ℕ) (old : Node) → position (has_id to.id) s.nodes ≡ Some i → old ≡ get_or s.nodes i old → old.is_live ≡ false
       → next.nodes ≡ set s.nodes i old → next.asked ≡ s.asked → next.lost ≡ s.lost
       → (w : World) → IsNodesOf w s → (IsLost w → ⊥) → FateOf judged w to question Silent (counted (with_nodes w next))

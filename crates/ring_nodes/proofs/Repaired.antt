@@ -3,7 +3,7 @@ use Rattle.std.proofs.Common.{◌≡◌, ℕ, zero, suc, Bool, true, false, not,
 use Rattle.std.specs.List.{AllByRecursion, list_any}
 use Rattle.ivy_base.specs.declared.key.Key.{Key}
 use Rattle.ring_model.specs.Circle.{number}
-use Rattle.ring_model.specs.Gets.{IsPut, nodes}
+use Rattle.ring_model.specs.Gets.{IsPutTrail, nodes}
 use Rattle.ring_model.specs.Lookup.{IsLookup}
 use Rattle.ring_model.specs.Members.{IsAmong}
 use Rattle.ring_model.proofs.Lists.{all-among, all-both, all-left, all-right, cons_head, cons_tail, nil_cons}
@@ -18,11 +18,11 @@ use Rattle.dht_ids.specs.declared.peer.Peer.{Peer}
 use Rattle.dht_ids.specs.declared.post.Ack.{Ack}
 use Rattle.dht_ids.specs.declared.post.Post.{Post}
 use Rattle.dhash_model.specs.declared.miss.Miss.TheVariants as miss
-use Rattle.dhash_model.specs.Course.{Told, outcome}
+use Rattle.dhash_model.specs.Execution.{Told, outcome}
 use Rattle.dhash_model.specs.Puts.{holds, is_of_put}
 use Rattle.dhash_model.specs.Stores.{Block, Blocks}
-use Rattle.dhash_model.specs.declared.kind.Kind.{Kind}
-use Rattle.dhash_model.specs.declared.kind.Kind.TheVariants.{Content, Head}
+use Rattle.dhash_model.specs.declared.kind.BlockKind.{BlockKind}
+use Rattle.dhash_model.specs.declared.kind.BlockKind.TheVariants.{Content, Head}
 use Rattle.dhash_repair.specs.Putting.{is_own}
 use Rattle.dhash_repair.specs.Repairing.{RepairGoesOn, RepairHasHeard, RepairIsAfter, RepairIsWanted, RepairState, IsSameRepair, repair_begun}
 use Rattle.dhash_repair.specs.Repairs.{Asked, IsPutFrom, IsRepair, is_node, may_go, of_others, put_question}
@@ -92,7 +92,7 @@ somebody key (Some (p ∷ ps)) owners e = record { first = p; rest = ps; are = c
 asks_block : (key : Key) (block : Block) → put_question (post_of (key, block)) ≡ question_as block.kind key block.bytes
 asks_block key block = by block.kind
   where
-    by : (k : Kind) → put_question (post_of (key, record { kind = k; bytes = block.bytes })) ≡ question_as k key block.bytes
+    by : (k : BlockKind) → put_question (post_of (key, record { kind = k; bytes = block.bytes })) ≡ question_as k key block.bytes
     by Content = refl
     by Head = refl
 
@@ -152,7 +152,7 @@ module _ (made : List Peer) (apart : AreApart made) (p : Peer) (is_made : IsAmon
         subst (λ (g : Bool). PutsAround judged p r key block w g next) (sym goes_is)
         (puts someone.first someone.rest asks split.0 next acknowledged (may_go p asks acknowledged)
         (record { looks = looks; fates = split.1; lookup = subst (λ (f : Option (List Peer)). IsLookup [] None (p ∷ []) (routes looks) f) someone.found_is looked })
-        (subst (λ (l : List Peer). IsPut is_of_put holds r l asks acknowledged) someone.are put)
+        (subst (λ (l : List Peer). IsPutTrail is_of_put holds r l asks acknowledged) someone.are put)
         (λ given i. all-among {X = Peer × Answer} (λ s. is_node p s.0 ≡ true → s.1 ≡ answer.Stored) (p, given) asks own i (id_itself p.id))
         (subst (λ (q : Ask). Fates judged split.0 (asks_of_others judged p q asks) next) (asks_block key block) split.2)
         (goes_so asks acknowledged all_asked))
@@ -182,7 +182,7 @@ module _ (made : List Peer) (apart : AreApart made) (p : Peer) (is_made : IsAmon
 -- ---- the asks so far
 
 module _ (judged : Key → List ℕ → Option Judged) (start : NodesState) (p : Peer) (r : ℕ) (held : List Post) where
-  -- from the nodes at the start these asks were made, and the repair may be in its state behind them
+  -- from the nodes at the start these asks were made, and the repair may be in its state after them
   pub record IsRepairing (now : NodesState) (state : RepairState) : Type 0 where
     pub asks : List Asked
     pub fates : (w : World) → IsNodesOf w start → Fates judged w asks (with_nodes w now)

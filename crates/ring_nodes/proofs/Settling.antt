@@ -3,7 +3,7 @@ use Rattle.std.proofs.Common.{◌≡◌, ℕ, zero, suc, ◌+◌, Bool, true, fa
 use Rattle.std.specs.List.Sorted.{IsPermutation}
 use Rattle.std.proofs.Math.Seq.{take-suc}
 use Rattle.std.proofs.lemmas.List.Sorted.{IsPermutation-sym}
-use Rattle.ring_model.specs.Members.{IsAmong, IsAscending}
+use Rattle.ring_model.specs.Members.{IsAmong, HasAscendingPlaces}
 use Rattle.ring_model.proofs.Lists.{among-cases}
 use Rattle.dht_ids.specs.NodeIds.{node_id_of}
 use Rattle.dht_ids.specs.declared.peer.Peer.{Peer}
@@ -32,8 +32,8 @@ made_living : (ps : List Peer) → made_by (map living ps) ≡ ps
 made_living [] = refl
 made_living (p ∷ ps) = ap (λ (l : List Peer). p ∷ l) (made_living ps)
 
-pub order_rises : (ps : List Peer) → AreApart ps → IsAscending place (in_ring_order ps)
-order_rises ps apart = subst (λ l. IsAscending place (in_ring_order l)) (all_living ps) (order_ascends (map living ps) (subst AreApart (sym (made_living ps)) apart))
+pub order_rises : (ps : List Peer) → AreApart ps → HasAscendingPlaces place (in_ring_order ps)
+order_rises ps apart = subst (λ l. HasAscendingPlaces place (in_ring_order l)) (all_living ps) (order_ascends (map living ps) (subst AreApart (sym (made_living ps)) apart))
 
 pub order_is_moved : (ps : List Peer) → IsPermutation (in_ring_order ps) ps
 order_is_moved ps = IsPermutation-sym ps (in_ring_order ps) (order_moves ps)

@@ -21,22 +21,22 @@ use Rattle.ring_nodes.specs.Spoiling.{IsSpoiled, damaged_world}
 use Rattle.ring_nodes.proofs.Places.{found_at, found_within, has_id, none_found, set_replaces}
 
 -- where nothing is held there is no byte
-pub none_spoilt : (key : Key) (offset byte : ℕ) (blocks : Blocks) → bytes_at key blocks ≡ None → with_byte key offset byte blocks ≡ None
-none_spoilt key offset byte blocks none = by (value_at key_cmp key blocks) none
+pub none_corrupted : (key : Key) (offset byte : ℕ) (blocks : Blocks) → bytes_at key blocks ≡ None → with_byte key offset byte blocks ≡ None
+none_corrupted key offset byte blocks none = by (value_at key_cmp key blocks) none
   where
     by : (o : Option Block) → option_map (λ (b : Block). b.bytes) o ≡ None → option_and_then (λ (b : Block). cond (nat_lt offset (length b.bytes)) (Some (put key_cmp key (spoiled offset byte b) blocks)) None) o ≡ None
     by None e = refl
     by (Some b) e = absurd (none_some b.bytes (sym e))
 
 -- what is held then under the key, and that the byte was one of the block
-pub record Spoilt (key : Key) (offset byte : ℕ) (new : Blocks) (bytes : List ℕ) : Type 0 where
+pub record Corrupted (key : Key) (offset byte : ℕ) (new : Blocks) (bytes : List ℕ) : Type 0 where
   pub within : offset < length bytes
   pub held : bytes_at key new ≡ Some (set bytes offset byte)
 
-pub one_spoilt : (key : Key) (offset byte : ℕ) (old new : Blocks) (bytes : List ℕ) → bytes_at key old ≡ Some bytes → with_byte key offset byte old ≡ Some new → Spoilt key offset byte new bytes
-one_spoilt key offset byte old new bytes held done = by (value_at key_cmp key old) held done
+pub one_corrupted : (key : Key) (offset byte : ℕ) (old new : Blocks) (bytes : List ℕ) → bytes_at key old ≡ Some bytes → with_byte key offset byte old ≡ Some new → Corrupted key offset byte new bytes
+one_corrupted key offset byte old new bytes held done = by (value_at key_cmp key old) held done
   where
-    inner : (b : Block) → b.bytes ≡ bytes → (t : Bool) → nat_lt offset (length b.bytes) ≡ t → cond t (Some (put key_cmp key (spoiled offset byte b) old)) None ≡ Some new → Spoilt key offset byte new bytes
+    inner : (b : Block) → b.bytes ≡ bytes → (t : Bool) → nat_lt offset (length b.bytes) ≡ t → cond t (Some (put key_cmp key (spoiled offset byte b) old)) None ≡ Some new → Corrupted key offset byte new bytes
     inner b is true t e =
         record {
           within = subst (λ l. offset < length l) is (ltb-true offset (length b.bytes) t);
@@ -44,14 +44,14 @@ one_spoilt key offset byte old new bytes held done = by (value_at key_cmp key ol
         }
     inner b is false t e = absurd (none_some new e)
 
-    by : (o : Option Block) → option_map (λ (b : Block). b.bytes) o ≡ Some bytes → option_and_then (λ (b : Block). cond (nat_lt offset (length b.bytes)) (Some (put key_cmp key (spoiled offset byte b) old)) None) o ≡ Some new → Spoilt key offset byte new bytes
+    by : (o : Option Block) → option_map (λ (b : Block). b.bytes) o ≡ Some bytes → option_and_then (λ (b : Block). cond (nat_lt offset (length b.bytes)) (Some (put key_cmp key (spoiled offset byte b) old)) None) o ≡ Some new → Corrupted key offset byte new bytes
     by None h e = absurd (none_some bytes h)
     by (Some b) h e = inner b (some_same b.bytes bytes h) (nat_lt offset (length b.bytes)) refl e
 
 -- the node that was spoiled is the same peer
-pub spoilt_peer : (key : Key) (offset byte : ℕ) (old new : Node) (result : Option (List ℕ)) → IsSpoiled key offset byte old new result → peer_of new ≡ peer_of old
-spoilt_peer key offset byte old new None is = ap peer_of is.1
-spoilt_peer key offset byte old new (Some bytes) is = ap peer_of is.1
+pub corrupted_peer : (key : Key) (offset byte : ℕ) (old new : Node) (result : Option (List ℕ)) → IsSpoiled key offset byte old new result → peer_of new ≡ peer_of old
+corrupted_peer key offset byte old new None is = ap peer_of is.1
+corrupted_peer key offset byte old new (Some bytes) is = ap peer_of is.1
 
 module _ (s : NodesState) (id key : Key) (offset byte : ℕ) where
   pub nobody_damaged : (w : World) → position (has_id id) s.nodes ≡ None → damage_by w (node_of s id) (Some key) offset byte ≡ Refuses
@@ -76,6 +76,6 @@ module _ (s : NodesState) (id key : Key) (offset byte : ℕ) where
   pub damages_by : (next : NodesState) (i : ℕ) (old new : Node) (result : Result (Option (List ℕ)) Memory) → AreApart (map peer_of s.nodes) → position (has_id id) s.nodes ≡ Some i → old ≡ get_or s.nodes i old
       → IfOk result (IsSpoiled key offset byte old new) → next.nodes ≡ set s.nodes i new → next.asked ≡ s.asked → next.lost ≡ s.lost
       → IfOk result (λ bytes. (w : World) → IsNodesOf w s → damage_by w (node_of s id) (Some key) offset byte ≡ damaged_world (with_nodes w next) bytes)
-  damages_by next i old new (Err e) apart found is spoilt nodes asked lost = tt
-  damages_by next i old new (Ok bytes) apart found is spoilt nodes asked lost =
-      one_damaged next i new old bytes apart found (subst (λ (n : Node). IsSpoiled key offset byte n new bytes) is spoilt) nodes asked lost
+  damages_by next i old new (Err e) apart found is corrupted nodes asked lost = tt
+  damages_by next i old new (Ok bytes) apart found is corrupted nodes asked lost =
+      one_damaged next i new old bytes apart found (subst (λ (n : Node). IsSpoiled key offset byte n new bytes) is corrupted) nodes asked lost

@@ -20,10 +20,10 @@ use Rattle.dht_ids.specs.declared.ask.Heard.{Heard}
 use Rattle.dht_ids.specs.declared.ask.Want.TheVariants as want
 use Rattle.dht_ids.specs.declared.judge.Judged.{Judged}
 use Rattle.dht_ids.specs.declared.peer.Peer.{Peer}
-use Rattle.dhash_model.specs.Course.{IsCourse, Told, told_all, outcome}
+use Rattle.dhash_model.specs.Execution.{IsExecution, Told, told_all, outcome}
 use Rattle.dhash_model.specs.Puts.{EndsPut, is_of_put}
 use Rattle.dhash_model.specs.declared.miss.Miss.{Miss}
-use Rattle.dhash_client.specs.Course.{Asking, CourseState, IsStage, awaited_at, next_owner}
+use Rattle.dhash_client.specs.Execution.{Asking, ExecutionState, IsStage, awaited_at, next_owner}
 use Rattle.dhash_client.specs.Puts.{IsEnoughPut, IsSamePut, PutIsAfter, PutIsWanted, PutState, put_awaited, put_begun, question_of}
 use Rattle.dhash_client.specs.declared.put.PutKind.TheVariants as what
 use Rattle.dhash_client.proofs.DrivenGets.{put_begins}
@@ -64,7 +64,7 @@ all_itself (p ∷ ps) = (inl refl, wider ps (all_itself ps))
 pub entries_made : (s : NodesState) → AreAllAmong (made_peers s) (entries_of s)
 entries_made s = all_entries (λ q. IsAmong q (made_peers s)) [] (made_peers s) tt (all_itself (made_peers s))
 
--- ---- asks of one course
+-- ---- asks of one execution
 
 abbrev pub Asks : Type 0
 Asks = List (Peer × (Ask × Answer))
@@ -145,7 +145,7 @@ first_all P (q ∷ qs) p e all = subst P (some_same q p e) all.0
 -- ---- the asks so far
 
 module _ (judged : Key → List ℕ → Option Judged) (start : NodesState) (key : Key) (bytes : List ℕ) (r : ℕ) where
-  -- from the nodes at the start these asks were made, and the put may be in its state behind what was heard of them
+  -- from the nodes at the start these asks were made, and the put may be in its state after what was heard of them
   pub record IsPutting (now : NodesState) (put : PutState) : Type 0 where
     pub asks : Asks
     pub fates : (w : World) → IsNodesOf w start → Fates judged w asks (with_nodes w now)
@@ -196,7 +196,7 @@ module _ (judged : Key → List ℕ → Option Judged) (start : NodesState) (key
   all_looks (s ∷ looks) owners all = (all.0, all_looks looks owners all.1)
 
   -- who is asked next was made, and is asked for the route or as an owner
-  is_right : (c : CourseState) (looks asks : Told) (o : Option Asking) (node : Peer) (q : Ask) → c.look.key ≡ key → AllNamed (made_peers start) looks
+  is_right : (c : ExecutionState) (looks asks : Told) (o : Option Asking) (node : Peer) (q : Ask) → c.look.key ≡ key → AllNamed (made_peers start) looks
       → IsStage is_of_put (IsEnoughPut key c.replicas) key (entries_of start) looks asks c.look o → awaited_at (ask.PutBlock key bytes) c o ≡ Some (node, q) → IsRight node q
   is_right c looks asks None node q same named stage waits = by c.look.waiting refl waits
     where
@@ -235,12 +235,12 @@ module _ (judged : Key → List ℕ → Option Judged) (start : NodesState) (key
 
   right_at : (now : NodesState) (put : PutState) (node : Peer) (q : Ask) → IsPutting now put → put_awaited put ≡ Some (node, q) → IsRight node q
   right_at now put node q l waits =
-      is_right put.course l.after.looks l.after.asks put.course.asking node q l.same.0.0
+      is_right put.execution l.after.looks l.after.asks put.execution.asking node q l.same.0.0
       (all_looks l.after.looks l.after.asks (subst (λ s. AllByRecursion (λ x. NamesOnly (made_peers start) x.1.1) s) (same_asks now put l) l.named))
-      (subst (λ k. IsStage is_of_put (IsEnoughPut k put.course.replicas) k (entries_of start) l.after.looks l.after.asks put.course.look put.course.asking) l.same.0.0 l.after.stage)
-      (subst (λ b. awaited_at (ask.PutBlock key b) put.course put.course.asking ≡ Some (node, q)) l.same.2
-      (subst (λ k. awaited_at (question_of k put.bytes key) put.course put.course.asking ≡ Some (node, q)) l.same.1
-      (subst (λ k. awaited_at (question_of put.what put.bytes k) put.course put.course.asking ≡ Some (node, q)) l.same.0.0 waits)))
+      (subst (λ k. IsStage is_of_put (IsEnoughPut k put.execution.replicas) k (entries_of start) l.after.looks l.after.asks put.execution.look put.execution.asking) l.same.0.0 l.after.stage)
+      (subst (λ b. awaited_at (ask.PutBlock key b) put.execution put.execution.asking ≡ Some (node, q)) l.same.2
+      (subst (λ k. awaited_at (question_of k put.bytes key) put.execution put.execution.asking ≡ Some (node, q)) l.same.1
+      (subst (λ k. awaited_at (question_of put.what put.bytes k) put.execution put.execution.asking ≡ Some (node, q)) l.same.0.0 waits)))
 
   pub put_made : (now : NodesState) (put : PutState) (node : Peer) (q : Ask) → IsPutting now put → put_awaited put ≡ Some (node, q) → IsAmong node (made_peers now)
   put_made now put node q l waits = subst (IsAmong node) (sym l.made) (right_at now put node q l waits).made
@@ -266,12 +266,12 @@ module _ (judged : Key → List ℕ → Option Judged) (start : NodesState) (key
       asks = l.after.asks;
       came = came;
       fates = subst (λ s. Fates judged w s (with_nodes w now)) (same_asks now old l) (l.fates w is);
-      whole = subst (λ ps. IsCourse key (ask.PutBlock key bytes) ps (EndsPut r) trail came) (ap (λ ns. fold with_numbered [] (map peer_of ns)) (sym is.0))
-          (subst (λ t. IsCourse key (ask.PutBlock key bytes) (entries_of start) (EndsPut r) t came) (same_told now old l)
-          (subst (λ n. IsCourse key (ask.PutBlock key bytes) (entries_of start) (EndsPut n) (told_of l.asks) came) l.same.0.1
-          (subst (λ k. IsCourse k (ask.PutBlock k bytes) (entries_of start) (EndsPut old.course.replicas) (told_of l.asks) came) l.same.0.0
-          (subst (λ b. IsCourse old.course.look.key (ask.PutBlock old.course.look.key b) (entries_of start) (EndsPut old.course.replicas) (told_of l.asks) came) l.same.2
-          (subst (λ k. IsCourse old.course.look.key (question_of k old.bytes old.course.look.key) (entries_of start) (EndsPut old.course.replicas) (told_of l.asks) came) l.same.1
+      whole = subst (λ ps. IsExecution key (ask.PutBlock key bytes) ps (EndsPut r) trail came) (ap (λ ns. fold with_numbered [] (map peer_of ns)) (sym is.0))
+          (subst (λ t. IsExecution key (ask.PutBlock key bytes) (entries_of start) (EndsPut r) t came) (same_told now old l)
+          (subst (λ n. IsExecution key (ask.PutBlock key bytes) (entries_of start) (EndsPut n) (told_of l.asks) came) l.same.0.1
+          (subst (λ k. IsExecution k (ask.PutBlock k bytes) (entries_of start) (EndsPut old.execution.replicas) (told_of l.asks) came) l.same.0.0
+          (subst (λ b. IsExecution old.execution.look.key (ask.PutBlock old.execution.look.key b) (entries_of start) (EndsPut old.execution.replicas) (told_of l.asks) came) l.same.2
+          (subst (λ k. IsExecution old.execution.look.key (question_of k old.bytes old.execution.look.key) (entries_of start) (EndsPut old.execution.replicas) (told_of l.asks) came) l.same.1
           (wanted (entries_of start) (told_of l.asks) l.after))))));
     },
     refl,

@@ -4,7 +4,7 @@ use Rattle.ivy_base.specs.declared.key.Key.{Key}
 use Rattle.dht_ids.specs.NodeIds.{node_id_of}
 use Rattle.dht_ids.specs.declared.judge.Judged.{Judged}
 use Rattle.dht_ids.specs.declared.peer.Peer.{Peer}
-use Rattle.dhash_model.specs.Course.{outcome}
+use Rattle.dhash_model.specs.Execution.{outcome}
 use Rattle.dhash_model.specs.declared.miss.Miss.{Miss}
 use Rattle.round_laws.specs.RingOf.{KnowsOnly}
 use Rattle.script_driver.specs.Run.{Outcome, Goes, Refuses, Exceeds}
@@ -43,7 +43,7 @@ JoinsThrough judged w r p through join.Failed next =
     (found : Option (List Peer)) × LooksUp judged w p.id (through ∷ []) found next × FindsNobody found
 JoinsThrough judged w r p through _ next = ⊥
 
--- what the line of a join comes to, and the world behind it
+-- what the line of a join comes to, and the world after it
 abbrev pub join_outcome : ℕ → Join → World → Outcome World
 join_outcome number join.Joined next = Goes next []
 join_outcome number join.Refused next = Refuses

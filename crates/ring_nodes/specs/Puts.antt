@@ -9,7 +9,7 @@ use Rattle.dht_ids.specs.declared.ask.Answer.TheVariants as answer
 use Rattle.node_store.specs.declared.fault.PutFault.{PutFault}
 use Rattle.node_store.specs.declared.fault.PutFault.TheVariants as fault
 
--- the answer that tells what became of a put: for want of memory there is none
+-- the answer that tells what became of a put: when out of memory there is none
 abbrev pub Told : Result Unit PutFault → Result Answer Memory → Type 0
 Told (Ok done) result = IsOkAnd result (λ given. given ≡ answer.Stored)
 Told (Err (fault.Refused why)) result = IsOkAnd result (λ given. given ≡ answer.Refused why)

@@ -19,7 +19,7 @@ use dht_ids::{Judge, Peer, Peers, finger_start};
 use ivy_base::{Key, Memory};
 use std::alloc::Global;
 
-/// Each of these peers' nodes, one after the other, fixes its fingers by look-ups from itself. The error is want of memory,
+/// Each of these peers' nodes, one after the other, fixes its fingers by look-ups from itself. The error is: out of memory,
 /// or 2^64 asks.
 pub fn fix_fingers<J: Judge>(
     nodes: &mut RingNodes,

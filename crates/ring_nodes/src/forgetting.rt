@@ -12,7 +12,7 @@ use dht_ids::{Ask, Judge, Peer};
 use ivy_base::Memory;
 use std::alloc::Global;
 
-/// Each of these peers' nodes, one after the other, forgets a predecessor that is silent. The error is want of memory, or
+/// Each of these peers' nodes, one after the other, forgets a predecessor that is silent. The error is: out of memory, or
 /// 2^64 asks.
 pub fn forget_silent<J: Judge>(
     nodes: &mut RingNodes,

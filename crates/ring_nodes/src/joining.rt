@@ -37,7 +37,7 @@ impl RingNodes {
 
     /// Makes the node of that number, which joins through the live node of the least number: it takes the owners of its
     /// identifier for its list, by a look-up; where no node lives it is alone. r, 1 to 8, is how many nodes own a key. The
-    /// error is want of memory, or 2^64 asks; asks may have been made then, but no node.
+    /// error is: out of memory, or 2^64 asks; asks may have been made then, but no node.
     pub fn join<J: Judge>(
         &mut self,
         alloc: Global,
@@ -92,7 +92,7 @@ impl RingNodes {
         Ok(Join::Joined)
     }
 
-    /// Makes the node of a new peer, which takes its list from these owners. The error is want of memory, and nothing is
+    /// Makes the node of a new peer, which takes its list from these owners. The error is: out of memory, and nothing is
     /// changed then.
     fn take_in(
         &mut self,
@@ -112,7 +112,7 @@ impl RingNodes {
 }
 
 impl RingNode {
-    /// The live node of a peer that knows of nobody and holds nothing. r is 1 to 8. The error is want of memory.
+    /// The live node of a peer that knows of nobody and holds nothing. r is 1 to 8. The error is: out of memory.
     pub fn alone(alloc: Global, peer: Peer, replicas: u32) -> Result<RingNode, Memory>
         requires { (1 ≤ replicas) × (replicas ≤ 8) }
         ensures { IfOk result (λ node. node ≡ empty_node (alone_node peer replicas)) }
@@ -121,7 +121,7 @@ impl RingNode {
         Ok(RingNode::empty(alloc, peer, ring))
     }
 
-    /// The live node of a peer that takes its list from these owners and holds nothing. r is 1 to 8. The error is want of
+    /// The live node of a peer that takes its list from these owners and holds nothing. r is 1 to 8. The error is: out of
     /// memory.
     pub fn joined(
         alloc: Global,

@@ -18,7 +18,7 @@ impl RingNodes {
     ghost use Rattle.ring_nodes.specs.NodesState.{AreAllAmong, BringsOnly, IsNodesOf, made_peers, with_nodes};
 
     /// Looks a key up through one node that was made, ask by ask. The result is the owners that the last answer named, all
-    /// of which were made, or that no answer named any. The error is want of memory, or 2^64 asks; asks may have been made
+    /// of which were made, or that no answer named any. The error is: out of memory, or 2^64 asks; asks may have been made
     /// then.
     pub fn look_up<J: Judge>(
         &mut self,
@@ -43,7 +43,7 @@ impl RingNodes {
         }
     }
 
-    /// One ask of a look-up, which hears its answer. The error is want of memory, or 2^64 asks.
+    /// One ask of a look-up, which hears its answer. The error is: out of memory, or 2^64 asks.
     fn step<J: Judge>(
         &mut self,
         alloc: Global,
@@ -65,7 +65,7 @@ impl RingNodes {
     }
 }
 
-/// The node alone, as what a look-up begins with. The error is want of memory.
+/// The node alone, as what a look-up begins with. The error is: out of memory.
 fn alone(alloc: Global, node: &Peer) -> Result<Peers, Memory>
     ensures { IfOk result (λ peers. peers ≡ node.now ∷ []) }
 {

@@ -90,7 +90,7 @@ impl RingNode {
         std::mem::replace(&mut self.is_live, false)
     }
 
-    /// What the live node answers. The error is want of memory, and the node is as before then.
+    /// What the live node answers. The error is: out of memory, and the node is as before then.
     pub fn answer<J: Judge>(
         &mut self,
         alloc: Global,
@@ -136,7 +136,7 @@ impl RingNode {
     }
 
     /// Changes a byte of a block, and gives the block as it is then; None where no such byte is held, and nothing is changed
-    /// then. The error is want of memory, and nothing is changed then either.
+    /// then. The error is: out of memory, and nothing is changed then either.
     pub(crate) fn spoil(
         &mut self,
         alloc: Global,
@@ -159,7 +159,7 @@ impl RingNode {
         Ok(Some(Bytes::of(bytes)))
     }
 
-    /// Copies of the blocks that the node holds, their keys ascending; None where it is stopped. The error is want of memory.
+    /// Copies of the blocks that the node holds, their keys ascending; None where it is stopped. The error is: out of memory.
     pub(crate) fn held(&self, alloc: Global) -> Result<Option<Posts>, Memory>
         ensures { IfOk result (λ posts. posts ≡ held_by (Some self.now)) }
     {
@@ -190,7 +190,7 @@ impl RingNode {
         self.ring.forget();
     }
 
-    /// Renews the list by what its first entry answered to Near. The error is want of memory, and the node is as before
+    /// Renews the list by what its first entry answered to Near. The error is: out of memory, and the node is as before
     /// then.
     pub fn renew(&mut self, alloc: Global, heard: &Answer) -> Result<(), Memory>
         requires { IsOfNear heard.now }
@@ -208,7 +208,7 @@ impl RingNode {
         self.ring.fix_finger(index + 1, owner);
     }
 
-    /// Copies of the blocks that the node holds, whether or not it lives, their keys ascending. The error is want of memory.
+    /// Copies of the blocks that the node holds, whether or not it lives, their keys ascending. The error is: out of memory.
     pub fn posts(&self, alloc: Global) -> Result<Posts, Memory>
         ensures { IfOk result (λ posts. posts ≡ map post_of self.now.blocks) }
     {
@@ -232,7 +232,7 @@ impl RingNode {
         }
     }
 
-    /// What the node answers to a get. The error is want of memory.
+    /// What the node answers to a get. The error is: out of memory.
     fn found(&self, alloc: Global, key: &Key) -> Result<Answer, Memory>
         ensures { IfOk result (λ given. given ≡ option_map_or (λ bytes. answer.Found bytes) (bytes_at key.now self.now.blocks) answer.Nothing) }
     {
@@ -252,7 +252,7 @@ fn drop_all(store: &mut Store, keys: &[Key])
     }
 }
 
-/// The answer that tells what became of a put. The error is want of memory.
+/// The answer that tells what became of a put. The error is: out of memory.
 fn told(put: Result<(), PutFault>) -> Result<Answer, Memory>
     ensures { Told put result }
 {

@@ -52,7 +52,7 @@ impl RingNodes {
     ghost use Rattle.world_model.specs.Ring.{AreSettled, first_peers, in_ring_order, least, stop_line};
     ghost use Rattle.world_model.specs.Faults.{damage_by, owner_of_key};
     ghost use Rattle.ring_nodes.specs.Spoiling.{damaged_world};
-    ghost use Rattle.world_model.specs.Fates.{FateOf, IsLost, counted};
+    ghost use Rattle.world_model.specs.Fates.{FateOf, IsLost, ask_counted};
     ghost use Rattle.chord_core.specs.State.{IsOfNear};
     ghost use Rattle.ring_model.specs.Members.{first};
     ghost use Rattle.ring_nodes.specs.Joining.{IsNewNode, with_node_more};
@@ -72,7 +72,7 @@ impl RingNodes {
     }
 
     /// Makes the settled ring of the first `count` numbers, 1 to 256, in place of all nodes; a number whose identifier stands
-    /// already is left out. r is 1 to 8. What was asked and what is lost stay. The error is want of memory; nothing is
+    /// already is left out. r is 1 to 8. What was asked and what is lost stay. The error is: out of memory; nothing is
     /// changed then.
     pub fn settle(&mut self, alloc: Global, count: u32, replicas: u32) -> Result<(), Memory>
         requires count { (1 ≤ count) × (count ≤ 256) }
@@ -89,7 +89,7 @@ impl RingNodes {
 
     /// What becomes of one ask of a node that was made: silence where the ask is lost or the node is stopped, and else what
     /// the node answers by what it keeps, which names nodes alone that were made. A notice is of one of these too. The error
-    /// is want of memory, or 2^64 asks; all is as before then, the count of asks too.
+    /// is: out of memory, or 2^64 asks; all is as before then, the count of asks too.
     pub fn ask<J: Judge>(
         &mut self,
         alloc: Global,
@@ -127,7 +127,7 @@ impl RingNodes {
         requires made { IsAmong to.now (made_peers self.old) }
         requires brings { BringsOnly (made_peers self.old) question.now }
         ensures named { IfOk result (NamesOnly (made_peers self.old)) }
-        ensures fate { IfOk result (λ answer. (w : World) → IsNodesOf w self.old → (IsLost w → ⊥) → FateOf (J.judges judge.now) w to.now question.now answer (counted (with_nodes w self.new))) }
+        ensures fate { IfOk result (λ answer. (w : World) → IsNodesOf w self.old → (IsLost w → ⊥) → FateOf (J.judges judge.now) w to.now question.now answer (ask_counted (with_nodes w self.new))) }
         ensures unchanged { OnErr result (self.new ≡ self.old) }
         ensures made { made_peers self.new ≡ made_peers self.old }
         ensures asked { self.new.asked ≡ self.old.asked }
@@ -177,7 +177,7 @@ impl RingNodes {
         found
     }
 
-    /// Makes one node more. The error is want of memory, and nothing is changed then.
+    /// Makes one node more. The error is: out of memory, and nothing is changed then.
     pub(crate) fn add(&mut self, node: RingNode) -> Result<(), Memory>
         requires { IsNewNode self.old node }
         ensures added { OnOk result (self.new ≡ with_node_more self.old node) }
@@ -196,7 +196,7 @@ impl RingNodes {
             .position(|node| is_id(&node.peer().id, id))
     }
 
-    /// All peers that were made, by number: those that a session knows. The error is want of memory.
+    /// All peers that were made, by number: those that a session knows. The error is: out of memory.
     pub fn entries(&self, alloc: Global) -> Result<Peers, Memory>
         ensures { IfOk result (λ peers. (w : World) → IsNodesOf w self.now → peers ≡ entries w) }
     {
@@ -207,7 +207,7 @@ impl RingNodes {
         Ok(Peers::of(peers))
     }
 
-    /// From now on the ask of that number is lost, the next one being 1. The error is want of memory, or an ask past 2^64;
+    /// From now on the ask of that number is lost, the next one being 1. The error is: out of memory, or an ask past 2^64;
     /// nothing is changed then.
     pub fn lose(&mut self, count: u64) -> Result<(), Memory>
         ensures lost { OnOk result (self.new ≡ record self.old { lost = (self.old.asked + count) ∷ self.old.lost }) }
@@ -233,7 +233,7 @@ impl RingNodes {
     }
 
     /// Changes the byte at an offset of the block that the node of the identifier holds under the key, and gives the block as
-    /// it is then; None where there is no such node or byte, and nothing is changed then. The error is want of memory, and
+    /// it is then; None where there is no such node or byte, and nothing is changed then. The error is: out of memory, and
     /// nothing is changed then either.
     pub fn damage(
         &mut self,
@@ -263,7 +263,7 @@ impl RingNodes {
     }
 
     /// The key's owner of that number, from 1, among the live nodes, where r nodes own a key; None where there is none. The
-    /// error is want of memory.
+    /// error is: out of memory.
     pub fn owner_of(
         &self,
         alloc: Global,
@@ -281,7 +281,7 @@ impl RingNodes {
         Ok(owners.get((count - 1) as usize).copied())
     }
 
-    /// The live peers in the order of their places. The error is want of memory.
+    /// The live peers in the order of their places. The error is: out of memory.
     pub fn live_in_order(&self, alloc: Global) -> Result<Vec<Peer>, Memory>
         ensures { IfOk result (λ peers. peers.items ≡ in_ring_order (map peer_of (filter (λ n. n.is_live) self.now.nodes))) }
     {
@@ -323,7 +323,7 @@ impl RingNodes {
     }
 
     /// The node of a peer renews its list by what the first entry answered to Near, which names nodes alone that were made.
-    /// The error is want of memory, and nothing is changed then.
+    /// The error is: out of memory, and nothing is changed then.
     pub fn renew(&mut self, alloc: Global, peer: &Peer, heard: &Answer) -> Result<(), Memory>
         requires peer { IsAmong peer.now (made_peers self.old) }
         requires near { IsOfNear heard.now }
@@ -348,7 +348,7 @@ impl RingNodes {
         self.nodes[place].fix_finger(index, *owner);
     }
 
-    /// Copies of the blocks that the node of a peer holds, their keys ascending. The error is want of memory.
+    /// Copies of the blocks that the node of a peer holds, their keys ascending. The error is: out of memory.
     pub fn posts(&self, alloc: Global, peer: &Peer) -> Result<Posts, Memory>
         requires { IsAmong peer.now (made_peers self.now) }
         ensures { IfOk result (λ posts. HasNode (λ n. posts ≡ map post_of n.blocks) self.now peer.now.id) }
@@ -379,7 +379,7 @@ impl RingNodes {
     }
 
     /// Copies of the blocks that the node of the identifier holds, their keys ascending; None where there is no such node,
-    /// or it is stopped. The error is want of memory.
+    /// or it is stopped. The error is: out of memory.
     pub fn held(&self, alloc: Global, id: &Key) -> Result<Option<Posts>, Memory>
         ensures { IfOk result (λ posts. posts ≡ held_by (node_of self.now id.now)) }
     {
@@ -404,7 +404,7 @@ fn node_numbered(nodes: &[RingNode], number: u32) -> Option<&RingNode>
     nodes.iter().find(|node| node.peer().number == number)
 }
 
-/// Puts a peer where it belongs by its number, behind those of its number. The error is want of memory.
+/// Puts a peer where it belongs by its number, after those of its number. The error is: out of memory.
 pub fn put_numbered(peers: &mut Vec<Peer>, peer: Peer) -> Result<(), Memory>
     ensures { OnOk result (peers.new.items ≡ with_numbered peers.old.items peer) }
 {

@@ -28,14 +28,14 @@ pub(crate) fn put_in_order(peers: &mut Vec<Peer>, peer: Peer) -> Result<(), Memo
     Ok(())
 }
 
-/// Where the first peer behind the key is.
+/// Where the first peer after the key is.
 fn first_behind(peers: &[Peer], key: &Key) -> Option<usize>
     ensures { result ≡ position (λ q. nat_lt (number key.now) (place q)) peers.now }
 {
     peers.iter().position(|peer| is_before(key, &peer.id))
 }
 
-/// The peers in the order of their places. The error is want of memory.
+/// The peers in the order of their places. The error is: out of memory.
 pub fn in_order(alloc: Global, peers: &[Peer]) -> Result<Vec<Peer>, Memory>
     ensures { IfOk result (λ ordered. ordered.items ≡ in_ring_order peers.now) }
 {
@@ -46,7 +46,7 @@ pub fn in_order(alloc: Global, peers: &[Peer]) -> Result<Vec<Peer>, Memory>
     Ok(ordered)
 }
 
-/// Of peers in the order of their places those at the key or behind it, and then those before it. The error is want of
+/// Of peers in the order of their places those at the key or after it, and then those before it. The error is: out of
 /// memory.
 pub fn from_key(alloc: Global, live: &[Peer], key: &Key) -> Result<Vec<Peer>, Memory>
     ensures { IfOk result (λ peers. peers.items ≡ from_place place live.now (number key.now)) }

@@ -17,7 +17,7 @@ use ivy_base::{Key, Memory};
 use std::alloc::Global;
 
 /// Each of these peers' nodes, one after the other, puts its blocks at their owners, and drops those that were acknowledged
-/// where it isn't one of the owners that were asked. r nodes own a key. The error is want of memory, or 2^64 asks.
+/// where it isn't one of the owners that were asked. r nodes own a key. The error is: out of memory, or 2^64 asks.
 pub fn move_blocks<J: Judge>(
     nodes: &mut RingNodes,
     alloc: Global,
@@ -100,7 +100,7 @@ fn step<J: Judge>(
     Ok(())
 }
 
-/// The keys of what is said of blocks, in order. The error is want of memory.
+/// The keys of what is said of blocks, in order. The error is: out of memory.
 fn keys_of(alloc: Global, acks: &[Ack]) -> Result<Vec<Key>, Memory>
     ensures { IfOk result (λ keys. keys.items ≡ map (λ a. a.key) acks.now) }
 {

@@ -32,7 +32,7 @@ fn add(peers: &mut Vec<Peer>, number: u32) -> Result<(), Memory>
     Ok(())
 }
 
-/// The peers of the first numbers; one whose identifier stands already is left out. The error is want of memory.
+/// The peers of the first numbers; one whose identifier stands already is left out. The error is: out of memory.
 fn first(alloc: Global, count: u32) -> Result<Peers, Memory>
     ensures { IfOk result (λ peers. peers ≡ first_peers count) }
 {
@@ -43,7 +43,7 @@ fn first(alloc: Global, count: u32) -> Result<Peers, Memory>
     Ok(Peers::of(peers))
 }
 
-/// The node of one of these members in their settled ring. The error is want of memory.
+/// The node of one of these members in their settled ring. The error is: out of memory.
 fn member(alloc: Global, me: Peer, replicas: u32, members: &Peers) -> Result<RingNode, Memory>
     requires few { (1 ≤ replicas) × (replicas ≤ 8) }
     requires apart { AreApart members.now }
@@ -54,7 +54,7 @@ fn member(alloc: Global, me: Peer, replicas: u32, members: &Peers) -> Result<Rin
     Ok(RingNode::empty(alloc, me, ring))
 }
 
-/// The nodes of the settled ring of these members, no two of which stand at one place. r is 1 to 8. The error is want of
+/// The nodes of the settled ring of these members, no two of which stand at one place. r is 1 to 8. The error is: out of
 /// memory.
 fn settled(alloc: Global, replicas: u32, members: &Peers) -> Result<Vec<RingNode>, Memory>
     requires few { (1 ≤ replicas) × (replicas ≤ 8) }
@@ -70,7 +70,7 @@ fn settled(alloc: Global, replicas: u32, members: &Peers) -> Result<Vec<RingNode
 }
 
 /// The nodes of the settled ring of the first `count` numbers, in the order of their numbers; a number whose identifier stands
-/// already is left out. r is 1 to 8. The error is want of memory.
+/// already is left out. r is 1 to 8. The error is: out of memory.
 pub fn settled_nodes(alloc: Global, count: u32, replicas: u32) -> Result<Vec<RingNode>, Memory>
     requires { (1 ≤ replicas) × (replicas ≤ 8) }
     ensures { IfOk result (λ nodes. AreSettled (in_ring_order (first_peers count)) replicas (first_peers count) nodes.items) }

@@ -13,7 +13,7 @@ use dht_ids::{Ask, Judge, Peer};
 use ivy_base::Memory;
 use std::alloc::Global;
 
-/// So many passes over these peers' nodes, 2r + 1, where r, at most 8, nodes own a key. The error is want of memory, or 2^64
+/// So many passes over these peers' nodes, 2r + 1, where r, at most 8, nodes own a key. The error is: out of memory, or 2^64
 /// asks.
 pub fn renew_lists<J: Judge>(
     nodes: &mut RingNodes,

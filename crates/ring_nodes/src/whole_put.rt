@@ -11,7 +11,7 @@ use std::alloc::Global;
 
 impl RingNodes {
     ghost use Rattle.dht_ids.specs.declared.ask.Ask.TheVariants as ask;
-    ghost use Rattle.dhash_client.specs.Course.{asks_left};
+    ghost use Rattle.dhash_client.specs.Execution.{asks_left};
     ghost use Rattle.dhash_client.specs.Puts.{put_awaited};
     ghost use Rattle.world_model.specs.World.{World};
     ghost use Rattle.ring_nodes.specs.Looking.{PutSteps, PutsSo};
@@ -19,7 +19,7 @@ impl RingNodes {
 
     /// Puts a content block at the owners of its key: a look-up from all nodes that were made, and then the owners, one ask
     /// after the other, until that many have answered. The result is whether the put was acknowledged, or that no owner was
-    /// found. The error is want of memory, or 2^64 asks; asks may have been made then.
+    /// found. The error is: out of memory, or 2^64 asks; asks may have been made then.
     pub fn put_block<J: Judge>(
         &mut self,
         alloc: Global,
@@ -48,7 +48,7 @@ impl RingNodes {
         }
     }
 
-    /// One ask of a put, which hears its answer. The error is want of memory, or 2^64 asks.
+    /// One ask of a put, which hears its answer. The error is: out of memory, or 2^64 asks.
     fn put_step<J: Judge>(
         &mut self,
         alloc: Global,
@@ -61,7 +61,7 @@ impl RingNodes {
         requires made { IsAmong node.now (made_peers self.old) }
         requires brings { BringsOnly (made_peers self.old) question.now }
         ensures steps { IfOk result (λ _. PutSteps (J.judges judge.now) node.now question.now self.old self.new put.old put.new) }
-        ensures left { IfOk result (λ _. asks_left put.new.course < asks_left put.old.course) }
+        ensures left { IfOk result (λ _. asks_left put.new.execution < asks_left put.old.execution) }
         ensures made { made_peers self.new ≡ made_peers self.old }
     {
         let answer = self.ask(alloc, judge, node, question)?;

@@ -14,7 +14,7 @@ use dht_ids::Judge;
 use ivy_base::Memory;
 use std::alloc::Global;
 
-/// A round over the live nodes. r, at most 8, nodes own a key. The error is want of memory, or 2^64 asks; the round may be
+/// A round over the live nodes. r, at most 8, nodes own a key. The error is: out of memory, or 2^64 asks; the round may be
 /// half done then.
 pub fn round<J: Judge>(
     nodes: &mut RingNodes,

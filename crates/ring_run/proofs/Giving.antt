@@ -17,7 +17,7 @@ use Rattle.dht_ids.specs.declared.ask.StoreFault.{StoreFault}
 use Rattle.dht_ids.specs.declared.ask.StoreFault.TheVariants as fault
 use Rattle.dht_ids.specs.declared.judge.Judged.{Judged}
 use Rattle.dht_ids.specs.declared.peer.Peer.{Peer}
-use Rattle.dhash_model.specs.Stores.{Block, bytes_at, bytes_held, capacity, content, content_fault, head, head_fault, not_judged, number_at, older}
+use Rattle.dhash_model.specs.Stores.{Block, bytes_at, bytes_held, store_capacity, content, content_fault, head, head_fault, not_judged, number_at, older}
 use Rattle.world_model.specs.Nodes.{Node, answered, stored}
 use Rattle.ring_run.specs.Laws.{AnswersAreOfTheForm, NotJudgedIsByBytes, SilenceIsOfTheDead, WrongNamesAreByBytes}
 use Rattle.ring_run.specs.Live.{Gives, LiveState, lives}
@@ -101,7 +101,7 @@ by_name n key block true false = (λ e. absurd cc, λ d. absurd cc)
 
 pub wrong_names : (judged : Key → List ℕ → Option Judged) (r : LiveState) (to : Peer) (given : Answer) → WrongNamesAreByBytes judged r to given
 wrong_names judged r to given key bytes one (dead none) = absurd (not_both (lives r to) one none)
-wrong_names judged r to given key bytes one (alive n there) = by_name n key (content bytes) (eq_by_cmp key_cmp key (name bytes)) (nat_lt capacity (bytes_held (put key_cmp key (content bytes) n.blocks)))
+wrong_names judged r to given key bytes one (alive n there) = by_name n key (content bytes) (eq_by_cmp key_cmp key (name bytes)) (nat_lt store_capacity (bytes_held (put key_cmp key (content bytes) n.blocks)))
 
 by_age : (n : Node) (key : Key) (block : Block) (new : Judged) (seq : ℕ) (a t : Bool)
     → (stored n key block (option_or (cond a (Some (fault.Older seq)) None) (cond t (Some fault.Full) None))).0 ≡ answer.Refused fault.NotJudged → ⊥
@@ -119,4 +119,4 @@ by_judge n key block (Some new) None false = (λ e. absurd cc, λ d. absurd cc)
 pub not_heads : (judged : Key → List ℕ → Option Judged) (r : LiveState) (to : Peer) (given : Answer) → NotJudgedIsByBytes judged r to given
 not_heads judged r to given key bytes one (dead none) = absurd (not_both (lives r to) one none)
 not_heads judged r to given key bytes one (alive n there) =
-    by_judge n key (head bytes) (judged key bytes) (number_at judged key n.blocks) (nat_lt capacity (bytes_held (put key_cmp key (head bytes) n.blocks)))
+    by_judge n key (head bytes) (judged key bytes) (number_at judged key n.blocks) (nat_lt store_capacity (bytes_held (put key_cmp key (head bytes) n.blocks)))

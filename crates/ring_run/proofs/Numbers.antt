@@ -6,7 +6,7 @@ use Rattle.std.specs.Ordering.{eq_by_cmp}
 use Rattle.std.specs.Prelude.{◌≢◌, nat_lt, slice_index}
 use Rattle.std.proofs.lemmas.Bool.{ltb-true, ltb-false}
 use Rattle.ivy_base.specs.Naming.{key_cmp}
-use Rattle.ring_model.specs.Members.{IsAmong, IsAscending}
+use Rattle.ring_model.specs.Members.{IsAmong, HasAscendingPlaces}
 use Rattle.ring_model.proofs.Lists.{all-both, all_from, all_weaker, filter_gives}
 use Rattle.dht_ids.specs.NodeIds.{node_id_of}
 use Rattle.dht_ids.specs.declared.peer.Peer.{Peer}
@@ -25,20 +25,20 @@ IsNamed p = p.id ≡ node_id_of p.number
 
 -- ---- numbers that ascend, place by place
 
-step_ascends : (ps : List Peer) → IsAscending number_of ps → (k : ℕ) → suc k < length (map number_of ps) → slice_index (map number_of ps) k < slice_index (map number_of ps) (suc k)
+step_ascends : (ps : List Peer) → HasAscendingPlaces number_of ps → (k : ℕ) → suc k < length (map number_of ps) → slice_index (map number_of ps) k < slice_index (map number_of ps) (suc k)
 step_ascends [] a k l = absurd (omega (arith, l))
 step_ascends (p ∷ []) a k l = absurd (omega (arith, l))
 step_ascends (p ∷ q ∷ ps) a zero l = a.0.0
 step_ascends (p ∷ q ∷ ps) a (suc k) l = step_ascends (q ∷ ps) a.1 k (omega (arith, l))
 
-pub numbers_ascend : (ps : List Peer) → IsAscending (λ p. p.number) ps → IsStrictlyIncreasing (map (λ p. p.number) ps)
+pub numbers_ascend : (ps : List Peer) → HasAscendingPlaces (λ p. p.number) ps → IsStrictlyIncreasing (map (λ p. p.number) ps)
 numbers_ascend ps a k l =
     let one : k + 1 ≡ suc k = omega arith in
     subst (λ m. slice_index (map number_of ps) k < slice_index (map number_of ps) m) (sym one) (step_ascends ps a k (subst (λ m. m < length (map number_of ps)) one l))
 
 -- ---- one more at the end
 
-ascends_behind : (ps : List Peer) (p : Peer) → IsAscending number_of ps → AllByRecursion (λ q. q.number < p.number) ps → IsAscending number_of (ps ++ p ∷ [])
+ascends_behind : (ps : List Peer) (p : Peer) → HasAscendingPlaces number_of ps → AllByRecursion (λ q. q.number < p.number) ps → HasAscendingPlaces number_of (ps ++ p ∷ [])
 ascends_behind [] p a below = (tt, tt)
 ascends_behind (q ∷ ps) p a below = (all-both (λ y. q.number < y.number) ps (p ∷ []) a.0 (below.0, tt), ascends_behind ps p a.1 below.1)
 
@@ -46,7 +46,7 @@ ascends_behind (q ∷ ps) p a below = (all-both (λ y. q.number < y.number) ps (
 
 record AreFirst (n : ℕ) (ps : List Peer) : Type 0 where
   below : AllByRecursion (λ q. q.number < n) ps
-  ascends : IsAscending number_of ps
+  ascends : HasAscendingPlaces number_of ps
   named : AreNamed ps
 
 first_more : (n : ℕ) (ps : List Peer) (t : Bool) → AreFirst n ps → AreFirst (suc n) (cond t ps (ps ++ peer_numbered n ∷ []))
@@ -85,7 +85,7 @@ new_is_live count replicas made live e l counted some few =
       few = few;
       nodes = subst (λ ps. ps ≢ []) (sym e) (counted_some count counted);
       named = subst AreNamed (sym e) f.named;
-      ascending = subst (IsAscending number_of) (sym e) f.ascends;
+      ascending = subst (HasAscendingPlaces number_of) (sym e) f.ascends;
       living = subst (AllByRecursion (λ p. IsAmong p made)) (e ∙ sym l) (all_from (λ p. IsAmong p made) made (λ p i. i));
     }
 
@@ -102,11 +102,11 @@ numbered_all P (q ∷ ps) p a h = by (nat_lt p.number q.number) (numbered_all P 
 above : (m n : ℕ) → n ≤ m → (n ≡ m → ⊥) → n < m
 above m n l d = omega (arith, l, d)
 
-numbered_ascends : (ps : List Peer) (p : Peer) → IsAscending number_of ps → AllByRecursion (λ q. q.number ≡ p.number → ⊥) ps → IsAscending number_of (with_numbered ps p)
+numbered_ascends : (ps : List Peer) (p : Peer) → HasAscendingPlaces number_of ps → AllByRecursion (λ q. q.number ≡ p.number → ⊥) ps → HasAscendingPlaces number_of (with_numbered ps p)
 numbered_ascends [] p a d = (tt, tt)
 numbered_ascends (q ∷ ps) p a d = by (nat_lt p.number q.number) refl (numbered_ascends ps p a.1 d.1)
   where
-    by : (t : Bool) → nat_lt p.number q.number ≡ t → IsAscending number_of (with_numbered ps p) → IsAscending number_of (cond t (p ∷ q ∷ ps) (q ∷ with_numbered ps p))
+    by : (t : Bool) → nat_lt p.number q.number ≡ t → HasAscendingPlaces number_of (with_numbered ps p) → HasAscendingPlaces number_of (cond t (p ∷ q ∷ ps) (q ∷ with_numbered ps p))
     by true t rest =
         let less : p.number < q.number = ltb-true p.number q.number t in
         ((less, all_weaker (λ y. q.number < y.number) (λ y. p.number < y.number) ps (λ y l. omega (arith, less, l)) a.0), a)

@@ -2,7 +2,7 @@
 use Rattle.std.specs.Prelude.{◌≡◌, ◌≢◌, [], ℕ, ◌≤◌, Bool, true, false, List, Option}
 use Rattle.std.specs.List.{AllByRecursion}
 use Rattle.ivy_base.specs.declared.key.Key.{Key}
-use Rattle.ring_model.specs.Members.{IsAmong, IsAscending}
+use Rattle.ring_model.specs.Members.{IsAmong, HasAscendingPlaces}
 use Rattle.dht_ids.specs.declared.ask.Answer.{Answer}
 use Rattle.dht_ids.specs.declared.ask.Answer.TheVariants as answer
 use Rattle.dht_ids.specs.declared.ask.Ask.{Ask}
@@ -26,7 +26,7 @@ pub record IsLiveRing (r : LiveState) : Type 0 where
   pub few : r.replicas ≤ 8
   pub nodes : r.made ≢ []
   pub named : AreNamed r.made
-  pub ascending : IsAscending (λ p. p.number) r.made
+  pub ascending : HasAscendingPlaces (λ p. p.number) r.made
   pub living : AllByRecursion (λ p. IsAmong p r.made) r.live
 
 -- a ring that is made: all of its nodes live

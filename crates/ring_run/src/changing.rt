@@ -60,7 +60,7 @@ fn drop_number(seats: &mut Vec<Seat>, number: u32)
 impl LiveRing {
     ghost use Rattle.ring_run.specs.Changes.{Joins, has_number, with_node_more, without_number};
 
-    /// Makes the node of that number, which lives from now on. It takes the next 2r live nodes behind its place, which the
+    /// Makes the node of that number, which lives from now on. It takes the next 2r live nodes after its place, which the
     /// ring knows, for its list, and is alone where none lives. The error is Known where a node of its identifier was made
     /// before, then Limit where 256 nodes were made, and then Memory; nothing is changed then.
     pub fn join<R: Wait>(&mut self, _rt: &R, alloc: Global, number: u32) -> Result<(), JoinFault>
@@ -78,7 +78,7 @@ impl LiveRing {
         }
     }
 
-    /// The node of that number is made, and lives. The error is want of memory, and nothing is changed then.
+    /// The node of that number is made, and lives. The error is: out of memory, and nothing is changed then.
     fn take_in(&mut self, alloc: Global, number: u32) -> Result<(), Memory>
         requires { is_known_id self.old.made (peer_numbered number) ≡ false }
         ensures taken { OnOk result (self.new ≡ with_node_more self.old number) }
@@ -93,7 +93,7 @@ impl LiveRing {
         Ok(())
     }
 
-    /// The node of a peer that comes, which takes the next live nodes for its list. The error is want of memory.
+    /// The node of a peer that comes, which takes the next live nodes for its list. The error is: out of memory.
     fn newcomer(&self, alloc: Global, peer: Peer) -> Result<RingNode, Memory>
         ensures { IfOk result (λ node. node ≡ joined_node peer self.now.replicas (from_place place (in_ring_order self.now.live) (number peer.id))) }
     {

@@ -11,7 +11,7 @@ pub enum JoinFault {
     /// As many nodes were made as there may be, 256.
     #[error("256 nodes were made")]
     Limit,
-    /// Want of memory. No clause ties this to a cause.
+    /// Out of memory. No clause ties this to a cause.
     #[error("out of memory")]
     Memory,
 }

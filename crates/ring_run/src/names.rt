@@ -33,7 +33,7 @@ impl Model for Named {
 }
 
 impl Named {
-    /// The block with that name. None is want of memory.
+    /// The block with that name. None means out of memory.
     fn of(alloc: Global, key: &Key, bytes: &[u8]) -> Option<Named>
         requires { key.now ≡ name bytes.now }
     {
@@ -61,7 +61,7 @@ pub(crate) struct Names {
 }
 
 impl Names {
-    /// Nothing is known yet. The error is want of memory.
+    /// Nothing is known yet. The error is: out of memory.
     pub(crate) fn new(alloc: Global) -> Result<Names, Memory> {
         let mut seats = Vec::with_capacity(alloc, SEATS)?;
         for _ in 0..SEATS {

@@ -1,7 +1,7 @@
 //! A key whose signatures are known to be accepted.
 
 ghost use Rattle.hss_keys.specs.Hss.{HssAccepts};
-ghost use Rattle.hash_signature_model.specs.Signer.{owner_of};
+ghost use Rattle.hash_signature_model.specs.Signer.{public_key_of};
 
 use crate::verdicts::Verdicts;
 use dht_ids::{LoadFault, SignFault, Signature};
@@ -42,7 +42,7 @@ impl RememberedKey {
 
     /// Keeps a verdict on a signature, where there are verdicts.
     fn remember(&self, message: &[u8], signature: &[u8])
-        requires { HssAccepts (owner_of self.now) message.now signature.now }
+        requires { HssAccepts (public_key_of self.now) message.now signature.now }
     {
         if let Some(verdicts) = &self.verdicts {
             verdicts.keep(&self.key.owner(), message, signature);

@@ -16,8 +16,8 @@ use log_records::Head;
 /// How many bytes of a head's block its signature signs: all that stand before it.
 const SIGNED_LEN: usize = 88;
 
-/// The judge of signed heads, with verdicts at hand: it says what [`HssJudge`] says, and verifies no signature that it has a
-/// verdict on.
+/// The judge of signed heads, with available verdicts: it says what [`HssJudge`] says, and verifies no signature that it has
+/// a verdict on.
 #[derive(Clone, Copy)]
 pub(crate) struct RememberingJudge<'v> {
     pub(crate) verdicts: &'v Verdicts,
@@ -67,8 +67,8 @@ fn is_signed_under(verdicts: &Verdicts, head: &Head, signed: &[u8], key: &Key) -
     *key == head_key(&head.owner) && accepts(verdicts, &head.owner, signed, head.signature)
 }
 
-/// Whether the signature of the message is accepted under the key. It is verified where no verdict on it is at hand, and kept
-/// where it is accepted.
+/// Whether the signature of the message is accepted under the key. It is verified where no verdict on it is available, and
+/// kept where it is accepted.
 fn accepts(verdicts: &Verdicts, owner: &PubKey, message: &[u8], signature: &[u8]) -> bool
     ensures { IsTrue result ↔ HssAccepts owner.now.0 message.now signature.now }
 {

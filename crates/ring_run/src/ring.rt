@@ -57,7 +57,7 @@ impl LiveRing {
     ghost use Rattle.ring_run.specs.Live.{Gives, IsLiveRing, new_ring};
 
     /// The settled ring of nodes 0 to `count` - 1, at most 256, of which `replicas`, 1 to 8, own a key. A node whose
-    /// identifier was made before is left out. It waits for nothing. The error is want of memory.
+    /// identifier was made before is left out. It waits for nothing. The error is: out of memory.
     pub fn make<R>(rt: &R, alloc: Global, count: u32, replicas: u32) -> Result<LiveRing, Memory>
         requires count { (1 ≤ count) × (count ≤ 256) }
         requires few { (1 ≤ replicas) × (replicas ≤ 8) }
@@ -67,7 +67,7 @@ impl LiveRing {
     }
 
     /// As [`LiveRing::make`], with nodes that have these verdicts, which whoever publishes may share: what a
-    /// [`RememberedKey`](crate::RememberedKey) signs they needn't verify. The error is want of memory.
+    /// [`RememberedKey`](crate::RememberedKey) signs they needn't verify. The error is: out of memory.
     pub fn make_with<R>(
         _rt: &R,
         alloc: Global,
@@ -99,7 +99,7 @@ impl LiveRing {
     }
 
     /// Asks a node, which answers under its lock: silence exactly where the peer doesn't live, and else an answer of the
-    /// ask's form ([`live_laws`](crate::live_laws)). The error is want of memory, and no node is changed then.
+    /// ask's form ([`live_laws`](crate::live_laws)). The error is: out of memory, and no node is changed then.
     pub fn ask<R: Wait>(
         &self,
         rt: &R,
@@ -132,14 +132,14 @@ impl LiveRing {
         self.replicas
     }
 
-    /// The nodes that live, in the order in which they came. The error is want of memory.
+    /// The nodes that live, in the order in which they came. The error is: out of memory.
     pub fn live(&self, alloc: Global) -> Result<Peers, Memory>
         ensures { IfOk result (λ peers. peers ≡ self.now.live) }
     {
         Ok(Peers::of(peers_of(alloc, &self.live)?))
     }
 
-    /// The nodes that were made, by number. The error is want of memory.
+    /// The nodes that were made, by number. The error is: out of memory.
     pub fn made(&self, alloc: Global) -> Result<Peers, Memory>
         ensures made { IfOk result (λ peers. peers ≡ self.now.made) }
         ensures ascending { IfOk result (λ peers. IsStrictlyIncreasing (map (λ p. p.number) peers)) }

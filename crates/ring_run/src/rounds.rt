@@ -15,7 +15,7 @@ use ivy_base::{Key, Memory};
 use std::alloc::Global;
 use std::sync::Wait;
 
-/// The node alone, as what a look-up begins with. The error is want of memory.
+/// The node alone, as what a look-up begins with. The error is: out of memory.
 fn alone(alloc: Global, node: &Peer) -> Result<Peers, Memory> {
     Ok(Peers::of(vec![in alloc; *node]?))
 }
@@ -23,7 +23,7 @@ fn alone(alloc: Global, node: &Peer) -> Result<Peers, Memory> {
 impl LiveRing {
     /// A round of maintenance over the live nodes, in the order in which they came: silent predecessors are forgotten; 2r + 1
     /// times each list is renewed, and the first of each new list notified; fingers are fixed by look-ups; and blocks are put at
-    /// their owners, and dropped where they aren't the node's to hold. Other threads may ask meanwhile. The error is want of
+    /// their owners, and dropped where they aren't the node's to hold. Other threads may ask meanwhile. The error is: out of
     /// memory; a part of the round is done then.
     pub fn round<R: Wait>(&self, rt: &R, alloc: Global) -> Result<(), Memory> {
         for seat in &self.live {
@@ -41,7 +41,7 @@ impl LiveRing {
         Ok(())
     }
 
-    /// A node forgets its predecessor, where that is silent. The error is want of memory.
+    /// A node forgets its predecessor, where that is silent. The error is: out of memory.
     fn forget_silent<R: Wait>(&self, rt: &R, alloc: Global, seat: &Seat) -> Result<(), Memory> {
         let Some(before) = seat.before(rt) else {
             return Ok(());
@@ -52,7 +52,7 @@ impl LiveRing {
         Ok(())
     }
 
-    /// Each node, one after the other, renews its list. The error is want of memory.
+    /// Each node, one after the other, renews its list. The error is: out of memory.
     fn renew_lists<R: Wait>(&self, rt: &R, alloc: Global) -> Result<(), Memory> {
         for seat in &self.live {
             self.stabilise(rt, alloc, seat)?;
@@ -61,7 +61,7 @@ impl LiveRing {
     }
 
     /// A node renews its list by the first entry that answers, and notifies the first of the new list. Entries that are silent
-    /// are dropped, at most the 2r that a list has. The error is want of memory.
+    /// are dropped, at most the 2r that a list has. The error is: out of memory.
     fn stabilise<R: Wait>(&self, rt: &R, alloc: Global, seat: &Seat) -> Result<(), Memory> {
         for _ in 0..2 * self.replicas {
             let Some(first) = seat.first(rt) else {
@@ -76,14 +76,14 @@ impl LiveRing {
         Ok(())
     }
 
-    /// What a node answers to Near. The error is want of memory.
+    /// What a node answers to Near. The error is: out of memory.
     fn near<R: Wait>(&self, rt: &R, alloc: Global, node: &Peer) -> Result<Answer, Memory>
         ensures { IfOk result IsOfNear }
     {
         self.ask(rt, alloc, node, &Ask::Near)
     }
 
-    /// The first entry of a node's list hears of the node. The error is want of memory.
+    /// The first entry of a node's list hears of the node. The error is: out of memory.
     fn notify_first<R: Wait>(&self, rt: &R, alloc: Global, seat: &Seat) -> Result<(), Memory> {
         if let Some(first) = seat.first(rt) {
             self.ask(rt, alloc, &first, &Ask::Notify(seat.peer))?;
@@ -91,8 +91,8 @@ impl LiveRing {
         Ok(())
     }
 
-    /// A node makes the first owner of each finger's start its finger, where a look-up from itself finds one. The error is
-    /// want of memory.
+    /// A node makes the first owner of each finger's start its finger, where a look-up from itself finds one. The error
+    /// is: out of memory.
     fn fix_fingers<R: Wait>(&self, rt: &R, alloc: Global, seat: &Seat) -> Result<(), Memory> {
         for index in 0..FINGERS {
             let start = finger_start(&seat.peer.id, index + 1);
@@ -103,7 +103,7 @@ impl LiveRing {
         Ok(())
     }
 
-    /// The first owner of a key that a look-up through a node finds. The error is want of memory.
+    /// The first owner of a key that a look-up through a node finds. The error is: out of memory.
     fn first_owner<R: Wait>(
         &self,
         rt: &R,
@@ -123,7 +123,7 @@ impl LiveRing {
         }
     }
 
-    /// One ask of a look-up, which hears its answer. The error is want of memory.
+    /// One ask of a look-up, which hears its answer. The error is: out of memory.
     fn look<R: Wait>(
         &self,
         rt: &R,
@@ -139,7 +139,7 @@ impl LiveRing {
         lookup.heard(answer)
     }
 
-    /// A node puts its blocks at their owners, and drops those that aren't its to hold. The error is want of memory.
+    /// A node puts its blocks at their owners, and drops those that aren't its to hold. The error is: out of memory.
     fn repair<R: Wait>(&self, rt: &R, alloc: Global, seat: &Seat) -> Result<(), Memory> {
         let held = seat.posts(rt, alloc)?;
         let acks = self.put_all(rt, alloc, &seat.peer, held)?;
@@ -147,8 +147,8 @@ impl LiveRing {
         Ok(())
     }
 
-    /// These blocks, which a node holds, are put at their owners; the result is said of those that it is to drop. The error is
-    /// want of memory.
+    /// These blocks, which a node holds, are put at their owners; the result is said of those that it is to drop. The error
+    /// is: out of memory.
     fn put_all<R: Wait>(
         &self,
         rt: &R,
@@ -167,7 +167,7 @@ impl LiveRing {
         }
     }
 
-    /// One ask of a repair, which hears its answer. The error is want of memory.
+    /// One ask of a repair, which hears its answer. The error is: out of memory.
     fn put<R: Wait>(
         &self,
         rt: &R,

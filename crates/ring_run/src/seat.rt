@@ -30,7 +30,7 @@ impl Seat {
     }
 }
 
-/// The seats of these nodes, in order. The error is want of memory.
+/// The seats of these nodes, in order. The error is: out of memory.
 pub(crate) fn seats_of(alloc: Global, nodes: Vec<RingNode>) -> Result<Vec<Seat>, Memory>
     ensures { IfOk result (λ seats. map (λ s. s.peer) seats.items ≡ map peer_of nodes.items) }
 {
@@ -41,7 +41,7 @@ pub(crate) fn seats_of(alloc: Global, nodes: Vec<RingNode>) -> Result<Vec<Seat>,
     Ok(seats)
 }
 
-/// The peers of these seats, in order. The error is want of memory.
+/// The peers of these seats, in order. The error is: out of memory.
 pub(crate) fn peers_of(alloc: Global, seats: &[Seat]) -> Result<Vec<Peer>, Memory>
     ensures { IfOk result (λ peers. peers.items ≡ map (λ s. s.peer) seats.now) }
 {

@@ -29,7 +29,7 @@ impl Seat {
         }
     }
 
-    /// Renews the list by what its first entry answered to Near, where that is still the first. The error is want of memory,
+    /// Renews the list by what its first entry answered to Near, where that is still the first. The error is: out of memory,
     /// and the node is as before then.
     pub(crate) fn renew<R: Wait>(
         &self,
@@ -54,7 +54,7 @@ impl Seat {
         self.node.lock(rt).fix_finger(index, owner);
     }
 
-    /// Copies of the blocks that the node holds. The error is want of memory.
+    /// Copies of the blocks that the node holds. The error is: out of memory.
     pub(crate) fn posts<R: Wait>(&self, rt: &R, alloc: Global) -> Result<Posts, Memory> {
         self.node.lock(rt).posts(alloc)
     }

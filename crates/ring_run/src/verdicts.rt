@@ -32,7 +32,7 @@ impl Model for Verdict {
 }
 
 impl Verdict {
-    /// The verdict on a signature that is accepted. None is want of memory.
+    /// The verdict on a signature that is accepted. None means out of memory.
     fn of(alloc: Global, owner: &PubKey, message: &[u8], signature: &[u8]) -> Option<Verdict>
         requires { HssAccepts owner.now.0 message.now signature.now }
     {
@@ -67,7 +67,7 @@ pub struct Verdicts {
 }
 
 impl Verdicts {
-    /// Nothing is known yet. The error is want of memory.
+    /// Nothing is known yet. The error is: out of memory.
     pub fn new(alloc: Global) -> Result<Verdicts, Memory> {
         let mut seats = Vec::with_capacity(alloc, SEATS)?;
         for _ in 0..SEATS {
@@ -79,7 +79,7 @@ impl Verdicts {
         })
     }
 
-    /// The same verdicts, for another holder: what either keeps both know. It allocates nothing. The error is want of memory: too
+    /// The same verdicts, for another holder: what either keeps both know. It allocates nothing. The error is: out of memory: too
     /// many hold them.
     pub fn share(&self) -> Result<Verdicts, Memory> {
         Ok(Verdicts {

@@ -15,7 +15,7 @@ fn keep(line: &mut Line<'_>, cache: &mut BlockCache, number: u16) {
     }
 }
 
-/// Begins anew, with a full cache: of the blocks 0 to 255, kept in this order.
+/// Begins again, with a full cache: of the blocks 0 to 255, kept in this order.
 fn fill(line: &mut Line<'_>, held: &mut Option<BlockCache>) {
     *held = BlockCache::new(line.alloc).ok();
     match held {

@@ -23,8 +23,8 @@ pub fn peer(number: u32) -> Peer {
 }
 
 /// A line, whose words are taken from the front, and its answer. A word that isn't of the kind that is asked for fails
-/// the line, and so does want of memory: it has no answer then, whatever was written. So who takes words and writes need
-/// not look for that. What a line changes that fails, further lines see.
+/// the line, and so does running out of memory: it has no answer then, whatever was written. So who takes words and
+/// writes need not look for that. What a line changes that fails, further lines see.
 #[derive(Drop)]
 pub struct Line<'a> {
     pub alloc: Global,
@@ -137,7 +137,7 @@ impl<'a> Line<'a> {
         peers
     }
 
-    /// These nodes; none for want of memory.
+    /// These nodes; none when out of memory.
     pub fn peers_of(&mut self, peers: &[Peer]) -> Vec<Peer> {
         self.made_or(peers.to_vec(self.alloc), Vec::new(self.alloc))
     }
@@ -148,13 +148,13 @@ impl<'a> Line<'a> {
         self.done(written);
     }
 
-    /// Writes a text, and behind it a number.
+    /// Writes a text, and after it a number.
     pub fn put_number(&mut self, before: &str, number: u64) {
         let written = write!(self.text, "{before}{number}");
         self.done(written);
     }
 
-    /// Writes a text, and behind it the word of bytes.
+    /// Writes a text, and after it the word of bytes.
     pub fn put_bytes(&mut self, before: &str, bytes: &[u8]) {
         self.put(before);
         if bytes.is_empty() {
@@ -174,7 +174,7 @@ impl<'a> Line<'a> {
         }
     }
 
-    /// Writes a text, and behind it the word of a key.
+    /// Writes a text, and after it the word of a key.
     pub fn put_key(&mut self, before: &str, key: &Key) {
         let last = key.0[19];
         if *key == place(last) {
@@ -197,7 +197,7 @@ impl<'a> Line<'a> {
         }
     }
 
-    /// Writes a text, and behind it the word of nodes.
+    /// Writes a text, and after it the word of nodes.
     pub fn put_peers(&mut self, before: &str, peers: &[Peer]) {
         self.put(before);
         self.put_list(peers);

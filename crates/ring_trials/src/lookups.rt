@@ -1,6 +1,6 @@
 //! Trials of look-ups.
 
-use crate::course::look_up;
+use crate::execution::look_up;
 use crate::line::Line;
 use crate::ring::Ring;
 use dht_ids::{Peer, node_id};
@@ -40,18 +40,18 @@ fn are_first_live(found: &[Peer], ring: &Ring, owners: &[Peer]) -> bool {
 }
 
 /// Looks a key up from each live node. A look-up is right where it found the owners, perhaps with stopped nodes among
-/// them and others behind them, and asked no node twice.
+/// them and others after them, and asked no node twice.
 fn look_up_key(line: &mut Line<'_>, ring: &Ring, key: Key, owners: &[Peer], tally: &mut Tally) {
     for entry in ring.live.as_slice() {
-        let course = look_up(line, &ring.nodes, key, *entry);
-        if let Ok(found) = &course.found
+        let execution = look_up(line, &ring.nodes, key, *entry);
+        if let Ok(found) = &execution.found
             && are_first_live(found.as_slice(), ring, owners)
-            && !course.asked_twice()
+            && !execution.asked_twice()
         {
             tally.right = tally.right.saturating_add(1);
         }
-        tally.most = tally.most.max(course.asked.len());
-        tally.asks = tally.asks.saturating_add(course.asked.len() as u64);
+        tally.most = tally.most.max(execution.asked.len());
+        tally.asks = tally.asks.saturating_add(execution.asked.len() as u64);
     }
 }
 

@@ -24,8 +24,8 @@
 //! - `strangers WHO N KEY`: a look-up of the identifier of the node KEY from the nodes below N, which `muddled`, `echoes`,
 //!   `crowd` or `blank` answer, and for any other word, as `nobody`, none
 //! - `get-block R OWNERS`, `get-head R OWNERS`, `put-block R OWNERS`, `put-head R OWNERS`: of the block `block`, and of
-//!   the head of `owner`, where the owners answer as listed (`silent`, `empty`, `gives:BYTES`, `stores`, `older`,
-//!   `full`, `muddled`), and are asked of a node that is listed behind a silent one
+//!   the head of `owner`, where the owners answer as listed (`silent`, `empty`, `gives:BYTES`, `stores`, `older`, `full`,
+//!   `muddled`), and are asked of a node that is listed after a silent one
 //! - `store new`, `store put KEY BYTES`, `store head KEY BYTES`, `store get KEY`, `store drop KEY`, `store spoil KEY
 //!   OFFSET BYTE`, `store held`, and, for rows of one byte, `store put-row BYTE COUNT`, `store head-row KEY BYTE COUNT`
 //! - `cache full`, `cache keep N`, `cache find N`, `cache has N`: of blocks of two bytes
@@ -40,7 +40,7 @@
 mod caches;
 mod circle;
 mod copies;
-mod course;
+mod execution;
 mod gets;
 mod line;
 mod lone;

@@ -93,7 +93,7 @@ fn put_known(line: &mut Line<'_>, node: &mut Node, how: &str) {
     }
 }
 
-/// Begins anew, with the node that a line makes, and writes what it answers to Near.
+/// Begins again, with the node that a line makes, and writes what it answers to Near.
 fn make(line: &mut Line<'_>, held: &mut Option<Node>, is_alone: bool) {
     *held = made(line, is_alone);
     match held {

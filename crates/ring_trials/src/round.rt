@@ -3,7 +3,7 @@
 ghost use Rattle.std.specs.Prelude.{◌≤◌};
 ghost use Rattle.chord_core.specs.State.{IsOfNear};
 
-use crate::course::look_up;
+use crate::execution::look_up;
 use crate::line::{Line, peer};
 use crate::lookups::key;
 use crate::one_node::put_answered;
@@ -86,8 +86,8 @@ fn renew(line: &mut Line<'_>, nodes: &mut Nodes, me: Peer) {
 /// Has the node fix its fingers by look-ups from itself.
 fn fix_fingers(line: &mut Line<'_>, nodes: &mut Nodes, me: Peer) {
     for k in 1..161 {
-        let course = look_up(line, nodes, finger_start(&me.id, k), me);
-        if let Ok(owners) = &course.found
+        let execution = look_up(line, nodes, finger_start(&me.id, k), me);
+        if let Ok(owners) = &execution.found
             && let Some(owner) = owners.as_slice().first()
             && let Some(node) = nodes.get_mut(&me.number)
         {
@@ -118,8 +118,8 @@ pub fn join(line: &mut Line<'_>, ring: &mut Ring, number: u32, replicas: u32)
     let me = peer(number);
     match Node::alone(line.alloc, me, replicas) {
         Ok(mut node) => {
-            let course = look_up(line, &ring.nodes, me.id, peer(0));
-            if let Ok(owners) = &course.found {
+            let execution = look_up(line, &ring.nodes, me.id, peer(0));
+            if let Ok(owners) = &execution.found {
                 line.done(node.adopt(line.alloc, owners));
             }
             ring.add(line, me, node);
@@ -128,7 +128,7 @@ pub fn join(line: &mut Line<'_>, ring: &mut Ring, number: u32, replicas: u32)
     }
 }
 
-/// What the nodes of the ring answer, one behind the other: each to Near, and to Route for a few keys and for its own
+/// What the nodes of the ring answer, one after the other: each to Near, and to Route for a few keys and for its own
 /// identifier, for which a node names all that it knows.
 fn told(line: &mut Line<'_>, ring: &Ring) -> String {
     let mut told = Line::new(line.alloc, "");

@@ -96,7 +96,7 @@ fn put_all(line: &mut Line<'_>, store: &Store) {
     line.put_made(&held);
 }
 
-/// Begins anew, with no blocks.
+/// Begins again, with no blocks.
 fn empty(store: &mut Store, alloc: Global) {
     *store = Store::new(alloc);
 }

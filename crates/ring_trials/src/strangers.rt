@@ -1,12 +1,12 @@
 //! Look-ups over nodes that answer without a ring.
 
-use crate::course::{Others, drive};
+use crate::execution::{Others, drive};
 use crate::line::{Line, peer};
 use crate::told::put_miss;
 use dht_ids::{Answer, Peer, Peers, node_id};
 use ivy_base::Key;
 
-/// A thousand nodes behind a number, at one place.
+/// A thousand nodes after a number, at one place.
 fn crowd(line: &mut Line<'_>, behind: u32) -> Vec<Peer> {
     let mut nodes = Vec::new(line.alloc);
     for i in 1..1001 {
@@ -55,13 +55,13 @@ pub fn answer(line: &mut Line<'_>) {
     let number: u32 = line.read();
     let key = node_id(number);
     let entries = line.numbered(count);
-    let course = drive(line, key, entries, &Others::Strangers(who));
-    match &course.found {
+    let execution = drive(line, key, entries, &Others::Strangers(who));
+    match &execution.found {
         Ok(owners) => line.put_peers("owners ", owners.as_slice()),
         Err(miss) => put_miss(line, miss),
     }
-    line.put_number(", ", course.asked.len() as u64);
-    line.put(if course.asked_twice() {
+    line.put_number(", ", execution.asked.len() as u64);
+    line.put(if execution.asked_twice() {
         " asked, one twice"
     } else {
         " asked, none twice"

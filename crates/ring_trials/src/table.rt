@@ -49,7 +49,7 @@ impl Table {
         }
     }
 
-    /// The answer to a line, `None` for want of memory and where the line asks nothing.
+    /// The answer to a line, `None` because memory ran out and where the line asks nothing.
     pub fn answer(&mut self, alloc: Global, text: &str) -> Option<String> {
         let mut line = Line::new(alloc, text);
         self.put_answer(&mut line, text);

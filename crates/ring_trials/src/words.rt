@@ -55,7 +55,7 @@ impl Word for Bytes {
     }
 }
 
-/// The two parts of a word, which stand before and behind a colon.
+/// The two parts of a word, which stand before and after a colon.
 pub fn parts<'a>(line: &mut Line<'_>, word: &'a str) -> (&'a str, &'a str) {
     match word.split_once(':') {
         Some(parts) => parts,

@@ -3,7 +3,7 @@ use Rattle.std.proofs.Common.{◌≡◌, inl, inr, ⊎_elim, ℕ, zero, suc, ◌
 use Rattle.std.specs.List.{AllByRecursion}
 use Rattle.std.proofs.lemmas.Bool.{cases_lt}
 use Rattle.ivy_base.specs.declared.key.Key.{Key}
-use Rattle.ring_model.specs.Arc.{is_inside}
+use Rattle.ring_model.specs.Arc.{is_strictly_between}
 use Rattle.ring_model.specs.Circle.{number}
 use Rattle.ring_model.specs.Members.{IsAmong}
 use Rattle.ring_model.specs.Ring.{Links}
@@ -21,7 +21,7 @@ use Rattle.dht_ids.specs.declared.ask.Ask.TheVariants as ask
 use Rattle.dht_ids.specs.declared.judge.Judged.{Judged}
 use Rattle.dht_ids.specs.declared.peer.Peer.{Peer}
 use Rattle.dht_ids.specs.Peers.{place}
-use Rattle.dhash_model.specs.Course.{Told}
+use Rattle.dhash_model.specs.Execution.{Told}
 use Rattle.world_model.specs.World.{World}
 use Rattle.world_model.specs.Fates.{FateOf, Fates, asking}
 use Rattle.world_model.specs.Fates.Fates.{none as no_asks, more as one_ask}
@@ -138,8 +138,8 @@ module _ (judged : Key → List ℕ → Option Judged) (r : ℕ) (base : List Sh
 
   owners_made : (replicas : ℕ) (n : Peer) (list : List Peer) (key : ℕ) → IsAmong n (made_by base) → AllMade list → AllMade (owners_part place replicas n list key)
   owners_made replicas n list key made all =
-      all-both (λ q. IsAmong q (made_by base)) (filter (λ m. not (is_inside (place n) (place m) key)) list) (cond (nat_lt (length list) (2 * replicas)) (n ∷ []) [])
-      (filter_gives (λ m. not (is_inside (place n) (place m) key)) (λ q. IsAmong q (made_by base)) list (all_weaker (λ q. IsAmong q (made_by base)) (λ q. not (is_inside (place n) (place q) key) ≡ true → IsAmong q (made_by base)) list (λ q i t. i) all))
+      all-both (λ q. IsAmong q (made_by base)) (filter (λ m. not (is_strictly_between (place n) (place m) key)) list) (cond (nat_lt (length list) (2 * replicas)) (n ∷ []) [])
+      (filter_gives (λ m. not (is_strictly_between (place n) (place m) key)) (λ q. IsAmong q (made_by base)) list (all_weaker (λ q. IsAmong q (made_by base)) (λ q. not (is_strictly_between (place n) (place q) key) ≡ true → IsAmong q (made_by base)) list (λ q i t. i) all))
       (by (nat_lt (length list) (2 * replicas)))
     where
       by : (t : Bool) → AllMade (cond t (n ∷ []) [])

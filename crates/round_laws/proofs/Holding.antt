@@ -15,18 +15,18 @@ use Rattle.dht_ids.specs.declared.ask.Ask.TheVariants as ask
 use Rattle.dht_ids.specs.declared.ask.StoreFault.{StoreFault}
 use Rattle.dht_ids.specs.declared.judge.Judged.{Judged}
 use Rattle.dht_ids.specs.declared.peer.Peer.{Peer}
-use Rattle.dhash_model.specs.Course.{Told}
+use Rattle.dhash_model.specs.Execution.{Told}
 use Rattle.dhash_model.specs.Puts.{holds}
 use Rattle.dhash_model.specs.Stores.{Block, Blocks, content, content_fault, head, head_fault, without}
-use Rattle.dhash_model.specs.declared.kind.Kind.{Kind}
-use Rattle.dhash_model.specs.declared.kind.Kind.TheVariants.{Content, Head}
+use Rattle.dhash_model.specs.declared.kind.BlockKind.{BlockKind}
+use Rattle.dhash_model.specs.declared.kind.BlockKind.TheVariants.{Content, Head}
 use Rattle.node_store.proofs.Maps.{keys_total}
 use Rattle.world_model.specs.Nodes.{Node, answered, stored}
 use Rattle.world_model.specs.World.{World, node_at, peer_of, with_node}
-use Rattle.world_model.specs.Fates.{Fates, asking, counted}
+use Rattle.world_model.specs.Fates.{Fates, asking, ask_counted}
 use Rattle.world_model.specs.Rounds.{question_as}
 use Rattle.world_model.specs.RingOf.{node_of, own_node}
-use Rattle.world_model.specs.Holding.{held_in, rank, rank_in}
+use Rattle.world_model.specs.Holding.{held_in, block_rank, rank_in}
 use Rattle.round_laws.proofs.Nodes.{Shape, at, at_id, at_itself, at_other, at_same, made_by, not_tied, replaced, same_id, same_or_not, same_peer, ties}
 use Rattle.round_laws.proofs.Standing.{Fated, IsBase, IsWithin, fated, peer_or_not, stands, still_asked}
 use Rattle.round_laws.proofs.Standing.Fated.{silence, heard}
@@ -79,7 +79,7 @@ stored_sorted : (n : Node) (key : Key) (block : Block) (fault : Option StoreFaul
 stored_sorted n key block (Some fault) s = s
 stored_sorted n key block None s = is_sorted-put key_cmp keys_total key block n.blocks s
 
-put_sorted : (judged : Key → List ℕ → Option Judged) (kind : Kind) (key : Key) (bytes : List ℕ) (n : Node) → T (is_sorted key_cmp n.blocks) → T (is_sorted key_cmp (answered judged n (question_as kind key bytes)).1.blocks)
+put_sorted : (judged : Key → List ℕ → Option Judged) (kind : BlockKind) (key : Key) (bytes : List ℕ) (n : Node) → T (is_sorted key_cmp n.blocks) → T (is_sorted key_cmp (answered judged n (question_as kind key bytes)).1.blocks)
 put_sorted judged Content key bytes n s = stored_sorted n key (content bytes) (content_fault key bytes n.blocks) s
 put_sorted judged Head key bytes n s = stored_sorted n key (head bytes) (head_fault judged key bytes n.blocks) s
 
@@ -146,15 +146,15 @@ module _ (judged : Key → List ℕ → Option Judged) (r : ℕ) (base : List Sh
 
   -- ---- a put to one that holds it then
 
-  pub record PutAt (key : Key) (kind : Kind) (bytes : List ℕ) (to : Peer) (w next : World) : Type 0 where
+  pub record PutAt (key : Key) (kind : BlockKind) (bytes : List ℕ) (to : Peer) (w next : World) : Type 0 where
     pub within : IsWithin base planned start next
-    pub rank_then : rank_in judged next key to ≡ raised (rank judged key (record { kind = kind; bytes = bytes })) (rank_in judged w key to)
+    pub rank_then : rank_in judged next key to ≡ raised (block_rank judged key (record { kind = kind; bytes = bytes })) (rank_in judged w key to)
     pub kind_then : (c : Block) → held_in next key to ≡ Some c → c.kind ≡ kind
     pub other_keys : (k : Key) → (k ≡ key → ⊥) → held_in next k to ≡ held_in w k to
     pub others : (q : Peer) → (q ≡ to → ⊥) → (k : Key) → held_in next k q ≡ held_in w k q
     pub sorted : AreSorted w → AreSorted next
 
-  put_at : (key : Key) (kind : Kind) (bytes : List ℕ) (to : Peer) (given : Answer) (w next : World) → IsWithin base planned start w → IsAmong to (made_by base) → ((c : Block) → held_in w key to ≡ Some c → c.kind ≡ kind)
+  put_at : (key : Key) (kind : BlockKind) (bytes : List ℕ) (to : Peer) (given : Answer) (w next : World) → IsWithin base planned start w → IsAmong to (made_by base) → ((c : Block) → held_in w key to ≡ Some c → c.kind ≡ kind)
       → holds given ≡ true → Fated judged r base planned start end b w to (question_as kind key bytes) given next → PutAt key kind bytes to w next
   put_at key kind bytes to given w next h made k held (silence g m l) = let t = subst (λ (x : Answer). holds x ≡ true) g held in absurd cc
   put_at key kind bytes to given w next h made k held (heard n e t g m) =
@@ -163,30 +163,30 @@ module _ (judged : Key → List ℕ → Option Judged) (r : ℕ) (base : List Sh
       let keep = put_keeps judged kind key bytes n in
       let me : peer_of now ≡ to = (λ i. (keep.0 i).me) ∙ at_n.me in
       let was : node_of w to ≡ Some n = node_is w to n e at_n.me in
-      let here : (x : Key) → held_in next x to ≡ under x now = λ x. ap (λ (v : World). held_in v x to) m ∙ ap (held_at x) (node_here (counted w) to n now e me) in
+      let here : (x : Key) → held_in next x to ≡ under x now = λ x. ap (λ (v : World). held_in v x to) m ∙ ap (held_at x) (node_here (ask_counted w) to n now e me) in
       let before : (x : Key) → held_in w x to ≡ under x n = λ x. ap (held_at x) was in
       let s = stores_at judged key kind bytes n (subst (λ (x : Answer). holds x ≡ true) g held) (λ c i. k c (before key ∙ i)) in
       let a = still_asked judged r base planned start end b w next to (question_as kind key bytes) given h (put_keeps judged kind key bytes) (heard n e t g m) in
       record {
         within = a.within;
-        rank_then = ap (option_map (rank judged key)) (here key) ∙ s.rank_then ∙ ap (λ o. raised (rank judged key (record { kind = kind; bytes = bytes })) (option_map (rank judged key) o)) (sym (before key));
+        rank_then = ap (option_map (block_rank judged key)) (here key) ∙ s.rank_then ∙ ap (λ o. raised (block_rank judged key (record { kind = kind; bytes = bytes })) (option_map (block_rank judged key) o)) (sym (before key));
         kind_then = λ c i. s.kind_then c (sym (here key) ∙ i);
         other_keys = λ x d. here x ∙ s.others x d ∙ sym (before x);
-        others = λ q d x. ap (λ (v : World). held_in v x q) m ∙ ap (held_at x) (node_other (counted w) to q n now e at_n.me me d);
-        sorted = λ sort. subst AreSorted (sym m) (sorted_with (counted w) n now (subst (λ x. at w.nodes x ≡ Some n) (sym (at_id w.nodes to.id n e) ∙ sym (λ i. (keep.0 i).me.id)) e) sort (put_sorted judged kind key bytes n (sort to.id n e)));
+        others = λ q d x. ap (λ (v : World). held_in v x q) m ∙ ap (held_at x) (node_other (ask_counted w) to q n now e at_n.me me d);
+        sorted = λ sort. subst AreSorted (sym m) (sorted_with (ask_counted w) n now (subst (λ x. at w.nodes x ≡ Some n) (sym (at_id w.nodes to.id n e) ∙ sym (λ i. (keep.0 i).me.id)) e) sort (put_sorted judged kind key bytes n (sort to.id n e)));
       }
 
   -- ---- puts to several, each once
 
-  pub record PutsAt (key : Key) (kind : Kind) (bytes : List ℕ) (told : Told) (w next : World) : Type 0 where
+  pub record PutsAt (key : Key) (kind : BlockKind) (bytes : List ℕ) (told : Told) (w next : World) : Type 0 where
     pub within : IsWithin base planned start next
-    pub ranks : (q : Peer) → IsAmong q (nodes told) → rank_in judged next key q ≡ raised (rank judged key (record { kind = kind; bytes = bytes })) (rank_in judged w key q)
+    pub ranks : (q : Peer) → IsAmong q (nodes told) → rank_in judged next key q ≡ raised (block_rank judged key (record { kind = kind; bytes = bytes })) (rank_in judged w key q)
     pub kinds : (q : Peer) (c : Block) → held_in next key q ≡ Some c → c.kind ≡ kind
     pub other_keys : (q : Peer) (k : Key) → (k ≡ key → ⊥) → held_in next k q ≡ held_in w k q
     pub others : (q : Peer) → (IsAmong q (nodes told) → ⊥) → (k : Key) → held_in next k q ≡ held_in w k q
     pub sorted : AreSorted w → AreSorted next
 
-  pub puts_at : (key : Key) (kind : Kind) (bytes : List ℕ) (told : Told) (asks : List (Peer × (Ask × Answer))) (w next : World) → IsWithin base planned start w → AllByRecursion (λ q. IsAmong q (made_by base)) (nodes told) → AreDistinct (nodes told)
+  pub puts_at : (key : Key) (kind : BlockKind) (bytes : List ℕ) (told : Told) (asks : List (Peer × (Ask × Answer))) (w next : World) → IsWithin base planned start w → AllByRecursion (λ q. IsAmong q (made_by base)) (nodes told) → AreDistinct (nodes told)
       → ((q : Peer) (c : Block) → held_in w key q ≡ Some c → c.kind ≡ kind) → AllByRecursion (λ s. holds s.1 ≡ true) told → asks ≡ asking (question_as kind key bytes) told → Fates judged w asks next → PutsAt key kind bytes told w next
   puts_at key kind bytes [] asks w next h made d k held e fates =
       subst (PutsAt key kind bytes [] w) (fates_none judged w next asks e fates) (record { within = h; ranks = λ q i. elim i [ ]; kinds = k; other_keys = λ q x n. refl; others = λ q n x. refl; sorted = λ s. s })
@@ -199,8 +199,8 @@ module _ (judged : Key → List ℕ → Option Judged) (r : ℕ) (base : List Sh
       record {
         within = g.within;
         ranks = λ q i. ⊎_elim
-            (λ same. subst (λ x. rank_in judged next key x ≡ raised (rank judged key (record { kind = kind; bytes = bytes })) (rank_in judged w key x)) same (ap (option_map (rank judged key)) (g.others s.0 d.0 key) ∙ f.rank_then))
-            (λ j. g.ranks q j ∙ ap (λ o. raised (rank judged key (record { kind = kind; bytes = bytes })) (option_map (rank judged key) o)) (f.others q (λ same. d.0 (subst (λ x. IsAmong x (nodes told)) same j)) key))
+            (λ same. subst (λ x. rank_in judged next key x ≡ raised (block_rank judged key (record { kind = kind; bytes = bytes })) (rank_in judged w key x)) same (ap (option_map (block_rank judged key)) (g.others s.0 d.0 key) ∙ f.rank_then))
+            (λ j. g.ranks q j ∙ ap (λ o. raised (block_rank judged key (record { kind = kind; bytes = bytes })) (option_map (block_rank judged key) o)) (f.others q (λ same. d.0 (subst (λ x. IsAmong x (nodes told)) same j)) key))
             i;
         kinds = g.kinds;
         other_keys = λ q x n. g.other_keys q x n ∙ ⊎_elim (λ same. subst (λ y. held_in one.mid x y ≡ held_in w x y) (sym same) (f.other_keys x n)) (λ m. f.others q m x) (peer_or_not q s.0);

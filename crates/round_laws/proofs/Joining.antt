@@ -49,7 +49,7 @@ map_more : {Y : Type 0} (f : Node → Y) (nodes : List Node) (n : Node) → map 
 map_more f [] n = refl
 map_more {Y = Y} f (m ∷ nodes) n = ap (λ (l : List Y). f m ∷ l) (map_more f nodes n)
 
--- the new node is behind the others
+-- the new node is after the others
 at_more : (nodes : List Node) (n m : Node) (id : Key) → at nodes id ≡ Some m → at (nodes ++ n ∷ []) id ≡ Some m
 at_more [] n m id e = absurd (none_some m e)
 at_more (k ∷ nodes) n m id e = ⊎_elim
@@ -184,14 +184,14 @@ module _ (r : ℕ) (w next : World) (x : Peer) (n : Node) (a : Added r w next x 
             (subst (AllByRecursion (λ q. IsAmong q (live_in_order next))) (sym ((λ j. (new_links j).fingers) ∙ fingers)) (all_replicated (λ q. IsAmong q (live_in_order next)) x 160 member)) i;
       }
 
-  -- those behind it stand elsewhere
+  -- those after it stand elsewhere
   behind : (m : Peer) → IsAmong m (following place (live_in_order next) x) → place m ≡ place x → ⊥
   behind m i s = ⊎_elim
       (λ j. let l = ltb-true (place x) (place m) (passes (λ y. nat_lt (place x) (place y)) m (live_in_order next) j) in absurd (omega (arith, l, s)))
       (λ j. let l = ltb-true (place m) (place x) (passes (λ y. nat_lt (place y) (place x)) m (live_in_order next) j) in absurd (omega (arith, l, s)))
       (among-cases m (filter (λ y. nat_lt (place x) (place y)) (live_in_order next)) (filter (λ y. nat_lt (place y) (place x)) (live_in_order next)) i)
 
-  -- what the new node adopts of the members behind it
+  -- what the new node adopts of the members after it
   adopts : take (2 * r) (filter (is_other place x) (take (2 * r) (following place (live_in_order next) x))) ≡ take (2 * r) (following place (live_in_order next) x)
   adopts =
       let all : List Peer = take (2 * r) (following place (live_in_order next) x) in

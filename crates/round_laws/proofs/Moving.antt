@@ -23,7 +23,7 @@ use Rattle.dht_ids.specs.declared.ask.Ask.TheVariants as ask
 use Rattle.dht_ids.specs.declared.judge.Judged.{Judged}
 use Rattle.dht_ids.specs.declared.peer.Peer.{Peer}
 use Rattle.dht_ids.specs.Peers.{place}
-use Rattle.dhash_model.specs.Course.{Told}
+use Rattle.dhash_model.specs.Execution.{Told}
 use Rattle.dhash_model.specs.Stores.{Block, Blocks}
 use Rattle.world_model.specs.Nodes.{Node}
 use Rattle.world_model.specs.World.{World, node_at}
@@ -34,7 +34,7 @@ use Rattle.world_model.specs.Rounds.EachDoes.{done, next as then_does}
 use Rattle.world_model.specs.Rounds.PutsAround.{no_route, puts}
 use Rattle.world_model.specs.Rounds.PutsAll.{done as all_put, keeps, drops}
 use Rattle.world_model.specs.RingOf.{own_node}
-use Rattle.world_model.specs.Holding.{held_in, rank, rank_in}
+use Rattle.world_model.specs.Holding.{held_in, block_rank, rank_in}
 use Rattle.round_laws.specs.RingOf.{links_in}
 use Rattle.round_laws.specs.Holding.{AllTaken, EachTaken, IsTaken, Tells}
 use Rattle.round_laws.proofs.Nodes.{Shape, id_itself, lives_by, made_by, not_tied, order_by, same_or_not, same_place, ties}
@@ -122,7 +122,7 @@ module _ (judged : Key → List ℕ → Option Judged) (r : ℕ) (base : List Sh
 
   pub record Around (key : Key) (block : Block) (p : Peer) (w next : World) (dropped : Bool) : Type 0 where
     pub state : IsRepairing next
-    pub ranks : (q : Peer) → IsAmong q (own key) → (q ≡ p → ⊥) → rank_in judged next key q ≡ raised (rank judged key block) (rank_in judged w key q)
+    pub ranks : (q : Peer) → IsAmong q (own key) → (q ≡ p → ⊥) → rank_in judged next key q ≡ raised (block_rank judged key block) (rank_in judged w key q)
     pub rest : (q : Peer) → (IsAmong q (own key) → ⊥) ⊎ (q ≡ p) → (k : Key) → held_in next k q ≡ held_in w k q
     pub other_keys : (q : Peer) (k : Key) → (k ≡ key → ⊥) → held_in next k q ≡ held_in w k q
     pub goes : MatchBool dropped (IsAmong p (own key) → ⊥) (IsAmong p (own key))
@@ -159,7 +159,7 @@ module _ (judged : Key → List ℕ → Option Judged) (r : ℕ) (base : List Sh
               (same_or_not k key);
           sorted = out.sorted sort_mid;
         };
-        ranks = λ x i d. out.ranks x (subst (IsAmong x) (sym to) (among_filter (is_other_peer judged p) x (take r all) i (is_other x (own_lives key x i) d))) ∙ ap (λ o. raised (rank judged key block) (option_map (rank judged key) o)) (same_held key x);
+        ranks = λ x i d. out.ranks x (subst (IsAmong x) (sym to) (among_filter (is_other_peer judged p) x (take r all) i (is_other x (own_lives key x i) d))) ∙ ap (λ o. raised (block_rank judged key block) (option_map (block_rank judged key) o)) (same_held key x);
         rest = λ x n k. out.others x (λ i. ⊎_elim (λ d. d (among_filtered (is_other_peer judged p) x (take r all) (subst (IsAmong x) to i))) (λ s. itself x s (subst (IsAmong x) to i)) n) k ∙ same_held k x;
         other_keys = other_keys;
         goes = is_dropped r settled.positive all distinct q qs is asks taken p acknowledged dropped put goes;
@@ -190,7 +190,7 @@ module _ (judged : Key → List ℕ → Option Judged) (r : ℕ) (base : List Sh
 
   -- what becomes of a key's block that the node holds
   pub record Moves (key : Key) (c : Block) (p : Peer) (w next : World) (dropped : List Key) : Type 0 where
-    pub ranks : (q : Peer) → IsAmong q (own key) → (q ≡ p → ⊥) → rank_in judged next key q ≡ raised (rank judged key c) (rank_in judged w key q)
+    pub ranks : (q : Peer) → IsAmong q (own key) → (q ≡ p → ⊥) → rank_in judged next key q ≡ raised (block_rank judged key c) (rank_in judged w key q)
     pub rest : (q : Peer) → (IsAmong q (own key) → ⊥) → held_in next key q ≡ held_in w key q
     pub stays : IsAmong p (own key) → IsAmong key dropped → ⊥
     pub goes : (IsAmong p (own key) → ⊥) → IsAmong key dropped
@@ -243,9 +243,9 @@ module _ (judged : Key → List ℕ → Option Judged) (r : ℕ) (base : List Sh
 
       its : (c : Block) → key ≡ k → block ≡ c → ((q : Peer) → held_in next key q ≡ held_in mid key q) × (IsAmong key dropped → ⊥) → Moves key c p w next (with_dropped drop k dropped)
       its c s is n = record {
-        ranks = λ q i d. ap (option_map (rank judged key)) (n.0 q)
-            ∙ subst (λ x. rank_in judged mid x q ≡ raised (rank judged x block) (rank_in judged w x q)) (sym s) (f.ranks q (subst (λ x. IsAmong q (own x)) s i) d)
-            ∙ ap (λ (x : Block). raised (rank judged key x) (rank_in judged w key q)) is;
+        ranks = λ q i d. ap (option_map (block_rank judged key)) (n.0 q)
+            ∙ subst (λ x. rank_in judged mid x q ≡ raised (block_rank judged x block) (rank_in judged w x q)) (sym s) (f.ranks q (subst (λ x. IsAmong q (own x)) s i) d)
+            ∙ ap (λ (x : Block). raised (block_rank judged key x) (rank_in judged w key q)) is;
         rest = λ q d. n.0 q ∙ f.rest q (inl (λ i. d (subst (λ x. IsAmong q (own x)) (sym s) i))) key;
         stays = λ i. stays_if drop f.goes s n.1 (subst (λ x. IsAmong p (own x)) s i);
         goes = λ d. goes_if drop f.goes s (λ i. d (subst (λ x. IsAmong p (own x)) (sym s) i));
@@ -253,7 +253,7 @@ module _ (judged : Key → List ℕ → Option Judged) (r : ℕ) (base : List Sh
 
       other : (c : Block) → (key ≡ k → ⊥) → Moves key c p mid next dropped → Moves key c p w next (with_dropped drop k dropped)
       other c d m = record {
-        ranks = λ q i n. m.ranks q i n ∙ ap (λ o. raised (rank judged key c) (option_map (rank judged key) o)) (f.other_keys q key d);
+        ranks = λ q i n. m.ranks q i n ∙ ap (λ o. raised (block_rank judged key c) (option_map (block_rank judged key) o)) (f.other_keys q key d);
         rest = λ q n. m.rest q n ∙ f.other_keys q key d;
         stays = λ i. not_added drop d (m.stays i);
         goes = λ n. added drop (m.goes n);
@@ -318,17 +318,17 @@ module _ (judged : Key → List ℕ → Option Judged) (r : ℕ) (base : List Sh
           → (o : Option Block) → value_at key_cmp key x.before.blocks ≡ o → IsMoved owns p (rank_in judged w key) (rank_in judged next key)
       by owns tells t was then_held here others None e =
           let n = t.none e in
-          idle (ap (option_map (rank judged key)) (was key ∙ e))
-          (λ m. ap (option_map (rank judged key)) (each (λ q. held_in next key q ≡ held_in w key q) p
+          idle (ap (option_map (block_rank judged key)) (was key ∙ e))
+          (λ m. ap (option_map (block_rank judged key)) (each (λ q. held_in next key q ≡ held_in w key q) p
           (here key ∙ is_left key x.after.blocks x.dropped n.1 ∙ sym (then_held key) ∙ t.own_blocks key)
           (λ q d. others q d key ∙ n.0 q) m))
       by owns tells t was then_held here others (Some c) e =
           let s = t.some c e in
-          moves (rank judged key c) (ap (option_map (rank judged key)) (was key ∙ e))
-          (λ m d o. ap (option_map (rank judged key)) (others m d key) ∙ s.ranks m ((tells m).0 o) d)
-          (λ m d o. ap (option_map (rank judged key)) (others m d key ∙ s.rest m (λ i. let u = (tells m).1 i in cc)))
-          (λ o. ap (option_map (rank judged key)) (here key ∙ is_left key x.after.blocks x.dropped (s.stays ((tells p).0 o)) ∙ sym (then_held key) ∙ t.own_blocks key))
-          (λ o. ap (option_map (rank judged key)) (here key ∙ is_gone key x.after.blocks x.dropped (s.goes (λ i. let u = (tells p).1 i in cc))))
+          moves (block_rank judged key c) (ap (option_map (block_rank judged key)) (was key ∙ e))
+          (λ m d o. ap (option_map (block_rank judged key)) (others m d key) ∙ s.ranks m ((tells m).0 o) d)
+          (λ m d o. ap (option_map (block_rank judged key)) (others m d key ∙ s.rest m (λ i. let u = (tells m).1 i in cc)))
+          (λ o. ap (option_map (block_rank judged key)) (here key ∙ is_left key x.after.blocks x.dropped (s.stays ((tells p).0 o)) ∙ sym (then_held key) ∙ t.own_blocks key))
+          (λ o. ap (option_map (block_rank judged key)) (here key ∙ is_gone key x.after.blocks x.dropped (s.goes (λ i. let u = (tells p).1 i in cc))))
 
   -- ---- all nodes
 

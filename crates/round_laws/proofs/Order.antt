@@ -4,7 +4,7 @@ use Rattle.std.specs.List.{AllByRecursion}
 use Rattle.std.specs.Ordering.{eq_by_cmp}
 use Rattle.std.proofs.lemmas.Bool.{cond-true, cond-false, eqb-true, eq-eqb, ltb-true, ltb-false}
 use Rattle.ivy_base.specs.Naming.{key_cmp}
-use Rattle.ring_model.specs.Members.{IsAmong, IsAscending}
+use Rattle.ring_model.specs.Members.{IsAmong, HasAscendingPlaces}
 use Rattle.ring_model.proofs.Lists.{all-among, among_filter, all_from}
 use Rattle.dht_ids.specs.declared.peer.Peer.{Peer}
 use Rattle.dht_ids.specs.Peers.{place}
@@ -49,7 +49,7 @@ fold_among x qs (p ∷ ps) h = ⊎_elim (λ i. ⊎_elim (λ e. inr (inl e)) (λ 
 
 -- ---- ascending
 
-ascending_with : (qs : List Peer) (p : Peer) → IsAscending place qs → ((q : Peer) → IsAmong q qs → place q ≡ place p → ⊥) → IsAscending place (with_peer qs p)
+ascending_with : (qs : List Peer) (p : Peer) → HasAscendingPlaces place qs → ((q : Peer) → IsAmong q qs → place q ≡ place p → ⊥) → HasAscendingPlaces place (with_peer qs p)
 ascending_with [] p a d = (tt, tt)
 ascending_with (q ∷ qs) p a d = by (nat_lt (place p) (place q)) refl (ascending_with qs p a.1 (λ x i. d x (inr i)))
   where
@@ -59,21 +59,21 @@ ascending_with (q ∷ qs) p a d = by (nat_lt (place p) (place q)) refl (ascendin
     under : place q < place p → AllByRecursion (λ y. place q < place y) (with_peer qs p)
     under l = all_from (λ y. place q < place y) (with_peer qs p) (λ y i. ⊎_elim (λ e. subst (λ z. place q < place z) e l) (λ j. all-among (λ z. place q < place z) y qs a.0 j) (with_among y qs p i))
 
-    by : (b : Bool) → nat_lt (place p) (place q) ≡ b → IsAscending place (with_peer qs p) → IsAscending place (cond b (p ∷ q ∷ qs) (q ∷ with_peer qs p))
+    by : (b : Bool) → nat_lt (place p) (place q) ≡ b → HasAscendingPlaces place (with_peer qs p) → HasAscendingPlaces place (cond b (p ∷ q ∷ qs) (q ∷ with_peer qs p))
     by true e rest = let l : place p < place q = ltb-true (place p) (place q) e in ((l, over l), a)
     by false e rest = let n = ltb-false (place p) (place q) e in let ne = d q (inl refl) in (under (less (place q) (place p) n ne), rest)
       where
         less : (m n : ℕ) → m ≤ n → (m ≡ n → ⊥) → m < n
         less m n l d = omega (arith, l, d)
 
-ascending_fold : (qs ps : List Peer) → IsAscending place qs → AreApart ps → ((q p : Peer) → IsAmong q qs → IsAmong p ps → place q ≡ place p → ⊥) → IsAscending place (fold with_peer qs ps)
+ascending_fold : (qs ps : List Peer) → HasAscendingPlaces place qs → AreApart ps → ((q p : Peer) → IsAmong q qs → IsAmong p ps → place q ≡ place p → ⊥) → HasAscendingPlaces place (fold with_peer qs ps)
 ascending_fold qs [] a apart d = a
 ascending_fold qs (p ∷ ps) a apart d =
     ascending_fold (with_peer qs p) ps (ascending_with qs p a (λ q i. d q p i (inl refl))) apart.1
     (λ q x i j. ⊎_elim (λ e s. all-among (λ z. place p ≡ place z → ⊥) x ps apart.0 j (ap place e ∙ s)) (λ k. d q x k (inr j)) (with_among q qs p i))
 
 -- lists that ascend and have the same members are one
-pub same_lists : (xs ys : List Peer) → IsAscending place xs → IsAscending place ys → ((m : Peer) → IsAmong m xs → IsAmong m ys) → ((m : Peer) → IsAmong m ys → IsAmong m xs) → xs ≡ ys
+pub same_lists : (xs ys : List Peer) → HasAscendingPlaces place xs → HasAscendingPlaces place ys → ((m : Peer) → IsAmong m xs → IsAmong m ys) → ((m : Peer) → IsAmong m ys → IsAmong m xs) → xs ≡ ys
 same_lists [] [] a b f g = refl
 same_lists [] (y ∷ ys) a b f g = elim (g y (inl refl)) [ ]
 same_lists (x ∷ xs) [] a b f g = elim (f x (inl refl)) [ ]
@@ -169,7 +169,7 @@ lives_made base p l = let r = shape_found base p l in subst (λ q. IsAmong q (ma
     mapped (t ∷ l) s (inl e) = inl (ap (λ (x : Shape). x.0) e)
     mapped (t ∷ l) s (inr h) = inr (mapped l s h)
 
-pub order_ascends : (base : List Shape) → AreApart (made_by base) → IsAscending place (order_by base)
+pub order_ascends : (base : List Shape) → AreApart (made_by base) → HasAscendingPlaces place (order_by base)
 order_ascends base apart = ascending_fold [] (map (λ (s : Shape). s.0) (filter (λ (s : Shape). s.1) base)) tt (kept base apart) (λ q p i. elim i [ ])
   where
     all_kept : (p : Peer) (l : List Shape) → AllByRecursion (λ q. place p ≡ place q → ⊥) (made_by l) → AllByRecursion (λ q. place p ≡ place q → ⊥) (map (λ (s : Shape). s.0) (filter (λ (s : Shape). s.1) l))

@@ -4,16 +4,16 @@ use Rattle.std.specs.List.{AllByRecursion}
 use Rattle.std.proofs.lemmas.Bool.{ltb-true, leb-true}
 use Rattle.std.proofs.lemmas.List.{take_all}
 use Rattle.std.proofs.lemmas.List.Sums.{length-filter}
-use Rattle.ring_model.specs.Gets.{AreAsks, AreFirsts, IsPut, answered_in, nodes}
+use Rattle.ring_model.specs.Gets.{AreAsks, AreFirsts, IsPutTrail, answered_in, nodes}
 use Rattle.ring_model.specs.Gets.AreFirsts.{none as no_more, again as seen_again, new as not_seen}
-use Rattle.ring_model.specs.Members.{IsAmong, IsAscending, from_place}
+use Rattle.ring_model.specs.Members.{IsAmong, HasAscendingPlaces, from_place}
 use Rattle.ring_model.proofs.Lists.{all-among, among-cases, among_filtered, among_take, all_from, filter_all, filter_gives}
 use Rattle.ring_model.proofs.Members.{ascending_filter}
 use Rattle.dht_ids.specs.declared.ask.Answer.{Answer}
 use Rattle.dht_ids.specs.declared.ask.Answer.TheVariants as answer
 use Rattle.dht_ids.specs.declared.peer.Peer.{Peer}
 use Rattle.dht_ids.specs.Peers.{place}
-use Rattle.dhash_model.specs.Course.{Told}
+use Rattle.dhash_model.specs.Execution.{Told}
 use Rattle.dhash_model.specs.Puts.{holds, is_of_put}
 use Rattle.world_model.specs.Rounds.{IsDropped}
 
@@ -40,14 +40,14 @@ distinct_both : (xs ys : List Peer) → AreDistinct xs → AreDistinct ys → ((
 distinct_both [] ys d e apart = e
 distinct_both (x ∷ xs) ys d e apart = (λ i. ⊎_elim (λ j. d.0 j) (λ j. apart x (inl refl) j) (among-cases x xs ys i), distinct_both xs ys d.1 e (λ m i j. apart m (inr i) j))
 
-pub distinct_ascending : (xs : List Peer) → IsAscending place xs → AreDistinct xs
+pub distinct_ascending : (xs : List Peer) → HasAscendingPlaces place xs → AreDistinct xs
 distinct_ascending [] a = tt
 distinct_ascending (x ∷ xs) a = (λ i. let l : place x < place x = all-among (λ z. place x < place z) x xs a.0 i in absurd (omega (arith, l)), distinct_ascending xs a.1)
 
 pub passes : (t : Peer → Bool) (m : Peer) (l : List Peer) → IsAmong m (filter t l) → t m ≡ true
 passes t m l i = all-among (λ y. t y ≡ true) m (filter t l) (filter_gives t (λ y. t y ≡ true) l (all_from (λ y. t y ≡ true → t y ≡ true) l (λ y j e. e))) i
 
-pub distinct_from_place : (live : List Peer) (key : ℕ) → IsAscending place live → AreDistinct (from_place place live key)
+pub distinct_from_place : (live : List Peer) (key : ℕ) → HasAscendingPlaces place live → AreDistinct (from_place place live key)
 distinct_from_place live key a =
     distinct_both (filter (λ m. nat_le key (place m)) live) (filter (λ m. nat_lt (place m) key) live)
     (distinct_ascending (filter (λ m. nat_le key (place m)) live) (ascending_filter place (λ m. nat_le key (place m)) live a))
@@ -143,7 +143,7 @@ module _ (r : ℕ) (pos : 1 ≤ r) (all : List Peer) (distinct : AreDistinct all
       shorter : (n m : ℕ) → m ≡ min (2 * r) n → m ≤ r → n ≤ r
       shorter n m e l = omega (arith, e, l, pos)
 
-  pub is_acknowledged : (acknowledged : Bool) → IsPut is_of_put holds r (q ∷ qs) asks acknowledged → acknowledged ≡ true
+  pub is_acknowledged : (acknowledged : Bool) → IsPutTrail is_of_put holds r (q ∷ qs) asks acknowledged → acknowledged ≡ true
   is_acknowledged true p = refl
   is_acknowledged false p = absurd (p.ends (⊎_elim
       (λ enough. inl (subst (λ n. r ≤ n) (answered ∙ sym (all_answered holds asks held)) enough))
@@ -157,6 +157,6 @@ module _ (r : ℕ) (pos : 1 ≤ r) (all : List Peer) (distinct : AreDistinct all
           omega (arith, size, count)
 
   -- the block is dropped where the node is none of the owners
-  pub is_dropped : (p : Peer) (acknowledged dropped : Bool) → IsPut is_of_put holds r (q ∷ qs) asks acknowledged → IsDropped p asks acknowledged dropped → MatchBool dropped (IsAmong p (take r all) → ⊥) (IsAmong p (take r all))
+  pub is_dropped : (p : Peer) (acknowledged dropped : Bool) → IsPutTrail is_of_put holds r (q ∷ qs) asks acknowledged → IsDropped p asks acknowledged dropped → MatchBool dropped (IsAmong p (take r all) → ⊥) (IsAmong p (take r all))
   is_dropped p acknowledged true put d = λ i. d.1 (subst (IsAmong p) (sym (asked_are_owners put.asks)) i)
   is_dropped p acknowledged false put d = subst (IsAmong p) (asked_are_owners put.asks) (d (is_acknowledged acknowledged put))

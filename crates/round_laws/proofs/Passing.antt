@@ -18,7 +18,7 @@ use Rattle.dht_ids.specs.Peers.{place}
 use Rattle.dhash_model.specs.State.{State, stabilised}
 use Rattle.world_model.specs.Nodes.{Node}
 use Rattle.world_model.specs.World.{World, node_at, with_node}
-use Rattle.world_model.specs.Fates.{counted}
+use Rattle.world_model.specs.Fates.{ask_counted}
 use Rattle.world_model.specs.Rounds.{EachDoes, ManyDo, Notifies, Stabilises, listing_now}
 use Rattle.world_model.specs.Rounds.EachDoes.{done, next as then_does}
 use Rattle.world_model.specs.Rounds.ManyDo.{none as not_once, again as once_more}
@@ -56,7 +56,7 @@ module _ (judged : Key → List ℕ → Option Judged) (r : ℕ) (base : List Sh
   told_by w next p f rest given h made made_f (was_heard n e s g m) grows =
       let s = stands judged r base planned start end b w f n h made_f e in
       let k = h.known f.id n e in
-      let c = relinked judged r base planned start end b (counted w) f n (notified place n.ring.me n.ring.links p) (counted_within judged r base planned start end b w h) made_f e (
+      let c = relinked judged r base planned start end b (ask_counted w) f n (notified place n.ring.me n.ring.links p) (counted_within judged r base planned start end b w h) made_f e (
         all_some (λ q. IsAmong q (made_by base)) n.ring.links.list p k.list made,
         k.fingers,
         some_nearest (λ q. IsAmong q (made_by base)) n.ring.me n.ring.links.before p k.before made,

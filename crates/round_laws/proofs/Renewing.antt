@@ -2,7 +2,7 @@
 use Rattle.std.proofs.Common.{◌≡◌, ◌⊎◌, inl, inr, ⊎_elim, ℕ, zero, suc, ◌*◌, Bool, true, false, cond, List, [], ◌∷◌, ◌++◌, take, refl, sym, ap, ◌∙◌, subst, Option, Some, None, IfSome, nat_eq, find}
 use Rattle.std.specs.List.{AllByRecursion}
 use Rattle.std.proofs.lemmas.Bool.{cond-true, cond-false, eq-eqb}
-use Rattle.ring_model.specs.Arc.{is_inside}
+use Rattle.ring_model.specs.Arc.{is_strictly_between}
 use Rattle.ring_model.specs.Members.{first}
 use Rattle.ring_model.specs.Ring.{Links}
 use Rattle.ring_model.specs.Pass.{IsStabilised, between_them, heard, list_after, nearest_before, notified, renewed, some_list, until}
@@ -28,7 +28,7 @@ all_until P n (x ∷ xs) a = by (nat_eq (place x) (place n)) (all_until P n xs a
 
 all_between : (P : Peer → Type 0) (n a : Peer) (before : Option Peer) → IfSome before P → AllByRecursion P (between_them place n a before)
 all_between P n a None h = tt
-all_between P n a (Some b) h = by (is_inside (place n) (place b) (place a))
+all_between P n a (Some b) h = by (is_strictly_between (place n) (place b) (place a))
   where
     by : (t : Bool) → AllByRecursion P (cond t (b ∷ []) [])
     by true = (h, tt)
@@ -44,7 +44,7 @@ all_some P (x ∷ xs) p all h = all
 
 pub some_nearest : (P : Peer → Type 0) (n : Peer) (before : Option Peer) (p : Peer) → IfSome before P → P p → IfSome (nearest_before place n before p) P
 some_nearest P n None p h here = here
-some_nearest P n (Some b) p h here = by (is_inside (place b) (place p) (place n))
+some_nearest P n (Some b) p h here = by (is_strictly_between (place b) (place p) (place n))
   where
     by : (t : Bool) → IfSome (cond t (Some p) (Some b)) P
     by true = here
@@ -67,7 +67,7 @@ first_until n (x ∷ xs) g e = by (nat_eq (place x) (place n)) refl e
 
 first_between : (n a : Peer) (before : Option Peer) (list : List Peer) (g : Peer) → first (between_them place n a before ++ a ∷ list) ≡ Some g → (a ≡ g) ⊎ (before ≡ Some g)
 first_between n a None list g e = inl (some_same a g e)
-first_between n a (Some b) list g e = by (is_inside (place n) (place b) (place a)) e
+first_between n a (Some b) list g e = by (is_strictly_between (place n) (place b) (place a)) e
   where
     by : (t : Bool) → first (cond t (b ∷ []) [] ++ a ∷ list) ≡ Some g → (a ≡ g) ⊎ (Some b ≡ Some g)
     by true f = inr f
@@ -134,7 +134,7 @@ Living lives ring = (p b : Peer) → lives p ≡ true → (ring p).before ≡ So
 
 nearest_is : (n : Peer) (before : Option Peer) (p b : Peer) → nearest_before place n before p ≡ Some b → (p ≡ b) ⊎ (before ≡ Some b)
 nearest_is n None p b e = inl (some_same p b e)
-nearest_is n (Some c) p b e = by (is_inside (place c) (place p) (place n)) e
+nearest_is n (Some c) p b e = by (is_strictly_between (place c) (place p) (place n)) e
   where
     by : (t : Bool) → cond t (Some p) (Some c) ≡ Some b → (p ≡ b) ⊎ (Some c ≡ Some b)
     by true f = inl (some_same p b f)

@@ -7,10 +7,10 @@ use Rattle.dht_ids.specs.declared.ask.Ask.TheVariants as ask
 use Rattle.dht_ids.specs.declared.ask.StoreFault.{StoreFault}
 use Rattle.dht_ids.specs.declared.judge.Judged.{Judged}
 use Rattle.dht_ids.specs.declared.peer.Peer.{Peer}
-use Rattle.dhash_model.specs.Course.{Told}
+use Rattle.dhash_model.specs.Execution.{Told}
 use Rattle.dhash_model.specs.Stores.{Block, Blocks, content, content_fault, head, head_fault}
-use Rattle.dhash_model.specs.declared.kind.Kind.{Kind}
-use Rattle.dhash_model.specs.declared.kind.Kind.TheVariants.{Content, Head}
+use Rattle.dhash_model.specs.declared.kind.BlockKind.{BlockKind}
+use Rattle.dhash_model.specs.declared.kind.BlockKind.TheVariants.{Content, Head}
 use Rattle.world_model.specs.Nodes.{Node, stored}
 use Rattle.world_model.specs.World.{World, node_at, peer_of, with_node}
 use Rattle.world_model.specs.Fates.{Fates, asking}
@@ -28,7 +28,7 @@ stored_keeps : (n : Node) (key : Key) (block : Block) (fault : Option StoreFault
 stored_keeps n key block (Some fault) = (refl, refl)
 stored_keeps n key block None = (refl, refl)
 
-pub put_keeps : (judged : Key → List ℕ → Option Judged) (kind : Kind) (key : Key) (bytes : List ℕ) → KeepsRing judged (question_as kind key bytes)
+pub put_keeps : (judged : Key → List ℕ → Option Judged) (kind : BlockKind) (key : Key) (bytes : List ℕ) → KeepsRing judged (question_as kind key bytes)
 put_keeps judged Content key bytes n = stored_keeps n key (content bytes) (content_fault key bytes n.blocks)
 put_keeps judged Head key bytes n = stored_keeps n key (head bytes) (head_fault judged key bytes n.blocks)
 

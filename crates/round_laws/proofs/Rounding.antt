@@ -2,7 +2,7 @@
 use Rattle.std.proofs.Common.{◌≡◌, inl, inr, ℕ, suc, ◌*◌, ◌<◌, ◌≤◌, Bool, true, List, [], ◌∷◌, map, filter, refl, sym, ap, ◌∙◌, subst, Option, Some, None, Contains, arith, le_refl}
 use Rattle.std.specs.List.{AllByRecursion}
 use Rattle.ivy_base.specs.declared.key.Key.{Key}
-use Rattle.ring_model.specs.Members.{IsAmong, IsAscending}
+use Rattle.ring_model.specs.Members.{IsAmong, HasAscendingPlaces}
 use Rattle.ring_model.specs.Ring.{Links, IsSettledRing}
 use Rattle.ring_model.specs.Round.{AreFingersFixed, IsForgotten, IsRound}
 use Rattle.ring_model.specs.Pass.{ArePasses}
@@ -183,11 +183,11 @@ order_in r w p h l =
     let b = base_of r w w.asked h (λ k l m c. omega (arith, l, m)) in
     subst (IsAmong p) (sym (order_shape w)) (lives_order (shapes_of w) p (sym (λ t. lives_are (λ k bytes. None) r (shapes_of w) w.lost w.asked w.asked b w (within_of r w h) t p) ∙ l))
 
-pub order_ascending : (r : ℕ) (w : World) → AreNodes r w → IsAscending place (live_in_order w)
-order_ascending r w h = subst (IsAscending place) (sym (order_shape w)) (order_ascends (shapes_of w) (subst AreApart (made_shape w.nodes) h.apart))
+pub order_ascending : (r : ℕ) (w : World) → AreNodes r w → HasAscendingPlaces place (live_in_order w)
+order_ascending r w h = subst (HasAscendingPlaces place) (sym (order_shape w)) (order_ascends (shapes_of w) (subst AreApart (made_shape w.nodes) h.apart))
 
 -- a ring that is settled with the members in another list
-settled_in : (judged : Key → List ℕ → Option Judged) (r : ℕ) (w next : World) (live : List Peer) → AreNodes r w → IsRoundOf judged r w next → IsAscending place live → ((m : Peer) → IsAmong m live → lives_in w m ≡ true)
+settled_in : (judged : Key → List ℕ → Option Judged) (r : ℕ) (w next : World) (live : List Peer) → AreNodes r w → IsRoundOf judged r w next → HasAscendingPlaces place live → ((m : Peer) → IsAmong m live → lives_in w m ≡ true)
     → ((m : Peer) → lives_in w m ≡ true → IsAmong m live) → IsSettledRing place r 160 live (lives_in w) (links_in next) → IsSettledIn next r
 settled_in judged r w next live h x asc lives all s =
     let after = leaves_who_lives judged r w next h x in

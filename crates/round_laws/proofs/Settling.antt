@@ -20,7 +20,7 @@ use Rattle.world_model.specs.Nodes.{Node}
 use Rattle.world_model.specs.World.{World}
 use Rattle.world_model.specs.Ring.{live_in_order}
 use Rattle.world_model.specs.RingOf.{lives_in}
-use Rattle.world_model.specs.Holding.{rank, rank_in}
+use Rattle.world_model.specs.Holding.{block_rank, rank_in}
 use Rattle.round_laws.specs.RingOf.{IsSettledIn, links_in}
 use Rattle.round_laws.specs.Holding.{AreStores, Tells}
 use Rattle.round_laws.specs.Laws.{BlocksMove, RoundMovesBlocks}
@@ -93,5 +93,5 @@ round_moves_blocks judged r w next h few stores settled x taken quiet key owns t
     }) (lives_in_order r w next.asked b) x.repairs taken (le_refl next.asked) in
     subst (λ f. AreMoved owns (live_in_order w) f (rank_in judged next key)) (λ t p. ranks (same key p) t) moved
   where
-    ranks : {o q : Option Block} → o ≡ q → option_map (rank judged key) o ≡ option_map (rank judged key) q
-    ranks e = ap (option_map (rank judged key)) e
+    ranks : {o q : Option Block} → o ≡ q → option_map (block_rank judged key) o ≡ option_map (block_rank judged key) q
+    ranks e = ap (option_map (block_rank judged key)) e

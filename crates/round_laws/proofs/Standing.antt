@@ -15,7 +15,7 @@ use Rattle.dht_ids.specs.declared.peer.Peer.{Peer}
 use Rattle.dhash_model.specs.State.{State, with_links}
 use Rattle.world_model.specs.Nodes.{Node, answered}
 use Rattle.world_model.specs.World.{World, node_at, peer_of, with_node}
-use Rattle.world_model.specs.Fates.{FateOf, counted}
+use Rattle.world_model.specs.Fates.{FateOf, ask_counted as counted}
 use Rattle.world_model.specs.Fates.FateOf.{lost as was_lost, stopped as was_stopped, answers as was_answered}
 use Rattle.world_model.specs.RingOf.{lives_in, own_node}
 use Rattle.round_laws.specs.RingOf.{AreApart, KnowsOnly, links_in, no_links}

@@ -13,19 +13,19 @@ use Rattle.dht_ids.specs.declared.ask.StoreFault.TheVariants.{WrongName, Older, 
 use Rattle.dht_ids.specs.declared.judge.Judged.{Judged}
 use Rattle.dhash_model.specs.Puts.{holds}
 use Rattle.dhash_model.specs.Stores.{Block, Blocks, content, content_fault, full, head, head_fault, not_judged, number_at, number_of, older}
-use Rattle.dhash_model.specs.declared.kind.Kind.{Kind}
-use Rattle.dhash_model.specs.declared.kind.Kind.TheVariants.{Content, Head}
+use Rattle.dhash_model.specs.declared.kind.BlockKind.{BlockKind}
+use Rattle.dhash_model.specs.declared.kind.BlockKind.TheVariants.{Content, Head}
 use Rattle.node_store.proofs.Maps.{keys_total}
 use Rattle.world_model.specs.Nodes.{Node, answered, stored}
 use Rattle.world_model.specs.Rounds.{question_as}
-use Rattle.world_model.specs.Holding.{rank}
+use Rattle.world_model.specs.Holding.{block_rank as rank}
 use Rattle.round_laws.proofs.Nodes.{id_itself, not_tied}
 
 abbrev pub under : Key → Node → Option Block
 under key n = value_at key_cmp key n.blocks
 
 -- what a put did at a node
-pub record StoresAt (judged : Key → List ℕ → Option Judged) (key : Key) (kind : Kind) (bytes : List ℕ) (old new : Node) : Type 0 where
+pub record StoresAt (judged : Key → List ℕ → Option Judged) (key : Key) (kind : BlockKind) (bytes : List ℕ) (old new : Node) : Type 0 where
   pub rank_then : option_map (rank judged key) (under key new) ≡ raised (rank judged key (record { kind = kind; bytes = bytes })) (option_map (rank judged key) (under key old))
   pub kind_then : (c : Block) → under key new ≡ Some c → c.kind ≡ kind
   pub others : (other : Key) → (other ≡ key → ⊥) → under other new ≡ under other old
@@ -45,7 +45,7 @@ content_raised : (judged : Key → List ℕ → Option Judged) (key : Key) (o : 
 content_raised judged key None k = refl
 content_raised judged key (Some c) k = by (rank judged key c) (of_content c.kind c.bytes (k c refl))
   where
-    of_content : (kind : Kind) (bytes : List ℕ) → kind ≡ Content → rank judged key (record { kind = kind; bytes = bytes }) ≡ 0
+    of_content : (kind : BlockKind) (bytes : List ℕ) → kind ≡ Content → rank judged key (record { kind = kind; bytes = bytes }) ≡ 0
     of_content Content bytes e = refl
     of_content Head bytes e = cc
 
@@ -141,7 +141,7 @@ module _ (judged : Key → List ℕ → Option Judged) (key : Key) (bytes : List
       (by_number k j (number_at judged key n.blocks) e refl (subst (λ (o : Option Judged). holds (stored n key (head bytes) (option_or (not_judged o) (option_or (older (number_at judged key n.blocks) o) (full key (head bytes) n.blocks)))).0 ≡ true) e h))
 
 -- a put that is answered so, of either kind
-pub stores_at : (judged : Key → List ℕ → Option Judged) (key : Key) (kind : Kind) (bytes : List ℕ) (n : Node) → holds (answered judged n (question_as kind key bytes)).0 ≡ true → ((c : Block) → under key n ≡ Some c → c.kind ≡ kind)
+pub stores_at : (judged : Key → List ℕ → Option Judged) (key : Key) (kind : BlockKind) (bytes : List ℕ) (n : Node) → holds (answered judged n (question_as kind key bytes)).0 ≡ true → ((c : Block) → under key n ≡ Some c → c.kind ≡ kind)
     → StoresAt judged key kind bytes n (answered judged n (question_as kind key bytes)).1
 stores_at judged key Content bytes n h k = content_stored judged key bytes n (content_fault key bytes n.blocks) (never_older key bytes n.blocks) k h
 stores_at judged key Head bytes n h k = head_by judged key bytes n h k (judged key bytes) refl

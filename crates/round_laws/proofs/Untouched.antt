@@ -9,14 +9,14 @@ use Rattle.dht_ids.specs.declared.ask.Ask.{Ask}
 use Rattle.dht_ids.specs.declared.ask.Ask.TheVariants as ask
 use Rattle.dht_ids.specs.declared.judge.Judged.{Judged}
 use Rattle.dht_ids.specs.declared.peer.Peer.{Peer}
-use Rattle.dhash_model.specs.Course.{Told}
+use Rattle.dhash_model.specs.Execution.{Told}
 use Rattle.ring_model.specs.Round.{with_finger}
 use Rattle.ring_model.proofs.Lists.{none_some, some_same}
 use Rattle.dhash_model.specs.State.{stabilised, with_links}
 use Rattle.dhash_model.specs.Stores.{Block, Blocks}
 use Rattle.world_model.specs.Nodes.{Node, answered}
 use Rattle.world_model.specs.World.{World, node_at, peer_of, with_node}
-use Rattle.world_model.specs.Fates.{FateOf, Fates, asking, counted}
+use Rattle.world_model.specs.Fates.{FateOf, Fates, asking, ask_counted}
 use Rattle.world_model.specs.Fates.FateOf.{lost as was_lost, stopped as was_stopped, answers as was_answered}
 use Rattle.world_model.specs.Rounds.{EachDoes, FixesFinger, FixesFrom, Forgets, IsRoundOf, ManyDo, Notifies, Stabilises, listing_now}
 use Rattle.world_model.specs.Rounds.EachDoes.{done, next as then_does}
@@ -52,7 +52,7 @@ module _ (judged : Key → List ℕ → Option Judged) where
   of_fate : (w next : World) (to : Peer) (question : Ask) (given : Answer) → ((n : Node) → store (answered judged n question).1 ≡ store n) → FateOf judged w to question given next → Untouched w next
   of_fate w next to question given s (was_lost l) id = refl
   of_fate w next to question given s (was_stopped n l e f) id = refl
-  of_fate w next to question given s (was_answered n l e f) id = of_node (counted w) to.id n (answered judged n question).1 e (s n) id
+  of_fate w next to question given s (was_answered n l e f) id = of_node (ask_counted w) to.id n (answered judged n question).1 e (s n) id
 
   of_routes : (key : Key) (told : Told) (asks : List (Peer × (Ask × Answer))) (w next : World) → asks ≡ asking (ask.Route key) told → Fates judged w asks next → Untouched w next
   of_routes key [] asks w next e fates = λ id. ap (λ (v : World). option_map store (node_at v id)) (sym (fates_none judged w next asks e fates))

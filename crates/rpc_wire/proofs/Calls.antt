@@ -121,7 +121,7 @@ too_many_groups {count} {groups} {a} {b} {c} f many gone = record { told = cases
     cases (Some a) None None p gone = no_count one_word 16 (omega arith) p
     cases (Some a) (Some b) None p gone = too_many one_word 16 (omega arith) p many
 
--- ---- the body of AUTH_SYS, with nothing behind it
+-- ---- the body of AUTH_SYS, with nothing after it
 
 pub whole_system : {bytes : List ℕ} {s : System} {now : Option (List ℕ)} → Reads SystemFits system (Some bytes) s now → now ≡ Some [] → SystemFits s × (bytes ≡ system s)
 whole_system {bytes} {s} {now} f all = cases now f.told all

@@ -31,7 +31,7 @@ one_header true false m n r s f g e =
     let p = one_word.one (2 ^ 31 + m) n r s (omega arith) (omega arith) e in
     absurd (omega (arith, p.0))
 
--- ---- whole fragments, and what stands behind them
+-- ---- whole fragments, and what stands after them
 
 abbrev pub whole : List (List ℕ) → List ℕ
 whole = flat_map (fragment false)
@@ -40,7 +40,7 @@ pub concat-append : (a b : List (List ℕ)) → concat (a ++ b) ≡ concat a ++ 
 concat-append [] b = refl
 concat-append (x ∷ a) b = ap (λ (s : List ℕ). x ++ s) (concat-append a b) ∙ sym (append_assoc x (concat a) (concat b))
 
--- a header at one place is that of one of the whole fragments, or stands behind them
+-- a header at one place is that of one of the whole fragments, or stands after them
 pub record AmongThem (a b : List (List ℕ)) (last : Bool) (n : ℕ) : Type 0 where
   pub earlier : last ≡ false
   pub short : length (concat b) + n ≤ length (concat a)

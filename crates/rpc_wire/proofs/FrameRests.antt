@@ -123,7 +123,7 @@ each_has_messages bytes f = let r = reached bytes f in (r.reader.waiting, of_par
 
 -- ---- rests
 
--- more bytes behind a fragment that was begun make a whole message
+-- more bytes after a fragment that was begun make a whole message
 record Completes (front : List ℕ) (last : Bool) (left : ℕ) : Type 0 where
   framed : Framed
   more : List ℕ

@@ -1,4 +1,4 @@
--- What was read since a moment can be taken back: it stands behind what was there.
+-- What was read since a moment can be taken back: it stands after what was there.
 use Rattle.std.proofs.Common.{◌≡◌, ℕ, suc, ◌+◌, ◌<◌, ◌≤◌, List, [], ◌∷◌, ◌++◌, length, take, refl, sym, ap, ◌∙◌, arith, append_assoc, append-nil, length-append}
 use Rattle.std.proofs.Math.Seq.{take-append_seam}
 use Rattle.rpc_wire.specs.declared.stream.Stream.{Stream}

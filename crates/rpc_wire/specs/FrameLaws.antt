@@ -11,11 +11,11 @@ abbrev pub WholeAreSplit : Type 0
 WholeAreSplit = (framed : List Framed) → AllByRecursion Fits framed → IsSplit (flat_map marked framed) (map message framed) []
 
 -- bytes are split in one way only, have one row of messages in front of one that is too long, and not both
-abbrev pub SplitsAreOne : Type 0
-SplitsAreOne = (bytes : List ℕ) (m n : List (List ℕ)) (r s : List ℕ) → IsSplit bytes m r → IsSplit bytes n s → (m ≡ n) × (r ≡ s)
+abbrev pub SplitsAreUnique : Type 0
+SplitsAreUnique = (bytes : List ℕ) (m n : List (List ℕ)) (r s : List ℕ) → IsSplit bytes m r → IsSplit bytes n s → (m ≡ n) × (r ≡ s)
 
-abbrev pub TooLongAreOne : Type 0
-TooLongAreOne = (bytes : List ℕ) (m n : List (List ℕ)) → IsTooLong bytes m → IsTooLong bytes n → m ≡ n
+abbrev pub TooLongAreUnique : Type 0
+TooLongAreUnique = (bytes : List ℕ) (m n : List (List ℕ)) → IsTooLong bytes m → IsTooLong bytes n → m ≡ n
 
 abbrev pub NeverBoth : Type 0
 NeverBoth = (bytes : List ℕ) (m n : List (List ℕ)) (r : List ℕ) → IsSplit bytes m r → IsTooLong bytes n → ⊥

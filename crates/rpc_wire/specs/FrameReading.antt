@@ -17,7 +17,7 @@ pub record Frames : Type 0 where
   pub waiting : List (List ℕ)
   pub part : Part
 
--- the rest of a stream, behind its whole messages, ends in front of a fragment or in its header
+-- the rest of a stream, after its whole messages, ends in front of a fragment or in its header
 pub record IsAtHeader (rest body begun : List ℕ) : Type 0 where
   pub earlier : List (List ℕ)
   pub spelled : rest ≡ flat_map (fragment false) earlier ++ begun
@@ -27,7 +27,7 @@ pub record IsAtHeader (rest body begun : List ℕ) : Type 0 where
   -- between two fragments of one message `IsInside` has it
   pub begins : begun ≡ [] → earlier ≡ []
 
--- it ends in a fragment, or right behind one that isn't its message's last
+-- it ends in a fragment, or right after one that isn't its message's last
 pub record IsInside (rest body : List ℕ) (last : Bool) (left : ℕ) : Type 0 where
   pub earlier : List (List ℕ)
   pub bytes : List ℕ

@@ -40,7 +40,7 @@ pub record Begins (bytes : List ℕ) (messages : List (List ℕ)) (rest : List �
   pub are : messages ≡ map message framed
   pub spelled : bytes ≡ flat_map marked framed ++ rest
 
--- behind whole fragments of a message comes a header that makes the message longer than the limit
+-- after whole fragments of a message comes a header that makes the message longer than the limit
 pub record IsOver (bytes : List ℕ) : Type 0 where
   pub earlier : List (List ℕ)
   pub last : Bool
@@ -58,7 +58,7 @@ pub record IsSplit (bytes : List ℕ) (messages : List (List ℕ)) (rest : List 
   pub no_message : HasNoFront Fits marked rest
   pub no_over : IsOver rest → ⊥
 
--- behind these whole messages stands one that is too long
+-- after these whole messages stands one that is too long
 pub record IsTooLong (bytes : List ℕ) (messages : List (List ℕ)) : Type 0 where
   pub rest : List ℕ
   pub begins : Begins bytes messages rest

@@ -1,7 +1,8 @@
 -- What stands in a reply in front of a procedure's result (RFC 5531, section 9).
 use Rattle.std.specs.Prelude.{◌≡◌, ◌≢◌, ℕ, List, ◌++◌}
 use Rattle.wire_model.specs.Xdr.{word}
-use Rattle.wire_model.specs.Rpc.{Outcome, Success, ProgramUnavailable, ProgramMismatch, ProcedureUnavailable, GarbageArguments, SystemError}
+use Rattle.wire_model.specs.Rpc.{CallOutcome, Success, ProgramUnavailable, ProgramMismatch, ProcedureUnavailable, GarbageArguments}
+use Rattle.wire_model.specs.Rpc.{SystemError}
 use Rattle.wire_model.specs.Rpc.{RpcMismatch, BadCredential, accepted, denied, reply}
 use Rattle.rpc_wire.specs.declared.reply.ReplyHead.{ReplyHead}
 use Rattle.rpc_wire.specs.declared.reply.ReplyHead.TheVariants as head
@@ -17,7 +18,7 @@ head_bytes xid head.RpcMismatch = denied xid (word 0 ++ word 2 ++ word 2)
 head_bytes xid head.BadCred = denied xid (word 1 ++ word 1)
 
 -- the outcome that a head tells, with the result of a success
-abbrev pub outcome_of : ReplyHead → List ℕ → Outcome
+abbrev pub outcome_of : ReplyHead → List ℕ → CallOutcome
 outcome_of head.Success result = Success result
 outcome_of head.ProgUnavail result = ProgramUnavailable
 outcome_of (head.ProgMismatch low high) result = ProgramMismatch low high

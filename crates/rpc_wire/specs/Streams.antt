@@ -20,13 +20,13 @@ frames_of s = record { waiting = s.whole.items; part = part_of s.body.items s.pl
 abbrev pub nothing : Frames
 nothing = record { waiting = []; part = Header [] [] }
 
--- in a fragment of which so many bytes are to come, or, where it is the last and none is, behind the message
+-- in a fragment of which so many bytes are to come, or, where it is the last and none is, after the message
 abbrev pub standing : List (List ℕ) → List ℕ → Bool → ℕ → Frames
 standing waiting body true zero = record { waiting = waiting ++ body ∷ []; part = Header [] [] }
 standing waiting body true (suc left) = record { waiting = waiting; part = Inside body true (suc left) }
 standing waiting body false left = record { waiting = waiting; part = Inside body false left }
 
--- behind a header, which may make the message too long
+-- after a header, which may make the message too long
 abbrev pub AfterHeader : List (List ℕ) → List ℕ → List ℕ → Frames → Type 0
 AfterHeader waiting body bytes new = (last : Bool) × (size : ℕ) × (size < 2 ^ 31) × (bytes ≡ header last size)
     × (((length body + size ≤ longest_message) × (new ≡ standing waiting body last size))

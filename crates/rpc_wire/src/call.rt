@@ -50,7 +50,7 @@ pub struct Call<'a> {
     pub procedure: u32,
     /// Whose call it is: `None` where the credential is of an unknown flavour, or its body isn't of its form.
     pub caller: Option<Caller>,
-    /// The bytes behind the verifier.
+    /// The bytes after the verifier.
     pub args: &'a [u8],
 }
 
@@ -59,7 +59,7 @@ pub struct Call<'a> {
 pub enum Heading<'a> {
     /// A call of RPC version 2.
     Good(Call<'a>),
-    /// A call of another version: nothing behind the version is looked at.
+    /// A call of another version: nothing after the version is looked at.
     Mismatch { xid: u32 },
     /// No call.
     NotACall,
@@ -153,7 +153,7 @@ fn caller_of(credential: &Credential<'_>) -> Option<Caller>
     }
 }
 
-/// The caller that a body of AUTH_SYS spells, with nothing behind it.
+/// The caller that a body of AUTH_SYS spells, with nothing after it.
 fn read_system(body: &[u8]) -> Option<Caller>
     ensures caller { IsSystemCallerOf body.now result }
     ensures few { IfSome result (λ c. c.count ≤ 16) }

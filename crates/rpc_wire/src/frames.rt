@@ -3,7 +3,7 @@
 ghost use Rattle.std.specs.Prelude.{◌≡◌, ℕ, List, [], ◌∷◌, ◌++◌, MatchOption, MatchResult};
 ghost use Rattle.rpc_wire.specs.Frames.{IsSplit};
 ghost use Rattle.rpc_wire.specs.FrameReading.{Exceeded, IsAfter, HasFed};
-ghost use Rattle.rpc_wire.specs.FrameLaws.{WholeAreSplit, SplitsAreOne, TooLongAreOne, NeverBoth, EachHasMessages, RestsAreBeginnings, AllAreGotten, CuttingIsFree};
+ghost use Rattle.rpc_wire.specs.FrameLaws.{WholeAreSplit, SplitsAreUnique, TooLongAreUnique, NeverBoth, EachHasMessages, RestsAreBeginnings, AllAreGotten, CuttingIsFree};
 
 use crate::stream::Stream;
 use ivy_base::{Bytes, Memory};
@@ -17,7 +17,7 @@ pub enum FrameFault {
     /// A fragment's header makes a message longer than 65,536 bytes.
     #[error("a message is longer than 65,536 bytes")]
     TooLong,
-    /// Want of memory. No clause ties this to a cause.
+    /// Out of memory. No clause ties this to a cause.
     #[error("out of memory")]
     Memory,
 }
@@ -30,7 +30,7 @@ pub struct Cut;
 ///
 /// Contracts see the whole messages that wait and the part of a further one that is held. `IsAfter` says what these are
 /// by all bytes that were fed and all messages that were taken: however the bytes were cut into pieces, the messages
-/// taken and those that wait are those of the bytes ([`crate::frames_are_one`]).
+/// taken and those that wait are those of the bytes ([`crate::frames_are_unambiguous`]).
 ///
 /// Each byte is looked at and copied once, and no memory is taken for bytes that a header only announces.
 #[derive(Drop)]
@@ -101,10 +101,10 @@ impl FrameReader {
 /// Bytes are whole messages and the beginning of a further one, or have a message that is too long, and never both; either
 /// way they determine the messages. Whatever pieces a new reader is fed, and whatever is taken between, the messages taken
 /// and those that wait are those of all bytes fed, so it doesn't matter how the bytes were cut.
-pub fn frames_are_one()
+pub fn frames_are_unambiguous()
     ensures whole { WholeAreSplit }
-    ensures split { SplitsAreOne }
-    ensures too_long { TooLongAreOne }
+    ensures split { SplitsAreUnique }
+    ensures too_long { TooLongAreUnique }
     ensures never_both { NeverBoth }
     ensures each { EachHasMessages }
     ensures rests { RestsAreBeginnings }

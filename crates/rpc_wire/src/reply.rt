@@ -54,7 +54,7 @@ pub enum ReplyHead {
     ProcUnavail,
     /// The arguments can't be read.
     GarbageArgs,
-    /// The call could not be done, as for want of memory.
+    /// The call could not be done, as when out of memory.
     SystemErr,
     /// Denied: the call is of another version of RPC than 2.
     RpcMismatch,

@@ -20,13 +20,13 @@ const LAST: u32 = 0x8000_0000;
 pub enum Place {
     /// Between two messages.
     Between,
-    /// In a header, behind its first byte, its first two or its first three.
+    /// In a header, after its first byte, its first two or its first three.
     One(u8),
     Two(u8, u8),
     Three(u8, u8, u8),
     /// In a fragment of which so many bytes are to come. Where none is, a further fragment of the message follows.
     Inside { last: bool, left: usize },
-    /// Behind a header that makes its message too long.
+    /// After a header that makes its message too long.
     TooLong,
 }
 

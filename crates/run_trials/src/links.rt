@@ -102,7 +102,7 @@ pub struct TwoLinks {
     ends: u64,
 }
 
-/// A link, which is the first one or the second one. The error is want of memory.
+/// A link, which is the first one or the second one. The error is: out of memory.
 fn link(
     alloc: Global,
     board: &Arc<Board, Global>,
@@ -123,7 +123,7 @@ fn link(
 }
 
 impl TwoLinks {
-    /// Ports that give the two links of a board. The error is want of memory.
+    /// Ports that give the two links of a board. The error is: out of memory.
     pub fn new(alloc: Global, board: &Arc<Board, Global>) -> Result<TwoLinks, Memory> {
         let mut links = Vec::new(alloc);
         links.push(link(alloc, board, true)?)?;

@@ -1,12 +1,12 @@
 //! The words `crowd`, `serve` and `fork`, and that sessions run beside each other.
 //!
 //! Each line is a call of `run`: its words, or what is tried; the status; and what the sink was told, with a comma for the end of
-//! a line and only the length of the name of the newest record. `no answer` is want of memory.
+//! a line and only the length of the name of the newest record. `no answer` means out of memory.
 //!
 //! - By `serve` over two links of its own: the first one's last byte comes only once the second one has its reply, or where that
 //!   was looked for a thousand million times. On threads both links get their reply, and one loop over the links would leave the
 //!   first one without.
-//! - By `fork` over each line of standard input: a name, and behind a blank what `fork` reads, where `/` stands for the end of a
+//! - By `fork` over each line of standard input: a name, and after a blank what `fork` reads, where `/` stands for the end of a
 //!   line. The answers are those of the rules, or of a model of the program in another language, which made the proofs.
 //! - By `crowd 2 1` over clocks of its own: each clock that a session is given gives its moment only once two of them were asked,
 //!   or where that was looked for as often. On threads no clock looks in vain, and on one thread the first one would.
@@ -64,7 +64,7 @@ struct Ran {
     told: String,
 }
 
-/// Calls `run` with these words, over this input. The keepers' call of that number fails, from 1 on. The error is want of
+/// Calls `run` with these words, over this input. The keepers' call of that number fails, from 1 on. The error is: out of
 /// memory.
 fn obey<R: Threads + Wait + Sync, C: Clock, P: Ports + Send>(
     rt: &R,
@@ -119,7 +119,7 @@ fn plain<R: Print + Threads + Wait + Sync>(
     show_named(rt, line, ran)
 }
 
-/// Prints what came of the word `fork`, over the input that stands in the line behind a name.
+/// Prints what came of the word `fork`, over the input that stands in the line after a name.
 fn check_proof<R: Print + Threads + Wait + Sync>(
     rt: &R,
     alloc: Global,
@@ -139,7 +139,7 @@ fn check_proof<R: Print + Threads + Wait + Sync>(
     }
 }
 
-/// The bytes of a text in which `/` stands for the end of a line. The error is want of memory.
+/// The bytes of a text in which `/` stands for the end of a line. The error is: out of memory.
 fn input_of(alloc: Global, text: &str) -> Result<Bytes, Memory> {
     let mut bytes = Vec::new(alloc);
     for byte in text.bytes() {
@@ -192,7 +192,7 @@ fn two_clocks<R: Print + Threads + Wait + Sync>(rt: &R, alloc: Global) -> io::Re
     }
 }
 
-/// Prints a line of what came, behind its name.
+/// Prints a line of what came, after its name.
 fn show_named<R: Print>(rt: &R, name: &str, ran: Result<Ran, Memory>) -> io::Result<()> {
     match ran {
         Ok(ran) => {

@@ -1,4 +1,4 @@
--- What was read and taken: lines that are obeyed one after the other, and the part of a line behind them.
+-- What was read and taken: lines that are obeyed one after the other, and the part of a line after them.
 use Rattle.std.proofs.Common.{◌≡◌, ℕ, ◌+◌, ◌≤◌, ◌^◌, List, [], ◌∷◌, ◌++◌, length, Option, Some, None, refl, sym, ap, ◌∙◌, append_assoc, arith, length-append}
 use Rattle.std.specs.List.{AllByRecursion}
 use Rattle.std.proofs.lemmas.List.{append-nil, take_all}
@@ -78,7 +78,7 @@ module _ {World : Type 0} (step : World → List ℕ → Outcome World → Type 
     takes = rw (flat_map-append (λ (line : List ℕ). line ++ 10 ∷ []) a.lines b.lines) (takes_more (with_newlines a.lines) (with_newlines b.lines) old script new before between left a.takes b.takes);
   }
 
-  -- a reader waits behind those lines
+  -- a reader waits after those lines
   pub stops_short : (first : World) (IsLast : World → Type 0) (from : World → Ran → Type 0) (old script new : Script) (before between left : Option (List ℕ)) (start : Ran → Type 0) (held holds next : Option (List ℕ)) → ahead old ≡ [] → old.budget ≡ 2 ^ 40
       → TellsOn (Advances step first IsLast from old script before between) start held holds → Waits script new between left → next ≡ holds → StopsShort step first before left held next
   stops_short first IsLast from old script new before between left start held holds next nothing budget a waits same =

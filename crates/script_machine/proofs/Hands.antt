@@ -7,25 +7,25 @@ use Rattle.turn_model.specs.Basis.{fresh_basis}
 use Rattle.script_model.specs.Words.{◌>>=◌}
 use Rattle.script_model.specs.declared.command.Piece.{Piece}
 use Rattle.script_model.specs.Messages.{Given, message_of}
-use Rattle.session_model.specs.Courses.Begins.{alone as begins_alone, refreshes as begins_refreshing}
+use Rattle.session_model.specs.Executions.Begins.{alone as begins_alone, refreshes as begins_refreshing}
 use Rattle.session_model.specs.Sessions.{Over, Said, Session}
-use Rattle.world_model.specs.Calls.{BeginsWith, Sending, replied, scene_of, sending_of}
+use Rattle.world_model.specs.Calls.{BeginsWith, Sending, replied, configuration_of, sending_of}
 use Rattle.world_model.specs.Logs.{Played}
 use Rattle.world_model.specs.Nodes.{Node}
-use Rattle.world_model.specs.Steps.{Scene}
-use Rattle.world_model.specs.Story.{beginning, began_of, having_begun}
+use Rattle.world_model.specs.Steps.{Configuration}
+use Rattle.world_model.specs.GhostState.{beginning, began_of, having_begun}
 use Rattle.world_model.specs.World.{NamedSession, Participant, World, participant}
-use Rattle.world_laws.specs.Keeps.{HasRing, IsAtStage, IsInHand}
+use Rattle.world_laws.specs.Invariant.{HasRing, IsAtStage, IsInHand}
 use Rattle.world_laws.proofs.Beginning.{calls_begin}
 use Rattle.world_laws.proofs.Bringing.{found_named}
 use Rattle.world_laws.proofs.OpenSessions.{begun_keeps, named_hand}
 use Rattle.world_laws.proofs.SessionLinesSteps.{runs_lead}
-use Rattle.script_world.specs.CallsState.{CallState, IsShownOf, LeavesGiven, ParticipantState, Served, ShowsBy, ShowsSession, state_of}
+use Rattle.script_world.specs.CallsState.{CallState, IsRepresentedOf, LeavesGiven, ParticipantState, Served, RepresentsBy, RepresentsSession, state_of}
 use Rattle.script_world.specs.PartsState.{HasParts, PartsState}
-use Rattle.script_world.specs.Running.{BeginsOf, IsSceneIn, IsShownIn, MayCall, RepliesIn, RunsOutIn}
+use Rattle.script_world.specs.Running.{BeginsOf, IsConfigurationIn, IsRepresentedIn, MayCall, RepliesIn, RunsOutIn}
 use Rattle.script_world.proofs.Sent.{sends, sends_in}
 use Rattle.script_machine.specs.Ends.{EndsIn}
-use Rattle.script_machine.specs.WorldState.{HasWorld, IsOpenAs, KeepsAll, OpenState, ShowsWorld, WorldState}
+use Rattle.script_machine.specs.WorldState.{HasWorld, IsOpenAs, KeepsAll, OpenState, RepresentsWorld, WorldState}
 use Rattle.script_machine.proofs.Opened.{has_name}
 
 -- ---- calls may begin
@@ -53,7 +53,7 @@ pub record IsBegun (s : PartsState) (w : World) (log : List ℕ) (pieces : List 
   pub sends : sending_of w log pieces ≡ Some sending
   pub session : Session
   pub begins : BeginsWith w sending session
-  pub shown : IsShownIn s session call
+  pub shown : IsRepresentedIn s session call
 
 pub begun_so : (s : PartsState) (w : World) (log : List ℕ) (pieces : List Piece) (call : CallState) → BeginsOf s (Some call) w (sending_of w log pieces) → IsBegun s w log pieces call
 begun_so s w log pieces call begins = by (sending_of w log pieces) refl begins
@@ -91,13 +91,13 @@ begins_by : (w : World) (s : Sending) (t : Session) → BeginsWith w s t → t.b
 begins_by w s _ (begins_alone given by) = refl
 begins_by w s _ (begins_refreshing xid asked asks) = refl
 
-module _ (s : WorldState) (w : Played) (shows : ShowsWorld s w) (keeps : KeepsAll w) where
+module _ (s : WorldState) (w : Played) (shows : RepresentsWorld s w) (keeps : KeepsAll w) where
   module _ (log : List ℕ) (pieces : List Piece) (call : CallState) (is : IsBegun s.parts w.0 log pieces call) where
     abbrev pub r : ℕ
     r = call.session.replicas
 
-    abbrev pub start : Scene
-    start = record { world = w.0; story = having_begun w.1; session = is.session; began = beginning w.1 is.sending.by.name }
+    abbrev pub start : Configuration
+    start = record { world = w.0; ghost_state = having_begun w.1; session = is.session; began = beginning w.1 is.sending.by.name }
 
     pub ringed : w.0.replicas ≡ Some r
     ringed = shows.parts.replicas ∙ is.shown.replicas
@@ -114,8 +114,8 @@ module _ (s : WorldState) (w : Played) (shows : ShowsWorld s w) (keeps : KeepsAl
     pub begun_hand : IsInHand start r
     begun_hand = calls_begin w r is.sending is.session keeps.0 ringed (subst (λ (n : List ℕ). participant w.0 n ≡ Some is.sending.by) (sym named) sent.0) sent.1 is.begins
 
-    pub begun_scene : IsSceneIn s.parts log call start r
-    begun_scene = record {
+    pub begun_configuration : IsConfigurationIn s.parts log call start r
+    begun_configuration = record {
       way = record { keeps = begun_keeps w keeps.0 r ringed; ring = ringed; hand = inl begun_hand };
       parts = shows.parts;
       named = begun_by;
@@ -126,14 +126,14 @@ module _ (s : WorldState) (w : Played) (shows : ShowsWorld s w) (keeps : KeepsAl
   -- ---- one that is open
 
   module _ (name : List ℕ) (t : NamedSession) (o : OpenState) (found : find (has_name name) w.0.sessions ≡ Some t) (is : IsOpenAs w.0.replicas t o) where
-    abbrev pub here : Scene
-    here = scene_of w t.session (began_of w.1 name)
+    abbrev pub here : Configuration
+    here = configuration_of w t.session (began_of w.1 name)
 
     pub open_hand : IsInHand here o.call.session.replicas
     open_hand = (named_hand w keeps.0 o.call.session.replicas is.replicas name t.session (ap (option_map (λ (x : NamedSession). x.session)) found)).0
 
-    pub open_scene : IsSceneIn s.parts o.by o.call here o.call.session.replicas
-    open_scene = record {
+    pub open_configuration : IsConfigurationIn s.parts o.by o.call here o.call.session.replicas
+    open_configuration = record {
       way = record { keeps = keeps.0; ring = is.replicas; hand = inl open_hand };
       parts = shows.parts;
       named = is.by;
@@ -144,14 +144,14 @@ module _ (s : WorldState) (w : Played) (shows : ShowsWorld s w) (keeps : KeepsAl
 -- ---- one that has come to its end
 
 -- it has said something
-said_then : (c : Scene) (r : ℕ) (call : CallState) → IsTrue (is_some call.told) → ShowsSession c.session call → IsInHand c r → (said : Said) × (c.session.stage ≡ Over (Some said))
+said_then : (c : Configuration) (r : ℕ) (call : CallState) → IsTrue (is_some call.told) → RepresentsSession c.session call → IsInHand c r → (said : Said) × (c.session.stage ≡ Over (Some said))
 said_then c r call told shows hand = by call.told told shows
   where
     some_said : (o : Option Said) → c.session.stage ≡ Over o → IsTrue (is_some o) → (said : Said) × (c.session.stage ≡ Over (Some said))
     some_said None over some = absurd (cc some)
     some_said (Some said) over some = (said, over)
 
-    by : (o : Option Served) → IsTrue (is_some o) → ShowsBy c.session call o → (said : Said) × (c.session.stage ≡ Over (Some said))
+    by : (o : Option Served) → IsTrue (is_some o) → RepresentsBy c.session call o → (said : Said) × (c.session.stage ≡ Over (Some said))
     by None some is = absurd (cc some)
     by (Some served) some is = some_said is.said is.is_over (subst (IsAtStage c.world r c.session) is.is_over hand.goes_on.stage)
 
@@ -164,10 +164,10 @@ replied_ring w said = by (is_some said.message)
     by false = refl
 
 pub ends_so : (name : List ℕ) (before : PartsState) (old : CallState) (after : PartsState) (new : CallState) (text : List ℕ) (given : Option Given) (later : PartsState)
-    → RunsOutIn name before old after new → IsShownOf new text → LeavesGiven new given → RepliesIn given after later → EndsIn name before old later text
-ends_so name before old after new text given later runs shown leaves replies c r scene hand =
-    let to = runs.1 c r scene in
-    let led = runs_lead r name to.1 scene.named scene.way.keeps hand scene.way.ring in
+    → RunsOutIn name before old after new → IsRepresentedOf new text → LeavesGiven new given → RepliesIn given after later → EndsIn name before old later text
+ends_so name before old after new text given later runs shown leaves replies c r configuration hand =
+    let to = runs.1 c r configuration in
+    let led = runs_lead r name to.1 configuration.named configuration.way.keeps hand configuration.way.ring in
     let said = said_then to.0 r new runs.0 to.2.shown.shows led.leaves.1 in
     record {
       end = to.0;

@@ -14,24 +14,24 @@ use Rattle.world_model.specs.Calls.FinishLine.{not_open as none_to_end, ends}
 use Rattle.world_model.specs.Calls.OpenLine.{sends_nothing as open_nothing, is_open, opens}
 use Rattle.world_model.specs.Calls.StepLine.{not_open as none_to_step, out_of_range, steps}
 use Rattle.world_model.specs.Logs.{Played}
-use Rattle.world_model.specs.Steps.{RunsOut, Scene, StepsOn}
-use Rattle.world_model.specs.Story.{beginning, having_begun, with_began, without_began}
+use Rattle.world_model.specs.Steps.{RunsOut, Configuration, StepsOn}
+use Rattle.world_model.specs.GhostState.{beginning, having_begun, with_began, without_began}
 use Rattle.world_model.specs.World.{NamedSession, session_named, with_session, without_session}
 use Rattle.world_laws.proofs.Placed.{found_among}
-use Rattle.world_laws.specs.Keeps.{IsInHand}
+use Rattle.world_laws.specs.Invariant.{IsInHand}
 use Rattle.world_laws.proofs.SessionLinesSteps.{Leads, steps_on_lead}
 use Rattle.script_world.specs.CallsState.{CallState}
 use Rattle.script_world.specs.PartsState.{HasParts, PartsState}
-use Rattle.script_world.specs.Running.{BeginsOf, HasSceneIn, IsSceneIn, LeadsTo, StepsOnIn}
+use Rattle.script_world.specs.Running.{BeginsOf, HasConfigurationIn, IsConfigurationIn, LeadsTo, StepsOnIn}
 use Rattle.script_machine.specs.Ends.{EndsIn, IsEnd}
-use Rattle.script_machine.specs.WorldState.{AreOpenAs, HasWorld, IsOpenAs, KeepsAll, OpenState, ShowsWorld, WorldState}
-use Rattle.script_machine.proofs.Hands.{IsBegun, begun_by, begun_hand, begun_scene, begun_so, here, named, nothing_sent, open_hand, open_scene, replied_ring, ringed, start}
+use Rattle.script_machine.specs.WorldState.{AreOpenAs, HasWorld, IsOpenAs, KeepsAll, OpenState, RepresentsWorld, WorldState}
+use Rattle.script_machine.proofs.Hands.{IsBegun, begun_by, begun_hand, begun_configuration, begun_so, here, named, nothing_sent, open_hand, open_configuration, replied_ring, ringed, start}
 use Rattle.script_machine.proofs.Opened.{IsFoundAs, closed, found_as, has_name, is_named, moved, one_more, placed, put_back}
 
-module _ (s : WorldState) (w : Played) (shows : ShowsWorld s w) (keeps : KeepsAll w) where
+module _ (s : WorldState) (w : Played) (shows : RepresentsWorld s w) (keeps : KeepsAll w) where
   -- the line goes on in that world, and leaves one that the code's may be then
   abbrev pub GoesOnTo : (Outcome Played → Type 0) → List ℕ → WorldState → Type 0
-  GoesOnTo Line text after = (next : Played) × Line (Goes next text) × ShowsWorld after next
+  GoesOnTo Line text after = (next : Played) × Line (Goes next text) × RepresentsWorld after next
 
   -- ---- as
 
@@ -49,14 +49,14 @@ module _ (s : WorldState) (w : Played) (shows : ShowsWorld s w) (keeps : KeepsAl
         r : ℕ
         r = call.session.replicas
 
-        first : Scene
+        first : Configuration
         first = start s w shows keeps log pieces call is
 
         e : IsEnd after text log first r
-        e = ends_so first r (begun_scene s w shows keeps log pieces call is) (begun_hand s w shows keeps log pieces call is)
+        e = ends_so first r (begun_configuration s w shows keeps log pieces call is) (begun_hand s w shows keeps log pieces call is)
 
         next : Played
-        next = (replied e.end.world e.said, e.end.story)
+        next = (replied e.end.world e.said, e.end.ghost_state)
 
         counts : HasParts next.0 after × (next.0.sessions ≡ e.end.world.sessions)
         counts = e.counts e.end.world.sessions
@@ -151,11 +151,11 @@ module _ (s : WorldState) (w : Played) (shows : ShowsWorld s w) (keeps : KeepsAl
         abbrev r : ℕ
         r = o.call.session.replicas
 
-        abbrev pub first : Scene
+        abbrev pub first : Configuration
         first = here s w shows keeps name t o found as_open
 
-        pub its_scene : IsSceneIn s.parts o.by o.call first r
-        its_scene = open_scene s w shows keeps name t o found as_open
+        pub its_configuration : IsConfigurationIn s.parts o.by o.call first r
+        its_configuration = open_configuration s w shows keeps name t o found as_open
 
         its_hand : IsInHand first r
         its_hand = open_hand s w shows keeps name t o found as_open
@@ -169,20 +169,20 @@ module _ (s : WorldState) (w : Played) (shows : ShowsWorld s w) (keeps : KeepsAl
             → GoesOnTo (StepLine hss_judged w name count (session_named w.0 name)) [] (record { parts = after; sessions = set s.sessions place (record o { call = new }) })
         steps_one count within after new on = (next, line, record { parts = parts; sessions = sessions })
           where
-            to : (end : Scene) × StepsOn hss_judged r o.by count first end × LeadsTo after new first end
-            to = on first r its_scene
+            to : (end : Configuration) × StepsOn hss_judged r o.by count first end × LeadsTo after new first end
+            to = on first r its_configuration
 
-            end : Scene
+            end : Configuration
             end = to.0
 
             led : Leads first end r
-            led = steps_on_lead r o.by to.1 its_scene.named its_scene.way.keeps its_hand its_scene.way.ring
+            led = steps_on_lead r o.by to.1 its_configuration.named its_configuration.way.keeps its_hand its_configuration.way.ring
 
             again : NamedSession
             again = record { name = name; session = end.session }
 
             next : Played
-            next = (with_session end.world name end.session, with_began end.story name end.began)
+            next = (with_session end.world name end.session, with_began end.ghost_state name end.began)
 
             line : StepLine hss_judged w name count (session_named w.0 name) (Goes next [])
             line = subst (λ (x : Option Session). StepLine hss_judged w name count x (Goes next [])) (sym its_session)
@@ -210,10 +210,10 @@ module _ (s : WorldState) (w : Played) (shows : ShowsWorld s w) (keeps : KeepsAl
         ends_one after text ends_so = (next, line, record { parts = counts.0; sessions = sessions })
           where
             e : IsEnd after text o.by first r
-            e = ends_so first r its_scene its_hand
+            e = ends_so first r its_configuration its_hand
 
             next : Played
-            next = (replied (without_session e.end.world name) e.said, without_began e.end.story name)
+            next = (replied (without_session e.end.world name) e.said, without_began e.end.ghost_state name)
 
             counts : HasParts next.0 after × (next.0.sessions ≡ filter (λ (u : NamedSession). not (bytes_eq u.name name)) e.end.world.sessions)
             counts = e.counts (filter (λ (u : NamedSession). not (bytes_eq u.name name)) e.end.world.sessions)
@@ -232,10 +232,10 @@ pub not_yet : (name : List ℕ) (place : Option ℕ) (os : List OpenState) → p
 not_yet name None os is none = sym is
 not_yet name (Some i) os is none = absurd (cc none)
 
-pub found_already : (s : WorldState) (w : Played) → ShowsWorld s w → KeepsAll w → (name : List ℕ) (place : Option ℕ) → place ≡ position (is_named name) s.sessions → is_some place ≡ true → (x : Option Sending) → OpenLine hss_judged w name x Refuses
+pub found_already : (s : WorldState) (w : Played) → RepresentsWorld s w → KeepsAll w → (name : List ℕ) (place : Option ℕ) → place ≡ position (is_named name) s.sessions → is_some place ≡ true → (x : Option Sending) → OpenLine hss_judged w name x Refuses
 found_already s w shows keeps name None is some x = absurd (cc some)
 found_already s w shows keeps name (Some i) is some x = is_open_already s w shows keeps name i (sym is) x
 
--- some scene in hand is that of the open session at a place
-pub has_scene : (s : WorldState) → HasWorld s → (name : List ℕ) (place : ℕ) → position (is_named name) s.sessions ≡ Some place → (o : OpenState) → o ≡ get_or s.sessions place o → HasSceneIn s.parts o.by o.call
-has_scene s (w, shows, keeps) name place at o is = (first s w shows keeps name place at o is, o.call.session.replicas, its_scene s w shows keeps name place at o is)
+-- some configuration in hand is that of the open session at a place
+pub has_configuration : (s : WorldState) → HasWorld s → (name : List ℕ) (place : ℕ) → position (is_named name) s.sessions ≡ Some place → (o : OpenState) → o ≡ get_or s.sessions place o → HasConfigurationIn s.parts o.by o.call
+has_configuration s (w, shows, keeps) name place at o is = (first s w shows keeps name place at o is, o.call.session.replicas, its_configuration s w shows keeps name place at o is)

@@ -5,7 +5,7 @@ use Rattle.std.specs.List.{position, position_or_len, remove}
 use Rattle.std.specs.Str.{bytes_eq}
 use Rattle.log_model.proofs.Lists.{here, there}
 use Rattle.world_model.specs.World.{NamedSession}
-use Rattle.world_laws.specs.Keeps.{AreApart}
+use Rattle.world_laws.specs.Invariant.{AreApart}
 use Rattle.world_laws.proofs.Placed.{same_name}
 use Rattle.script_machine.specs.WorldState.{AreOpenAs, IsOpenAs, OpenState}
 

@@ -10,7 +10,7 @@ use Rattle.world_model.specs.Ring.{RingLine}
 use Rattle.world_model.specs.Ring.RingLine.{exceeds, makes, refused}
 use Rattle.world_model.specs.Step.{Untold}
 use Rattle.world_model.specs.World.{World, NamedSession}
-use Rattle.world_laws.specs.Keeps.{HasRing, Keeps}
+use Rattle.world_laws.specs.Invariant.{HasRing, Invariant}
 use Rattle.script_world.specs.PartsState.{DoesIn, PartsState, PlaysIn}
 use Rattle.script_machine.specs.WorldState.{AreOpenAs, KeepsAll, LineDoes, OpenState, WorldState}
 use Rattle.script_machine.proofs.Opened.{moved}
@@ -21,7 +21,7 @@ abbrev pub state : PartsState → List OpenState → WorldState
 state parts sessions = record { parts = parts; sessions = sessions }
 
 module _ (opened : List OpenState) (before after : PartsState) where
-  -- a line that the story doesn't tell of
+  -- a line that the ghost state doesn't tell of
   module _ (Does : World → Outcome World → Type 0) where
     abbrev Line : Played → Outcome Played → Type 0
     Line w outcome = Untold w (Does w.0) outcome
@@ -64,7 +64,7 @@ module _ (opened : List OpenState) (before after : PartsState) where
     function_line (Ok how) stays does = function_in how stays does
     function_line (Err e) stays does = tt
 
-  -- a line of worlds with their stories
+  -- a line of worlds with their ghost states
   module _ (Does : Played → Outcome Played → Type 0) where
     played_in : (how : Taken) → ((w : Played) (outcome : Outcome Played) → Does w outcome → StaysPlayed w.0.replicas outcome) → PlaysIn Does before how after → LineDoes Does (state before opened) how (state after opened)
     played_in (taken.Went output) stays does w shows keeps =
@@ -97,7 +97,7 @@ module _ (opened : List OpenState) (before after : PartsState) where
   NoneBefore w (Goes next output) = w.0.sessions ≡ []
   NoneBefore w o = Unit {0}
 
-  none_before : (w : Played) (count r : ℕ) (outcome : Outcome World) → Keeps w → RingLine w.0 count r outcome → NoneBefore w outcome
+  none_before : (w : Played) (count r : ℕ) (outcome : Outcome World) → Invariant w → RingLine w.0 count r outcome → NoneBefore w outcome
   none_before w count r _ keeps (refused h) = tt
   none_before w count r _ keeps (exceeds h g) = tt
   none_before w count r _ keeps (makes nodes h g settled) = no_ring w w.0.replicas count r keeps.ring h

@@ -34,7 +34,7 @@ Stays before Ends = Unit {0}
 Stays before Refuses = Unit {0}
 Stays before Exceeds = Unit {0}
 
--- the same of worlds with their stories
+-- the same of worlds with their ghost states
 abbrev pub StaysPlayed : Option ℕ → Outcome Played → Type 0
 StaysPlayed before (Goes next output) = next.0.replicas ≡ before
 StaysPlayed before Ends = Unit {0}

@@ -7,17 +7,17 @@ use Rattle.script_driver.specs.declared.machine.Taken.TheVariants as taken
 use Rattle.session_model.specs.Sessions.{Over, Said}
 use Rattle.script_world.specs.CallsState.{CallState}
 use Rattle.world_model.specs.Calls.{replied, shown_end}
-use Rattle.world_model.specs.Steps.{RunsOut, Scene}
+use Rattle.world_model.specs.Steps.{RunsOut, Configuration}
 use Rattle.world_model.specs.World.{NamedSession}
-use Rattle.world_laws.specs.Keeps.{IsInHand}
+use Rattle.world_laws.specs.Invariant.{IsInHand}
 use Rattle.script_world.specs.PartsState.{GoesOn, PartsState}
-use Rattle.script_world.specs.Running.{IsSceneIn}
+use Rattle.script_world.specs.Running.{IsConfigurationIn}
 use Rattle.script_machine.specs.WorldState.{OpenState}
 
--- All steps up to the end of a session in hand lead to a scene that has said something, which is shown. The world has these parts once that
--- counts for later lines, whichever sessions are open then.
-pub record IsEnd (after : PartsState) (text : List ℕ) (name : List ℕ) (c : Scene) (r : ℕ) : Type 0 where
-  pub end : Scene
+-- All steps up to the end of a session in hand lead to a configuration that has said something, which is shown. The world has these parts
+-- once that counts for later lines, whichever sessions are open then.
+pub record IsEnd (after : PartsState) (text : List ℕ) (name : List ℕ) (c : Configuration) (r : ℕ) : Type 0 where
+  pub end : Configuration
   pub said : Said
   pub runs : RunsOut hss_judged r name c end
   pub over : end.session.stage ≡ Over (Some said)
@@ -27,9 +27,10 @@ pub record IsEnd (after : PartsState) (text : List ℕ) (name : List ℕ) (c : S
   pub counts : (others : List NamedSession)
       → GoesOn (record end.world { sessions = others }) after (replied (record end.world { sessions = others }) said)
 
--- so from each scene that the code has
+-- so from each configuration that the code has
 abbrev pub EndsIn : List ℕ → PartsState → CallState → PartsState → List ℕ → Type 0
-EndsIn name before call after text = (c : Scene) (r : ℕ) → IsSceneIn before name call c r → IsInHand c r → IsEnd after text name c r
+EndsIn name before call after text =
+    (c : Configuration) (r : ℕ) → IsConfigurationIn before name call c r → IsInHand c r → IsEnd after text name c r
 
 abbrev pub is_nothing : List ℕ → Bool
 is_nothing [] = true

@@ -5,7 +5,7 @@ ghost use Rattle.std.specs.Str.{bytes_eq};
 ghost use Rattle.dhash_model.specs.Signed.{hss_judged};
 ghost use Rattle.world_model.specs.Calls.{AsLine, FinishLine, OpenLine, StepLine, is_step_count, sending_of};
 ghost use Rattle.world_model.specs.World.{session_named};
-ghost use Rattle.script_world.specs.Running.{HasSceneIn};
+ghost use Rattle.script_world.specs.Running.{HasConfigurationIn};
 ghost use Rattle.script_machine.specs.Ends.{EndsIn};
 ghost use Rattle.script_machine.specs.WorldState.{HasWorld, LineDoes};
 
@@ -20,7 +20,7 @@ use std::alloc::Global;
 const MOST_STEPS: u64 = 1_000_000;
 
 impl ScriptMachine {
-    /// The line `as`: one whole call. The error is want of memory.
+    /// The line `as`: one whole call. The error is: out of memory.
     pub(crate) fn call(
         &mut self,
         alloc: Global,
@@ -37,7 +37,7 @@ impl ScriptMachine {
         Ok(Taken::Went(text))
     }
 
-    /// The line `open`: a session begins, of that name. The error is want of memory.
+    /// The line `open`: a session begins, of that name. The error is: out of memory.
     pub(crate) fn open(
         &mut self,
         alloc: Global,
@@ -58,7 +58,7 @@ impl ScriptMachine {
         Ok(Taken::Went(Vec::new(alloc)))
     }
 
-    /// The line `step`: a session that is open goes so many steps, 1 to 1,000,000. The error is want of memory.
+    /// The line `step`: a session that is open goes so many steps, 1 to 1,000,000. The error is: out of memory.
     pub(crate) fn step(&mut self, alloc: Global, name: &[u8], count: u64) -> Result<Taken, Memory>
         requires { HasWorld self.old }
         ensures { IfOk result (λ taken. LineDoes (λ w outcome. StepLine hss_judged w name.now count (session_named w.0 name.now) outcome) self.old taken self.new) }
@@ -75,7 +75,7 @@ impl ScriptMachine {
         Ok(Taken::Went(Vec::new(alloc)))
     }
 
-    /// The line `end` of a session: it goes to its end, and is no longer open. The error is want of memory.
+    /// The line `end` of a session: it goes to its end, and is no longer open. The error is: out of memory.
     pub(crate) fn finish(&mut self, alloc: Global, name: &[u8]) -> Result<Taken, Memory>
         requires { HasWorld self.old }
         ensures { IfOk result (λ taken. LineDoes (λ w outcome. FinishLine hss_judged w name.now (session_named w.0 name.now) outcome) self.old taken self.new) }
@@ -105,7 +105,7 @@ fn is_step_count(count: u64) -> bool
     count > 0 && count <= MOST_STEPS
 }
 
-/// A session of that name and participant comes behind the open ones. The error is want of memory.
+/// A session of that name and participant comes after the open ones. The error is: out of memory.
 fn push_session(
     sessions: &mut Vec<OpenSession>,
     alloc: Global,
@@ -122,14 +122,14 @@ fn push_session(
 }
 
 /// A participant's session goes to its end, and leaves to later lines what its reply gives. The result is what is shown of it.
-/// The error is want of memory.
+/// The error is: out of memory.
 fn run_to_end(
     parts: &mut Parts,
     alloc: Global,
     name: &[u8],
     mut call: OpenCall,
 ) -> Result<Vec<u8>, Memory>
-    requires { HasSceneIn parts.old name.now call }
+    requires { HasConfigurationIn parts.old name.now call }
     ensures { IfOk result (λ text. EndsIn name.now parts.old call parts.new text.items) }
 {
     parts.run_out(alloc, name, &mut call)?;

@@ -7,7 +7,7 @@ ghost use Rattle.world_model.specs.Logs.{Played};
 ghost use Rattle.world_model.specs.Step.{Does, MayDo, MayDoFirst};
 ghost use Rattle.world_laws.proofs.LineFits.{Fits};
 ghost use Rattle.script_machine.specs.Limits.{is_full, meets_limit};
-ghost use Rattle.script_machine.specs.WorldState.{HasWorld, LineDoes, ShowsWorld};
+ghost use Rattle.script_machine.specs.WorldState.{HasWorld, LineDoes, RepresentsWorld};
 ghost use Rattle.stage_laws.specs.Stage.{StageStep, stage_command};
 
 use crate::machine::ScriptMachine;
@@ -22,8 +22,8 @@ use std::alloc::Global;
 const MOST_BYTES: u64 = 16_777_216;
 
 impl ScriptMachine {
-    /// Takes a line: what was done is what the line may do by the step, in each world that the machine may stand for. The error is
-    /// want of memory.
+    /// Takes a line: what was done is what the line may do by the step, in each world that the machine may stand for. The error
+    /// is: out of memory.
     pub(crate) fn take_line(&mut self, alloc: Global, line: &[u8]) -> Result<Taken, Memory>
         requires kept { HasWorld self.old }
         ensures { IfOk result (λ taken. LineDoes (λ w outcome. StageStep w line.now outcome) self.old taken self.new) }
@@ -49,7 +49,7 @@ impl ScriptMachine {
         }
     }
 
-    /// Takes a line's command, which meets the limit where too much was met, unless it is the end. The error is want of memory.
+    /// Takes a line's command, which meets the limit where too much was met, unless it is the end. The error is: out of memory.
     fn take_command(&mut self, alloc: Global, command: &Command) -> Result<Taken, Memory>
         requires fits { Fits command.now }
         requires kept { HasWorld self.old }
@@ -63,7 +63,7 @@ impl ScriptMachine {
 
     /// Whether a command meets the limit.
     fn meets_limit(&self, command: &Command) -> bool
-        ensures { (w : Played) → ShowsWorld self.now w → result ≡ meets_limit w command.now }
+        ensures { (w : Played) → RepresentsWorld self.now w → result ≡ meets_limit w command.now }
     {
         match command {
             Command::End => false,
@@ -73,12 +73,12 @@ impl ScriptMachine {
 
     /// Whether more bytes were met than a script may meet.
     fn is_full(&self) -> bool
-        ensures { (w : Played) → ShowsWorld self.now w → result ≡ is_full w }
+        ensures { (w : Played) → RepresentsWorld self.now w → result ≡ is_full w }
     {
         self.parts.bytes_met() > MOST_BYTES
     }
 
-    /// Obeys a command. A line that makes a snapshot is refused. The error is want of memory.
+    /// Obeys a command. A line that makes a snapshot is refused. The error is: out of memory.
     fn obey(&mut self, alloc: Global, command: &Command) -> Result<Taken, Memory>
         requires fits { Fits command.now }
         requires kept { HasWorld self.old }
@@ -129,7 +129,7 @@ impl ScriptMachine {
     }
 
     /// The line `view`: makes a view of that name, of the members' and the former members' logs. A line names a member at least.
-    /// The error is want of memory, or 2^64 asks.
+    /// The error is: out of memory, or 2^64 asks.
     fn make_view(
         &mut self,
         alloc: Global,

@@ -6,7 +6,7 @@
 //!
 //! For the layer above: [`ScriptMachine`] is a machine of `script_driver`. Its abstract states are worlds of
 //! `world_model` with their ghost state.
-//! - It represents every abstract world that agrees with it (`ShowsWorld` in `specs/WorldState.antt`). A
+//! - It represents every abstract world that agrees with it (`RepresentsWorld` in `specs/WorldState.antt`). A
 //!   world in code has no ghost state, keeps no list of the heads that left an agent, and a session in code
 //!   may represent many.
 //! - Its step is `PromisedStep` of `stage_laws`: the step of all lines, together with what is promised of

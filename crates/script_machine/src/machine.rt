@@ -2,7 +2,7 @@
 
 ghost use Rattle.std.specs.Prelude.{◌≡◌, IfOk};
 ghost use Rattle.world_model.specs.Logs.{Played};
-ghost use Rattle.script_machine.specs.WorldState.{ShowsWorld};
+ghost use Rattle.script_machine.specs.WorldState.{RepresentsWorld};
 ghost use Rattle.stage_laws.specs.Promise.{PromisedStep};
 
 use ivy_base::{Bytes, Memory};
@@ -53,12 +53,12 @@ impl Model for ScriptMachine {
 }
 
 impl ScriptMachine {
-    ghost use Rattle.world_model.specs.Story.{empty_story};
+    ghost use Rattle.world_model.specs.GhostState.{empty_ghost_state};
     ghost use Rattle.world_model.specs.World.{empty_world};
 
     /// The machine before the first line, whose world is empty. It takes no memory.
     pub fn new(alloc: Global) -> ScriptMachine
-        ensures { ShowsWorld result (empty_world, empty_story) }
+        ensures { RepresentsWorld result (empty_world, empty_ghost_state) }
     {
         ScriptMachine {
             parts: Parts::new(alloc),
@@ -69,11 +69,11 @@ impl ScriptMachine {
 
 impl Machine for ScriptMachine {
     ghost use Rattle.script_machine.specs.WorldState.{KeepsAll};
-    ghost use Rattle.stage_laws.proofs.Promised.{promised_does_something, promised_keeps, promised_long_lines_stop};
+    ghost use Rattle.stage_laws.proofs.Promised.{promised_is_total, promised_keeps, promised_long_lines_stop};
 
-    ghost Whole = { Played };
+    ghost AbstractState = { Played };
 
-    ghost shows = { λ machine whole. ShowsWorld machine whole };
+    ghost represents = { λ machine state. RepresentsWorld machine state };
 
     ghost step = { PromisedStep };
 
@@ -85,7 +85,7 @@ impl Machine for ScriptMachine {
 
     ghost step_keeps = { promised_keeps };
 
-    ghost some_outcome = { promised_does_something };
+    ghost is_total = { promised_is_total };
 
     ghost long_stops = { promised_long_lines_stop };
 }

@@ -17,7 +17,7 @@ use std::alloc::Global;
 
 impl ScriptMachine {
     /// The line `log`: a participant of that name comes, whose agent opens the log of the key that these give, and publishes all
-    /// that it has to. The error is want of memory.
+    /// that it has to. The error is: out of memory.
     pub(crate) fn begin_log(
         &mut self,
         alloc: Global,
@@ -30,16 +30,19 @@ impl ScriptMachine {
         requires levels { AreLevels sets.now }
         ensures { IfOk result (λ taken. LineDoes (λ w outcome. LogLine hss_judged w name.now id.now seed.now sets.now outcome) self.old taken self.new) }
     {
-        let newcomer = name.copy(alloc)?;
-        if !self.parts.begin_log(alloc, newcomer, id, seed, sets)? {
+        let new_participant = name.copy(alloc)?;
+        if !self
+            .parts
+            .begin_log(alloc, new_participant, id, seed, sets)?
+        {
             return Ok(Taken::Refused);
         }
         self.parts.publish(alloc, name.as_slice())?;
         Ok(Taken::Went(Vec::new(alloc)))
     }
 
-    /// The line `use`: a participant enters a view, and its sessions are gone then; where its keeper fails that is shown. The error
-    /// is want of memory.
+    /// The line `use`: a participant enters a view, and its sessions are gone then; where its keeper fails that is shown. The
+    /// error is: out of memory.
     pub(crate) fn use_view(
         &mut self,
         alloc: Global,
@@ -53,8 +56,8 @@ impl ScriptMachine {
         Ok(taken)
     }
 
-    /// The line `restart`: a participant's agent starts again from what its keeper saved, and its sessions are gone then. The error
-    /// is want of memory.
+    /// The line `restart`: a participant's agent starts again from what its keeper saved, and its sessions are gone then. The
+    /// error is: out of memory.
     pub(crate) fn restart(&mut self, alloc: Global, log: &[u8]) -> Result<Taken, Memory>
         ensures { IfOk result (λ taken. LineDoes (λ w outcome. RestartLine w (participant w.0 log.now) outcome) self.old taken self.new) }
     {

@@ -9,7 +9,7 @@ use Rattle.ivy_base.specs.declared.key.PubKey.{PubKey}
 use Rattle.ivy_base.specs.Naming.{owner_cmp}
 use Rattle.log_model.specs.Record.{Record}
 use Rattle.log_model.specs.Rank.{weight}
-use Rattle.world_model.specs.Agents.{own}
+use Rattle.world_model.specs.Agents.{own_hss_key}
 use Rattle.world_model.specs.Shows.{order_text, record_line, work_text}
 use Rattle.world_model.specs.World.{World, Participant, name_of_owner}
 use Rattle.script_participants.specs.ParticipantState.{ParticipantState, HasParticipants, state_of}
@@ -23,16 +23,16 @@ module _ (w : World) (ps : List ParticipantState) (has : HasParticipants w ps) w
   pub owner_named : (owner : PubKey) → owner_name ps owner ≡ name_of_owner w owner
   owner_named owner =
       ap (λ (l : List ParticipantState). owner_name l owner) (sym has)
-      ∙ ap (λ (o : Option ParticipantState). option_map_or (λ (p : ParticipantState). p.name) o []) (find_seen state_of (λ p. eq_by_cmp owner_cmp owner (own p.agent)) w.participants)
-      ∙ by (find (λ (p : Participant). eq_by_cmp owner_cmp owner (own p.agent)) w.participants)
+      ∙ ap (λ (o : Option ParticipantState). option_map_or (λ (p : ParticipantState). p.name) o []) (find_seen state_of (λ p. eq_by_cmp owner_cmp owner (own_hss_key p.agent)) w.participants)
+      ∙ by (find (λ (p : Participant). eq_by_cmp owner_cmp owner (own_hss_key p.agent)) w.participants)
     where
       by : (o : Option Participant) → option_map_or (λ (p : ParticipantState). p.name) (option_map state_of o) [] ≡ option_map_or (λ (p : Participant). p.name) o []
       by None = refl
       by (Some p) = refl
 
   -- by what a walk finds
-  pub owner_found : (owner : PubKey) (read : List ParticipantState) (o : Option ParticipantState) → o ≡ find (λ p. eq_by_cmp owner_cmp owner (own p.agent)) read → read ≡ ps → option_map_or (λ (p : ParticipantState). p.name) o [] ≡ name_of_owner w owner
-  owner_found owner read o is same = ap (λ (q : Option ParticipantState). option_map_or (λ (p : ParticipantState). p.name) q []) (is ∙ ap (find (λ (p : ParticipantState). eq_by_cmp owner_cmp owner (own p.agent))) same) ∙ owner_named owner
+  pub owner_found : (owner : PubKey) (read : List ParticipantState) (o : Option ParticipantState) → o ≡ find (λ p. eq_by_cmp owner_cmp owner (own_hss_key p.agent)) read → read ≡ ps → option_map_or (λ (p : ParticipantState). p.name) o [] ≡ name_of_owner w owner
+  owner_found owner read o is same = ap (λ (q : Option ParticipantState). option_map_or (λ (p : ParticipantState). p.name) q []) (is ∙ ap (find (λ (p : ParticipantState). eq_by_cmp owner_cmp owner (own_hss_key p.agent))) same) ∙ owner_named owner
 
   line_shown : (r : Record) → line_of ps r ≡ record_line w r
   line_shown r = ap (λ (name : List ℕ). decimal (weight r) ++ 32 ∷ name ++ 32 ∷ decimal r.seq ++ 10 ∷ []) (owner_named r.owner)

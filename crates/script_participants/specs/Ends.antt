@@ -6,7 +6,7 @@ use Rattle.ivy_agent.specs.declared.fault.EnterFault.TheVariants as fault
 use Rattle.script_participants.specs.declared.end.EnterEnd.{EnterEnd}
 use Rattle.script_participants.specs.declared.end.EnterEnd.TheVariants as end
 
--- for want of memory nothing is told
+-- when out of memory nothing is reported
 abbrev pub EndsFor : EnterFault → Result EnterEnd Memory → Type 0
 EndsFor fault.NotMember result = IsOkAnd result (λ e. e ≡ end.Refused)
 EndsFor (fault.NotNamed log) result = IsOkAnd result (λ e. e ≡ end.Refused)

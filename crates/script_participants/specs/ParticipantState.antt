@@ -4,7 +4,7 @@ use Rattle.std.specs.List.{AllByRecursion}
 use Rattle.std.specs.Str.{bytes_eq}
 use Rattle.ivy_base.specs.declared.key.Key.{Key}
 use Rattle.session_model.specs.Sessions.{Cache}
-use Rattle.world_model.specs.Agents.{Agent}
+use Rattle.world_model.specs.Agents.{HssAgent}
 use Rattle.world_model.specs.Keepers.{Keeper}
 use Rattle.world_model.specs.Steps.{made_by, with_made}
 use Rattle.world_model.specs.World.{World, Participant}
@@ -12,7 +12,7 @@ use Rattle.world_model.specs.World.{World, Participant}
 -- a participant of the definitions without the heads that left it
 pub record ParticipantState : Type 0 where
   pub name : List ℕ
-  pub agent : Agent
+  pub agent : HssAgent
   pub keeper : Keeper
   pub cache : Cache
   pub made : List (ℕ × Key)

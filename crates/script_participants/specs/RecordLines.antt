@@ -8,12 +8,12 @@ use Rattle.ivy_base.specs.declared.key.PubKey.{PubKey}
 use Rattle.ivy_base.specs.Naming.{owner_cmp}
 use Rattle.log_model.specs.Record.{Record}
 use Rattle.log_model.specs.Rank.{weight}
-use Rattle.world_model.specs.Agents.{own}
+use Rattle.world_model.specs.Agents.{own_hss_key}
 use Rattle.script_participants.specs.ParticipantState.{ParticipantState}
 
 -- the name of the first log of that key
 abbrev pub owner_name : List ParticipantState → PubKey → List ℕ
-owner_name ps owner = option_map_or (λ p. p.name) (find (λ p. eq_by_cmp owner_cmp owner (own p.agent)) ps) []
+owner_name ps owner = option_map_or (λ p. p.name) (find (λ p. eq_by_cmp owner_cmp owner (own_hss_key p.agent)) ps) []
 
 -- a record by its weight, its log and its number
 abbrev pub line_of : List ParticipantState → Record → List ℕ

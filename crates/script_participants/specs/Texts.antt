@@ -7,7 +7,7 @@ use Rattle.world_model.specs.Shows.{Showing, Absent, TooMuch, Text, touched_text
 use Rattle.script_participants.specs.ParticipantState.{ParticipantState}
 use Rattle.script_participants.specs.RecordLines.{owner_name}
 
--- the text is the line's word and what there is to show behind it, and none where that is too much
+-- the text is the line's word and what there is to show after it, and none where that is too much
 abbrev pub Shows : List ℕ → Option (List ℕ) → Showing → Type 0
 Shows word text Absent = ⊥
 Shows word text TooMuch = text ≡ None

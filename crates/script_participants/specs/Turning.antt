@@ -4,7 +4,7 @@ use Rattle.ivy_base.specs.declared.operation.Moment.{Moment}
 use Rattle.log_model.specs.View.{View}
 use Rattle.nfs_model.specs.declared.replies.Reply.{Reply}
 use Rattle.turn_model.specs.Turn.{Asked}
-use Rattle.agent_model.specs.Standing.{Refresh, anew_in}
+use Rattle.agent_model.specs.Standing.{Refresh, begun_again_in}
 use Rattle.agent_model.specs.Turning.{TurnEnd, Behind, BelowTide, Answered, Turns}
 use Rattle.log_fetch.specs.Standings.{standing_of}
 use Rattle.log_fetch.specs.declared.standing.Standing.{Standing}
@@ -12,7 +12,7 @@ use Rattle.log_fetch.specs.declared.turned.Turned.{Turned}
 use Rattle.log_fetch.specs.declared.turned.TurnFault.{TurnFault}
 use Rattle.log_fetch.specs.declared.turned.TurnFault.TheVariants as fault
 use Rattle.ivy_agent.specs.Turns.{Gives}
-use Rattle.world_model.specs.Agents.{IsKept, Kept, hss}
+use Rattle.world_model.specs.Agents.{IsHssKept, HssKept, hss_signing}
 use Rattle.world_model.specs.Keepers.{asked_to_save, fails_next}
 use Rattle.script_participants.specs.ParticipantState.{ParticipantState}
 
@@ -26,10 +26,11 @@ module _ (view : View) (brought : Refresh) (asked : Asked) (now : Moment) (befor
   -- How the turn ends, and the participant then. A save fails exactly where its keeper plans it; the keeper was asked to save, where it
   -- was, what may be saved.
   pub record HasTurn (end : TurnEnd) (after : ParticipantState) : Type 0 where
-    pub saving : Option Kept
-    pub turns : Turns hss brought (record { agent = before.agent; view = view; now = now; fails = fails_next before.keeper }) asked end
+    pub saving : Option HssKept
+    pub turns : Turns hss_signing brought
+        (record { agent = before.agent; view = view; now = now; fails = fails_next before.keeper }) asked end
         after.agent saving
-    pub kept : IfSome saving IsKept
+    pub kept : IfSome saving IsHssKept
     pub then_is : after ≡ record before {
       agent = after.agent;
       keeper = asked_to_save before.keeper saving;
@@ -42,12 +43,12 @@ module _ (view : View) (brought : Refresh) (asked : Asked) (now : Moment) (befor
     pub has_turn : HasTurn (Answered reply t.applied) after
     pub gives : Gives reply after.agent t
 
-  -- it is refused, and a session begins anew with that standing
+  -- it is refused, and a session begins again with that standing
   pub record IsRefused (end : TurnEnd) (standing : Standing) (after : ParticipantState) : Type 0 where
     pub has_turn : HasTurn end after
-    pub anew : standing_of standing ≡ anew_in hss after.agent view
+    pub anew : standing_of standing ≡ begun_again_in hss_signing after.agent view
 
-  -- Where memory is wanting nothing changes.
+  -- Where memory runs out nothing changes.
   abbrev pub TakesTurn : Result Turned TurnFault → ParticipantState → Type 0
   TakesTurn (Ok t) after = IsAnswered t after
   TakesTurn (Err (fault.Behind standing)) after = IsRefused Behind standing after

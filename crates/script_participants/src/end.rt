@@ -28,7 +28,7 @@ pub enum RestartEnd {
     Lost,
 }
 
-/// How it ends for an agent that isn't in the view. The error is want of memory.
+/// How it ends for an agent that isn't in the view. The error is: out of memory.
 pub(crate) fn end_of(fault: EnterFault) -> Result<EnterEnd, Memory>
     ensures { EndsFor fault result }
 {
@@ -40,7 +40,7 @@ pub(crate) fn end_of(fault: EnterFault) -> Result<EnterEnd, Memory>
     }
 }
 
-/// How it ends for an agent that hasn't started again. The error is want of memory.
+/// How it ends for an agent that hasn't started again. The error is: out of memory.
 pub(crate) fn lost_for(fault: RestartFault) -> Result<RestartEnd, Memory>
     ensures { IsLostFor fault result }
 {

@@ -4,13 +4,13 @@
 //! definitions of `world_model`; below worlds.
 //! For the layers above: contracts see a [`Participant`] as that of the definitions without the heads that left it, which only
 //! laws speak of (`state_of` in `specs/ParticipantState.antt`), and [`Participants`] as the list of them in the order of their
-//! lines. What they say of a world is about each world that has these participants (`HasParticipants`).
-//! [`Participant::open`] is `newcomer`. [`Participant::enter`] is `entering` where the next save fails as the keeper plans it
+//! lines. What they say of a world is about each world that has these participants (`HasParticipants`). [`Participant::open`] is
+//! `new_participant`. [`Participant::enter`] is `entering` where the next save fails as the keeper plans it
 //! (`specs/InView.antt`), and [`Participant::turn`] a `Turns` of the definitions by the same answer to whether the save fails
 //! (`specs/Turning.antt`); what is to be published then counts as made by [`Participant::count_made`]. [`Participant::restart`]
 //! gives `restored` of what its keeper holds, of which what is to be published counts as made, or tells that it is in no view, or
-//! that the keeper holds the bytes of nothing that may be saved (`specs/Restarting.antt`). [`Participant::plan_fault`]
-//! is `with_fault`, [`Participant::settle`] is `settled`, [`Participant::record_made`] gives the name that a script says by a
+//! that the keeper holds the bytes of nothing that may be saved (`specs/Restarting.antt`). [`Participant::plan_fault`] is
+//! `with_fault`, [`Participant::settle`] is `settled`, [`Participant::record_made`] gives the name that a script says by a
 //! number. [`Participant::work_text`], [`Participants::order_text`] and [`Participants::conflicts_text`] are what the lines of
 //! these names show, and [`Participants::keys_of`] are the public keys that a view is made of. [`Participants::at`] lends one to
 //! be changed, and [`Participant::cache`] its cache; [`Participant::standing`] is what its sessions are given of its agent.

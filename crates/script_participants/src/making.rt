@@ -19,7 +19,7 @@ fn is_record(kind: PostKind) -> bool
     }
 }
 
-/// The byte at that place, and 0 behind the last.
+/// The byte at that place, and 0 after the last.
 fn byte_at(bytes: &[u8], place: usize) -> u8
     ensures { result ≡ slice_index bytes.now place }
 {
@@ -60,7 +60,7 @@ fn count_one(made: &mut Vec<(u32, Key)>, one: (u32, Key))
     }
 }
 
-/// Counts the records among the posts as made. The error is want of memory; nothing is changed then.
+/// Counts the records among the posts as made. The error is: out of memory; nothing is changed then.
 pub(crate) fn count_all(made: &mut Vec<(u32, Key)>, posts: &[Post]) -> Result<(), Memory>
     ensures made { OnOk result (made.new.items ≡ fold with_made made.old.items (made_by posts.now)) }
     ensures unchanged { OnErr result (made.new.items ≡ made.old.items) }

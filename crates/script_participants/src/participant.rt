@@ -11,10 +11,10 @@ ghost use Rattle.agent_model.specs.Others.{settled};
 ghost use Rattle.ivy_agent.specs.Answering.{IsCall};
 ghost use Rattle.ivy_agent.specs.Bounds.{HasBounds};
 ghost use Rattle.ivy_agent.specs.Turns.{IsFetchedIn};
-ghost use Rattle.world_model.specs.Agents.{opened, own, standing_in};
+ghost use Rattle.world_model.specs.Agents.{hss_opened, own_hss_key, hss_standing_in};
 ghost use Rattle.world_model.specs.Shows.{work_text};
 ghost use Rattle.world_model.specs.Keepers.{with_fault};
-ghost use Rattle.world_model.specs.Logs.{newcomer};
+ghost use Rattle.world_model.specs.Logs.{new_participant};
 ghost use Rattle.world_model.specs.World.{Participant as Seen};
 ghost use Rattle.script_participants.specs.Opening.{IsOpened};
 ghost use Rattle.nfs_model.specs.Results.{longest_result};
@@ -78,11 +78,11 @@ impl Participant {
     ghost use Rattle.script_participants.specs.Lending.{LendsCache};
     ghost use Rattle.script_participants.specs.Turning.{TakesTurn};
 
-    /// A participant whose agent opens its log at that moment and is saved; its first posts count as made. The error is want of
+    /// A participant whose agent opens its log at that moment and is saved; its first posts count as made. The error is: out of
     /// memory; the signer is dropped then.
     pub fn open(alloc: Global, name: Bytes, signer: Hss, now: Moment) -> Result<Participant, Memory>
         requires { left_of signer ≢ 0 }
-        ensures { IfOk result (λ p. p ≡ state_of (newcomer name (opened signer now))) }
+        ensures { IfOk result (λ p. p ≡ state_of (new_participant name (hss_opened signer now))) }
     {
         let agent = agent_of(alloc, signer, now)?;
         let mut made = Vec::new(alloc);
@@ -125,17 +125,17 @@ impl Participant {
         &mut self.cache
     }
 
-    /// What a session is given of its agent, which is in a view. The error is want of memory.
+    /// What a session is given of its agent, which is in a view. The error is: out of memory.
     pub fn standing(&self, alloc: Global) -> Result<Standing, Memory>
         requires { IsSomeAnd self.now.agent.view (λ view. Unit {0}) }
-        ensures { IfOk result (λ s. IfSome self.now.agent.view (λ view. standing_of s ≡ standing_in self.now.agent view)) }
+        ensures { IfOk result (λ s. IfSome self.now.agent.view (λ view. standing_of s ≡ hss_standing_in self.now.agent view)) }
     {
         self.agent.standing(alloc)
     }
 
     /// The public key of its log.
     pub fn owner(&self) -> PubKey
-        ensures { result ≡ own self.now.agent }
+        ensures { result ≡ own_hss_key self.now.agent }
     {
         self.agent.owner()
     }
@@ -169,7 +169,7 @@ impl Participant {
         self.printed
     }
 
-    /// Its agent enters a view, and its cache is empty then; or the view is refused; or the keeper fails. The error is want of
+    /// Its agent enters a view, and its cache is empty then; or the view is refused; or the keeper fails. The error is: out of
     /// memory; nothing is changed then.
     pub fn enter(&mut self, alloc: Global, view: View) -> Result<EnterEnd, Memory>
         ensures entered { IfOk result (λ end. (end, self.new) ≡ entering_view self.old view) }
@@ -185,8 +185,8 @@ impl Participant {
         }
     }
 
-    /// The save of that number from now on is to fail, the next one being 1 and 0 naming none, and leaves the new bytes or the old
-    /// ones. The error is want of memory; nothing is changed then.
+    /// The save of that number from now on is to fail, the next one being 1 and 0 naming none, and leaves the new bytes or the
+    /// old ones. The error is: out of memory; nothing is changed then.
     pub fn plan_fault(&mut self, count: u64, new: bool) -> Result<(), Memory>
         ensures planned { OnOk result (self.new ≡ record self.old { keeper = with_fault self.old.keeper count new }) }
         ensures unchanged { OnErr result (self.new ≡ self.old) }
@@ -194,7 +194,7 @@ impl Participant {
         self.agent.plan_fault(Leave { call: count, new })
     }
 
-    /// The records that its agent has to publish count as made. The error is want of memory; nothing is changed then.
+    /// The records that its agent has to publish count as made. The error is: out of memory; nothing is changed then.
     pub fn count_made(&mut self) -> Result<(), Memory>
         ensures made { OnOk result (self.new ≡ counting self.old) }
         ensures unchanged { OnErr result (self.new ≡ self.old) }
@@ -247,7 +247,7 @@ impl Participant {
         self.agent.settle(acks);
     }
 
-    /// What the line `work` shows: how many records its last turn applied. The error is want of memory.
+    /// What the line `work` shows: how many records its last turn applied. The error is: out of memory.
     pub fn work_text(&self, alloc: Global) -> Result<Vec<u8>, Memory>
         ensures { IfOk result (λ text. (p : Seen) → state_of p ≡ self.now → text.items ≡ codes "work " ++ work_text p) }
     {
@@ -255,7 +255,7 @@ impl Participant {
     }
 }
 
-/// An agent that opens its log at that moment, and is saved in memory. The error is want of memory.
+/// An agent that opens its log at that moment, and is saved in memory. The error is: out of memory.
 fn agent_of(alloc: Global, signer: Hss, now: Moment) -> Result<Agent<MemKeeper, Hss>, Memory>
     requires { left_of signer ≢ 0 }
     ensures { IfOk result (λ a. IsOpened signer now a.agent a.keeper) }

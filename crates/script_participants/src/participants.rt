@@ -7,7 +7,7 @@ ghost use Rattle.std.specs.Ordering.{eq_by_cmp};
 ghost use Rattle.std.specs.Str.{bytes_eq};
 ghost use Rattle.ivy_base.specs.Naming.{owner_cmp};
 ghost use Rattle.log_records.specs.Records.{record_of, records_of};
-ghost use Rattle.world_model.specs.Agents.{own};
+ghost use Rattle.world_model.specs.Agents.{own_hss_key};
 ghost use Rattle.world_model.specs.Shows.{order_text};
 ghost use Rattle.world_model.specs.Logs.{keys_of};
 ghost use Rattle.world_model.specs.World.{World, Participant as Seen, name_of_owner, participant};
@@ -50,7 +50,7 @@ impl Participants {
         }
     }
 
-    /// Puts a participant behind the others. The error is want of memory; nothing is changed then, and the participant is dropped.
+    /// Puts a participant after the others. The error is: out of memory; nothing is changed then, and the participant is dropped.
     pub fn push(&mut self, one: Participant) -> Result<(), Memory>
         ensures pushed { OnOk result (self.new ≡ self.old ++ one ∷ []) }
         ensures unchanged { OnErr result (self.new ≡ self.old) }
@@ -85,7 +85,7 @@ impl Participants {
         &mut self.all[place]
     }
 
-    /// The public keys of the logs of these names, where each is there. The error is want of memory.
+    /// The public keys of the logs of these names, where each is there. The error is: out of memory.
     pub fn keys_of(&self, alloc: Global, names: &[Bytes]) -> Result<Option<Vec<PubKey>>, Memory>
         ensures { IfOk result (λ keys. (w : World) → HasParticipants w self.now → option_map (λ k. k.items) keys ≡ keys_of w names.now) }
     {
@@ -110,8 +110,8 @@ impl Participants {
         }
     }
 
-    /// What the line `order` shows of a participant: how many records it holds, and then each of them, in their order. The error is
-    /// want of memory; it also comes where a record's vector has more than 2^31 entries.
+    /// What the line `order` shows of a participant: how many records it holds, and then each of them, in their order. The error
+    /// is: out of memory; it also comes where a record's vector has more than 2^31 entries.
     pub fn order_text(&self, alloc: Global, one: &Participant) -> Result<Vec<u8>, Memory>
         ensures { IfOk result (λ text. (w : World) (p : Seen) → HasParticipants w self.now → state_of p ≡ one.now → text.items ≡ codes "order " ++ order_text w p) }
     {
@@ -163,7 +163,7 @@ fn is_same(a: &PubKey, b: &PubKey) -> bool
 
 /// Whether the log has that key.
 fn is_of(one: &Participant, owner: &PubKey) -> bool
-    ensures { result ≡ eq_by_cmp owner_cmp owner.now (own one.now.agent) }
+    ensures { result ≡ eq_by_cmp owner_cmp owner.now (own_hss_key one.now.agent) }
 {
     is_same(owner, &one.owner())
 }
@@ -177,7 +177,7 @@ fn find_named<'a>(all: &'a [Participant], name: &[u8]) -> Option<&'a Participant
 
 /// The participant of the first log of that key.
 fn find_writer<'a>(all: &'a [Participant], owner: &PubKey) -> Option<&'a Participant>
-    ensures { option_map (λ p. p.now) result ≡ find (λ p. eq_by_cmp owner_cmp owner.now (own p.agent)) all.now }
+    ensures { option_map (λ p. p.now) result ≡ find (λ p. eq_by_cmp owner_cmp owner.now (own_hss_key p.agent)) all.now }
 {
     all.iter().find(|one| is_of(one, owner))
 }

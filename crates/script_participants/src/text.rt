@@ -6,7 +6,7 @@ ghost use Rattle.std.specs.Fmt.{decimal};
 use ivy_base::Memory;
 use std::alloc::Global;
 
-/// A line of a word with its blank, a name and a number. The error is want of memory.
+/// A line of a word with its blank, a name and a number. The error is: out of memory.
 pub(crate) fn counted_line(
     alloc: Global,
     word: &[u8],

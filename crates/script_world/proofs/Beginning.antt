@@ -9,14 +9,14 @@ use Rattle.hss_keys.proofs.Signing.{capacity_some}
 use Rattle.dht_ids.specs.declared.judge.Judged.{Judged}
 use Rattle.dht_ids.specs.declared.post.Post.{Post}
 use Rattle.script_driver.specs.Run.{Refuses}
-use Rattle.world_model.specs.Agents.{opened}
-use Rattle.world_model.specs.Logs.{LogLine, Played, fresh_signer, newcomer}
+use Rattle.world_model.specs.Agents.{hss_opened}
+use Rattle.world_model.specs.Logs.{LogLine, Played, fresh_signer, new_participant}
 use Rattle.world_model.specs.Logs.LogLine.{before_ring, known}
 use Rattle.world_model.specs.Steps.{met_by}
 use Rattle.world_model.specs.World.{Participant, World, participant}
 use Rattle.session_steps.specs.MetState.{AreMet, MetState}
 use Rattle.script_participants.specs.ParticipantState.{HasParticipants, ParticipantState, state_of}
-use Rattle.script_world.specs.Newcomers.{HasNewcomer}
+use Rattle.script_world.specs.NewParticipants.{HasNewParticipant}
 use Rattle.script_world.specs.PartsState.{HasParts, PartsState}
 use Rattle.script_world.proofs.Keeping.{find_named}
 
@@ -54,12 +54,12 @@ module _ (w : Played) (s : PartsState) (has : HasParts w.0 s) (name id seed : Li
     name_taken judged some = known (known_so ∙ sym some)
 
     pub comes : (signer : Signer) (one : ParticipantState) (ps : List ParticipantState) (posts : List Post) (met : MetState) → is_some s.replicas ≡ true → false ≡ is_some o → signer ≡ fresh_signer id seed sets
-        → one ≡ state_of (newcomer name (opened signer s.moment)) → ps ≡ s.participants ++ one ∷ [] → posts ≡ one.agent.pending → ((blocks : List (List ℕ)) → AreMet blocks s.met → AreMet (met_by blocks posts) met)
-        → HasNewcomer w name id seed sets (record s { participants = ps; met = met })
+        → one ≡ state_of (new_participant name (hss_opened signer s.moment)) → ps ≡ s.participants ++ one ∷ [] → posts ≡ one.agent.pending → ((blocks : List (List ℕ)) → AreMet blocks s.met → AreMet (met_by blocks posts) met)
+        → HasNewParticipant w name id seed sets (record s { participants = ps; met = met })
     comes signer one ps posts met ring none signer_is one_is are posts_are meets_them =
         let there = ring_there s.replicas ring in
-        let p : Participant = newcomer name (opened (fresh_signer id seed sets) w.0.now) in
-        let state : one ≡ state_of p = one_is ∙ (λ i. state_of (newcomer name (opened (signer_is i) (sym has.moment i)))) in
+        let p : Participant = new_participant name (hss_opened (fresh_signer id seed sets) w.0.now) in
+        let state : one ≡ state_of p = one_is ∙ (λ i. state_of (new_participant name (hss_opened (signer_is i) (sym has.moment i)))) in
         record {
           replicas = there.0;
           one = p;

@@ -1,4 +1,4 @@
--- What is so of the parts at all times, where a participant is changed, or one comes behind the others.
+-- What is so of the parts at all times, where a participant is changed, or one comes after the others.
 use Rattle.std.proofs.Common.{◌≡◌, ℕ, zero, suc, Bool, true, false, List, [], ◌∷◌, ◌++◌, cond, set, get_or, refl, sym, ap, ◌∙◌, subst, Option, Some, None}
 use Rattle.std.specs.Prelude.{is_some}
 use Rattle.std.specs.List.{AllByRecursion}
@@ -31,7 +31,7 @@ kept_changed r ps i old new kept is named = record {
   nobody = λ none. ap (λ (l : List ParticipantState). set l i new) (kept.nobody none);
 }
 
--- ---- one comes behind the others
+-- ---- one comes after the others
 
 not_either : (a b : List ℕ) → bytes_eq a b ≡ false → bytes_eq b a ≡ false
 not_either a b other = by (bytes_eq b a) refl

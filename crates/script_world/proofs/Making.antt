@@ -12,7 +12,7 @@ use Rattle.dht_ids.specs.declared.judge.Judged.{Judged}
 use Rattle.dhash_model.specs.declared.miss.Miss.{Miss}
 use Rattle.script_driver.specs.Run.{Outcome, Goes, Refuses, Exceeds}
 use Rattle.script_model.specs.Words.{◌>>=◌}
-use Rattle.world_model.specs.Agents.{own}
+use Rattle.world_model.specs.Agents.{own_hss_key as own}
 use Rattle.world_model.specs.Logs.{Played, ViewLine, acked_view, is_too_large, keys_of, with_view}
 use Rattle.world_model.specs.Logs.ViewLine.{exceeds, makes, no_former, no_members, one_head_key}
 use Rattle.world_model.specs.World.{NamedView, Participant, World, empty_world, meets, participant, view_named}

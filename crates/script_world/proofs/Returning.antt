@@ -9,12 +9,12 @@ use Rattle.log_model.specs.View.{View}
 use Rattle.dht_ids.specs.declared.post.Post.{Post}
 use Rattle.agent_model.specs.Agent.{restored}
 use Rattle.script_driver.specs.Run.{Outcome, Goes, Refuses}
-use Rattle.world_model.specs.Agents.{IsKept, Kept, kept_bytes}
+use Rattle.world_model.specs.Agents.{IsHssKept, HssKept, hss_kept_bytes}
 use Rattle.world_model.specs.Logs.{IsKnownAgain, Played, RestartLine, afresh_told, restarted}
 use Rattle.world_model.specs.Logs.RestartLine.{nobody, outside, starts}
 use Rattle.world_model.specs.Steps.{having_made, met_by}
 use Rattle.world_model.specs.World.{Participant, participant}
-use Rattle.world_laws.specs.Keeps.{IsKeptSo, IsSavedWell, Keeps}
+use Rattle.world_laws.specs.Invariant.{IsKeptSo, IsSavedWell, Invariant}
 use Rattle.world_laws.proofs.Bringing.{found_named}
 use Rattle.world_laws.proofs.ExistingLines.{restart_line}
 use Rattle.world_laws.proofs.KeptBytes.{kept_once}
@@ -35,12 +35,12 @@ the_view None some = cc some
 the_view (Some v) some = (v, refl)
 
 -- a line by which the agent started again from something that may be saved tells what it knows
-known_by : (w : Played) (p : Participant) (view : View) → p.agent.view ≡ Some view → (k : Kept) → IsKept k → p.keeper.kept ≡ Some (kept_bytes k) → (out : Outcome Played) → RestartLine w (Some p) out
+known_by : (w : Played) (p : Participant) (view : View) → p.agent.view ≡ Some view → (k : HssKept) → IsHssKept k → p.keeper.kept ≡ Some (hss_kept_bytes k) → (out : Outcome Played) → RestartLine w (Some p) out
     → (set : List Record) × IsKnownAgain (restarted w.0 p k) k set
 known_by w _ view in_view k whole held _ (outside p none) = let e : None ≡ Some view = sym none ∙ in_view in cc e
 known_by w _ view in_view k whole held _ (starts p look l set within well holding known) =
-    let same : l ≡ k = kept_once l k well whole (some_bytes (kept_bytes l) (kept_bytes k) (sym holding ∙ held)) in
-    (set, subst (λ (x : Kept). IsKnownAgain (restarted w.0 p x) x set) same known)
+    let same : l ≡ k = kept_once l k well whole (some_bytes (hss_kept_bytes l) (hss_kept_bytes k) (sym holding ∙ held)) in
+    (set, subst (λ (x : HssKept). IsKnownAgain (restarted w.0 p x) x set) same known)
 
 module _ (w : Played) (s : PartsState) (has : HasParts w.0 s) (log : List ℕ) where
   abbrev Line : Outcome Played → Type 0
@@ -49,7 +49,7 @@ module _ (w : Played) (s : PartsState) (has : HasParts w.0 s) (log : List ℕ) w
   pub nobody_starts : position (λ (q : ParticipantState). bytes_eq q.name log) s.participants ≡ None → Line Refuses
   nobody_starts none = subst (λ (o : Option Participant). RestartLine w o Refuses) (sym (nobody_in w.0 s has log (none_found (λ (q : ParticipantState). bytes_eq q.name log) s.participants none))) nobody
 
-  module _ (keeps : Keeps w) (place : ℕ) (old : ParticipantState) (apart : AreNamedApart s.participants) (found : position (λ (q : ParticipantState). bytes_eq q.name log) s.participants ≡ Some place)
+  module _ (keeps : Invariant w) (place : ℕ) (old : ParticipantState) (apart : AreNamedApart s.participants) (found : position (λ (q : ParticipantState). bytes_eq q.name log) s.participants ≡ Some place)
       (is : old ≡ get_or s.participants place old) where
     abbrev its : (p : Participant) × (participant w.0 log ≡ Some p) × (state_of p ≡ old)
     its = found_so w.0 s has log place old found is
@@ -72,13 +72,13 @@ module _ (w : Played) (s : PartsState) (has : HasParts w.0 s) (log : List ℕ) w
 
     module _ (next : ParticipantState) (again : HasStartedAgain old end.Restarted next) (posts : List Post) (posts_are : posts ≡ next.agent.pending) (met : MetState)
         (meets_them : (blocks : List (List ℕ)) → AreMet blocks s.met → AreMet (met_by blocks posts) met) where
-      abbrev k : Kept
+      abbrev k : HssKept
       k = again.0
 
       view : (v : View) × (its.0.agent.view ≡ Some v)
       view = the_view its.0.agent.view (subst (λ (x : ParticipantState). IsTrue (is_some x.agent.view)) (sym its.2) again.1)
 
-      held : its.0.keeper.kept ≡ Some (kept_bytes k)
+      held : its.0.keeper.kept ≡ Some (hss_kept_bytes k)
       held = ap (λ (x : ParticipantState). x.keeper.kept) its.2 ∙ again.3
 
       known : (set : List Record) × IsKnownAgain (restarted w.0 its.0 k) k set

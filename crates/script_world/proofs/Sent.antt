@@ -11,7 +11,7 @@ use Rattle.session_model.specs.Sessions.{Session}
 use Rattle.world_model.specs.Calls.{BeginsWith, Sending, sending_of}
 use Rattle.world_model.specs.World.{Participant, World, participant}
 use Rattle.script_participants.specs.ParticipantState.{ParticipantState, state_of}
-use Rattle.session_steps.specs.Showing.{BeginsIn, CallState, ShowsSession}
+use Rattle.session_steps.specs.Representing.{BeginsIn, CallState, RepresentsSession}
 use Rattle.script_world.specs.PartsState.{HasParts, PartsState}
 use Rattle.script_world.specs.Running.{BeginsOf}
 use Rattle.script_world.proofs.Keeping.{nobody_named, one_named}
@@ -74,7 +74,7 @@ module _ (w : World) (s : PartsState) (has : HasParts w s) (log : List ℕ) (pie
       begins message call said begun ring = subst (BeginsOf s (Some call) w) (sym (sends_message (Some message) said)) (t.0, t.1, record { replicas = ring; shows = t.2 })
         where
           Begun : Option View → Type 0
-          Begun o = IfSome o (λ v. (t : Session) × BeginsWith w (record { by = p; view = v; message = message }) t × ShowsSession t call)
+          Begun o = IfSome o (λ v. (t : Session) × BeginsWith w (record { by = p; view = v; message = message }) t × RepresentsSession t call)
 
-          t : (t : Session) × BeginsWith w (record { by = p; view = view; message = message }) t × ShowsSession t call
+          t : (t : Session) × BeginsWith w (record { by = p; view = view; message = message }) t × RepresentsSession t call
           t = subst Begun (ap (λ (y : ParticipantState). y.agent.view) its.2 ∙ in_view) (begun w p has.nodes its.2)

@@ -16,7 +16,7 @@ use Rattle.script_driver.specs.Run.{Goes}
 use Rattle.script_driver.specs.declared.machine.Taken.{Taken}
 use Rattle.script_driver.specs.declared.machine.Taken.TheVariants as taken
 use Rattle.script_model.specs.declared.command.Shown.{Shown}
-use Rattle.world_model.specs.Agents.{own}
+use Rattle.world_model.specs.Agents.{own_hss_key}
 use Rattle.world_model.specs.Shows.{Shows, of_known, proof_shown, proof_text, show_line, shown_as}
 use Rattle.world_model.specs.World.{World, Participant}
 use Rattle.world_laws.proofs.RecordsTold.{records_told}
@@ -37,16 +37,16 @@ module _ (s : Shown) (now : PartsState) where
 
 -- a proof, or that there is none
 module _ (before : Before) (w : World) (s : PartsState) (has : HasParts w s) where
-  pub shows_found : (named : Option Participant) (one : ParticipantState) → Some one ≡ option_map state_of named → (owner : PubKey) → owner ≡ own one.agent → (blocks : List (List ℕ)) → blocks ≡ w.met
+  pub shows_found : (named : Option Participant) (one : ParticipantState) → Some one ≡ option_map state_of named → (owner : PubKey) → owner ≡ own_hss_key one.agent → (blocks : List (List ℕ)) → blocks ≡ w.met
       → (heads : List (List ℕ)) → heads ≡ filter (λ b. eq_by_cmp owner_cmp (owner_in b) owner) blocks → (found : Option (List ℕ)) → found ≡ find_fork before heads blocks
       → (output : List ℕ) → output ≡ codes "proof" ++ 32 ∷ proof_text found → (next : World) × (Goes next output ≡ shown_as w (codes "proof") (of_known (proof_shown before w) named)) × GoesOn w s next
   shows_found None one is owner owner_is blocks blocks_are heads heads_are found found_is output text = absurd (none_some one (sym is))
   shows_found (Some p) one is owner owner_is blocks blocks_are heads heads_are found found_is output text = (w, ap (λ (o : List ℕ). Goes w o) (text ∙ ap (λ (f : Option (List ℕ)). codes "proof" ++ 32 ∷ proof_text f) all), (has, refl))
     where
-      same : owner ≡ own p.agent
-      same = owner_is ∙ ap (λ (q : ParticipantState). own q.agent) (some_same one (state_of p) is)
+      same : owner ≡ own_hss_key p.agent
+      same = owner_is ∙ ap (λ (q : ParticipantState). own_hss_key q.agent) (some_same one (state_of p) is)
 
-      all : found ≡ find_fork before (filter (λ b. eq_by_cmp owner_cmp (owner_in b) (own p.agent)) w.met) w.met
+      all : found ≡ find_fork before (filter (λ b. eq_by_cmp owner_cmp (owner_in b) (own_hss_key p.agent)) w.met) w.met
       all = found_is ∙ ap (λ (h : List (List ℕ)). find_fork before h blocks) heads_are ∙ (λ i. find_fork before (filter (λ b. eq_by_cmp owner_cmp (owner_in b) (same i)) (blocks_are i)) (blocks_are i))
 
 -- ---- the blocks that pass a test

@@ -9,10 +9,10 @@ use Rattle.std.specs.Str.{bytes_eq}
 use Rattle.log_model.specs.View.{View}
 use Rattle.agent_model.specs.Views.Entering.{Entered, NotMember, NotNamed, KeeperFailed}
 use Rattle.script_driver.specs.Run.{Outcome, Goes, Refuses}
-use Rattle.world_model.specs.Agents.{Entering, Kept, entering}
+use Rattle.world_model.specs.Agents.{HssEntering, HssKept, hss_entering}
 use Rattle.world_model.specs.Keepers.{asked_to_save, fails_next}
 use Rattle.world_model.specs.Logs.{Played, after_entering, afresh, afresh_told, failed_text, of_members, use_by, use_line}
-use Rattle.world_model.specs.Story.{known_of}
+use Rattle.world_model.specs.GhostState.{known_of}
 use Rattle.world_model.specs.World.{Participant, World, participant, view_named, with_participant}
 use Rattle.ring_nodes.proofs.Places.{none_found}
 use Rattle.script_participants.specs.declared.end.EnterEnd.{EnterEnd}
@@ -49,19 +49,19 @@ module _ (w : Played) (s : PartsState) (has : HasParts w.0 s) (log view : List �
     abbrev its : (p : Participant) × (participant w.0 log ≡ Some p) × (state_of p ≡ old)
     its = found_so w.0 s has log place old found is
 
-    abbrev came : Entering × Option Kept
-    came = entering its.0.agent v (fails_next its.0.keeper)
+    abbrev came : HssEntering × Option HssKept
+    came = hss_entering its.0.agent v (fails_next its.0.keeper)
 
     named : its.0.name ≡ log
     named = named_so w.0 s has log its.0 its.1
 
-    came_is : came ≡ entering old.agent v (fails_next old.keeper)
-    came_is = ap (λ (x : ParticipantState). entering x.agent v (fails_next x.keeper)) its.2
+    came_is : came ≡ hss_entering old.agent v (fails_next old.keeper)
+    came_is = ap (λ (x : ParticipantState). hss_entering x.agent v (fails_next x.keeper)) its.2
 
     line_is : use_line w log view ≡ after_entering w its.0 v came.0 came.1
     line_is = (λ i. use_by w (its.1 i) (in_view i))
 
-    by : (e : Entering) (saving : Option Kept) → came.0 ≡ e → came.1 ≡ saving → ComesTo w log view (having_entered old e saving).0 (record s { participants = set s.participants place (having_entered old e saving).1 })
+    by : (e : HssEntering) (saving : Option HssKept) → came.0 ≡ e → came.1 ≡ saving → ComesTo w log view (having_entered old e saving).0 (record s { participants = set s.participants place (having_entered old e saving).1 })
     by (Entered after) saving e_is saving_is =
         let p : Participant = record its.0 { agent = after; keeper = asked_to_save its.0.keeper saving; cache = [] } in
         let h = changed_has w.0 s has log place (record old { agent = after; keeper = asked_to_save old.keeper saving; cache = [] }) p apart found
@@ -84,7 +84,7 @@ module _ (w : Played) (s : PartsState) (has : HasParts w.0 s) (log view : List �
     comes : (how : EnterEnd) (next : ParticipantState) → (how, next) ≡ entering_view old v → ComesTo w log view how (record s { participants = set s.participants place next })
     comes how next e =
         subst (λ (x : EnterEnd × ParticipantState). ComesTo w log view x.0 (record s { participants = set s.participants place x.1 })) (sym e)
-        (by (entering old.agent v (fails_next old.keeper)).0 (entering old.agent v (fails_next old.keeper)).1 (ap (λ (x : Entering × Option Kept). x.0) came_is) (ap (λ (x : Entering × Option Kept). x.1) came_is))
+        (by (hss_entering old.agent v (fails_next old.keeper)).0 (hss_entering old.agent v (fails_next old.keeper)).1 (ap (λ (x : HssEntering × Option HssKept). x.0) came_is) (ap (λ (x : HssEntering × Option HssKept). x.1) came_is))
 
 -- a participant enters a view, or what becomes of it is told
 pub enters_in : (before s : PartsState) → s ≡ before → (log view : List ℕ) (place : ℕ) (old next : ParticipantState) (v : View) (how : EnterEnd) (result : Result Taken Memory) → AreNamedApart s.participants
@@ -98,9 +98,9 @@ enters_in before s same log view place old next v how (Err fault) apart found is
 
 -- it has its name still
 pub name_stays : (old next : ParticipantState) (v : View) (how : EnterEnd) → (how, next) ≡ entering_view old v → next.name ≡ old.name
-name_stays old next v how e = ap (λ (x : EnterEnd × ParticipantState). x.1.name) e ∙ by (entering old.agent v (fails_next old.keeper)).0 (entering old.agent v (fails_next old.keeper)).1
+name_stays old next v how e = ap (λ (x : EnterEnd × ParticipantState). x.1.name) e ∙ by (hss_entering old.agent v (fails_next old.keeper)).0 (hss_entering old.agent v (fails_next old.keeper)).1
   where
-    by : (e : Entering) (saving : Option Kept) → (having_entered old e saving).1.name ≡ old.name
+    by : (e : HssEntering) (saving : Option HssKept) → (having_entered old e saving).1.name ≡ old.name
     by (Entered after) saving = refl
     by NotMember saving = refl
     by (NotNamed other) saving = refl

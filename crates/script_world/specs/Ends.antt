@@ -5,7 +5,7 @@ use Rattle.script_participants.specs.declared.end.EnterEnd.{EnterEnd}
 use Rattle.script_participants.specs.declared.end.EnterEnd.TheVariants as end
 use Rattle.world_model.specs.Logs.{failed_text}
 
--- by how entering ended, and the world behind it: where the keeper failed, that is shown
+-- by how entering ended, and the world after it: where the keeper failed, that is shown
 abbrev pub use_outcome : {W : Type 0} → List ℕ → EnterEnd → W → Outcome W
 use_outcome log end.Entered next = Goes next []
 use_outcome log end.Refused next = Refuses

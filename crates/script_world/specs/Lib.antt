@@ -1,7 +1,7 @@
 pub mod PartsState
 pub mod CallsState
 pub mod Views
-pub mod Newcomers
+pub mod NewParticipants
 pub mod Held
 pub mod Ends
 pub mod Running

@@ -69,7 +69,7 @@ GoesOn w after next = HasParts next after × (next.sessions ≡ w.sessions)
 abbrev pub DoesIn : (World → Outcome World → Type 0) → PartsState → Taken → PartsState → Type 0
 DoesIn Does before how after = (w : World) → HasParts w before → IsTaken (GoesOn w after) (Does w) how
 
--- the same of worlds with their stories
+-- the same of worlds with their ghost states
 abbrev pub PlaysIn : (Played → Outcome Played → Type 0) → PartsState → Taken → PartsState → Type 0
 PlaysIn Does before how after = (w : Played) → HasParts w.0 before → IsTaken (λ next. GoesOn w.0 after next.0) (Does w) how
 

@@ -6,17 +6,17 @@ use Rattle.script_model.specs.Messages.{Given}
 use Rattle.session_model.specs.Sessions.{Said, Session}
 use Rattle.world_model.specs.Calls.{BeginsWith, Sending, replied}
 use Rattle.world_model.specs.Logs.{Played, Publishes}
-use Rattle.world_model.specs.Steps.{RunsOut, Scene, StepsOn}
+use Rattle.world_model.specs.Steps.{RunsOut, Configuration, StepsOn}
 use Rattle.world_model.specs.World.{Participant, World, participant}
-use Rattle.world_laws.specs.Keeps.{Keeps}
+use Rattle.world_laws.specs.Invariant.{Invariant}
 use Rattle.session_steps.specs.Ending.{left_by}
-use Rattle.session_steps.specs.Showing.{CallState, IsUnderWay, ShowsSession}
+use Rattle.session_steps.specs.Representing.{CallState, IsInProgress, RepresentsSession}
 use Rattle.script_world.specs.PartsState.{GoesOn, HasParts, PartsState}
 
 -- the call shows that session, which asks as many owners as the ring has
-pub record IsShownIn (s : PartsState) (t : Session) (call : CallState) : Type 0 where
+pub record IsRepresentedIn (s : PartsState) (t : Session) (call : CallState) : Type 0 where
   pub replicas : s.replicas ≡ Some call.session.replicas
-  pub shows : ShowsSession t call
+  pub shows : RepresentsSession t call
 
 -- ---- sessions that begin
 
@@ -28,44 +28,45 @@ pub record MayCall (s : PartsState) : Type 0 where
 -- where something is sent, a session begins with it
 abbrev pub BeginsOf : PartsState → Option CallState → World → Option Sending → Type 0
 BeginsOf s call w None = call ≡ None
-BeginsOf s call w (Some sending) = IsSomeAnd call (λ c. (t : Session) × BeginsWith w sending t × IsShownIn s t c)
+BeginsOf s call w (Some sending) = IsSomeAnd call (λ c. (t : Session) × BeginsWith w sending t × IsRepresentedIn s t c)
 
 -- ---- sessions that go on
 
--- a scene under way in a world that has these parts, of a session of that participant, which the call shows
-pub record IsSceneIn (s : PartsState) (name : List ℕ) (call : CallState) (c : Scene) (r : ℕ) : Type 0 where
-  pub way : IsUnderWay c r
+-- a configuration in progress in a world that has these parts, of a session of that participant, which the call represents
+pub record IsConfigurationIn (s : PartsState) (name : List ℕ) (call : CallState) (c : Configuration) (r : ℕ) : Type 0 where
+  pub way : IsInProgress c r
   pub parts : HasParts c.world s
   pub named : c.session.by ≡ name
   pub replicas : call.session.replicas ≡ r
-  pub shows : ShowsSession c.session call
+  pub shows : RepresentsSession c.session call
 
-abbrev pub HasSceneIn : PartsState → List ℕ → CallState → Type 0
-HasSceneIn s name call = (c : Scene) × (r : ℕ) × IsSceneIn s name call c r
+abbrev pub HasConfigurationIn : PartsState → List ℕ → CallState → Type 0
+HasConfigurationIn s name call = (c : Configuration) × (r : ℕ) × IsConfigurationIn s name call c r
 
--- the world of the scene then has the parts, and the open sessions of before, in the same ring
-pub record LeadsTo (after : PartsState) (new : CallState) (c end : Scene) : Type 0 where
+-- the world of the configuration then has the parts, and the open sessions of before, in the same ring
+pub record LeadsTo (after : PartsState) (new : CallState) (c end : Configuration) : Type 0 where
   pub goes_on : GoesOn c.world after end.world
   pub ring : end.world.replicas ≡ c.world.replicas
-  pub shown : IsShownIn after end.session new
+  pub shown : IsRepresentedIn after end.session new
 
 module _ (name : List ℕ) (before : PartsState) (old : CallState) (after : PartsState) (new : CallState) where
-  -- so many steps lead there from each such scene
+  -- so many steps lead there from each such configuration
   abbrev pub StepsOnIn : ℕ → Type 0
-  StepsOnIn count = (c : Scene) (r : ℕ) → IsSceneIn before name old c r
-      → (end : Scene) × StepsOn hss_judged r name count c end × LeadsTo after new c end
+  StepsOnIn count = (c : Configuration) (r : ℕ) → IsConfigurationIn before name old c r
+      → (end : Configuration) × StepsOn hss_judged r name count c end × LeadsTo after new c end
 
   -- all steps up to the end do, and it was told
   abbrev pub RunsOutIn : Type 0
   RunsOutIn = IsTrue (is_some new.told)
-      × ((c : Scene) (r : ℕ) → IsSceneIn before name old c r → (end : Scene) × RunsOut hss_judged r name c end × LeadsTo after new c end)
+      × ((c : Configuration) (r : ℕ) → IsConfigurationIn before name old c r
+      → (end : Configuration) × RunsOut hss_judged r name c end × LeadsTo after new c end)
 
 -- ---- publishing
 
--- a world that keeps what it should has these parts, and that participant
+-- a world in which the invariant holds has these parts, and that participant
 pub record CanPublish (s : PartsState) (name : List ℕ) (w : Played) (p : Participant) : Type 0 where
   pub parts : HasParts w.0 s
-  pub keeps : Keeps w
+  pub keeps : Invariant w
   pub named : participant w.0 name ≡ Some p
 
 abbrev pub HasPublisher : PartsState → List ℕ → Type 0

@@ -1,4 +1,4 @@
--- A view that a line makes, and that comes behind the others.
+-- A view that a line makes, and that comes after the others.
 use Rattle.std.specs.Prelude.{◌≡◌, ℕ, List, [], Option, Some}
 use Rattle.ivy_base.specs.declared.key.Key.{Key}
 use Rattle.log_model.specs.View.{View, view_block, view_name}

@@ -17,7 +17,7 @@ impl Parts {
     ghost use Rattle.world_model.specs.Ring.{stop_line};
     ghost use Rattle.script_world.specs.PartsState.{DoesIn};
 
-    /// The line `stop`: a node that lives stops. The error is want of memory.
+    /// The line `stop`: a node that lives stops. The error is: out of memory.
     pub fn stop(&mut self, alloc: Global, node: &NodeWord) -> Result<Taken, Memory>
         ensures { IfOk result (λ taken. DoesIn (λ w outcome. outcome ≡ stop_line w (node_named w node.now)) self.old taken self.new) }
     {
@@ -30,7 +30,7 @@ impl Parts {
         Ok(Taken::Went(Vec::new(alloc)))
     }
 
-    /// The line `lose`: the ask of that number from now on, the next one being 1, is lost. The error is want of memory, or an ask
+    /// The line `lose`: the ask of that number from now on, the next one being 1, is lost. The error is: out of memory, or an ask
     /// past 2^64.
     pub fn lose(&mut self, alloc: Global, count: u64) -> Result<Taken, Memory>
         ensures { IfOk result (λ taken. DoesIn (λ w outcome. outcome ≡ lose_line w count) self.old taken self.new) }
@@ -42,8 +42,8 @@ impl Parts {
         Ok(Taken::Went(Vec::new(alloc)))
     }
 
-    /// The line `damage`: sets a byte of the block that a node holds under a key; the block is met as it is then. The error is want
-    /// of memory.
+    /// The line `damage`: sets a byte of the block that a node holds under a key; the block is met as it is then. The error is:
+    /// out of memory.
     pub fn damage(
         &mut self,
         alloc: Global,
@@ -67,8 +67,8 @@ impl Parts {
         Ok(Taken::Went(Vec::new(alloc)))
     }
 
-    /// The line `keep`: the save of that number from now on, the next one being 1, is to fail, and leaves the new bytes or the old
-    /// ones. The error is want of memory.
+    /// The line `keep`: the save of that number from now on, the next one being 1, is to fail, and leaves the new bytes or the
+    /// old ones. The error is: out of memory.
     pub fn keep(
         &mut self,
         alloc: Global,

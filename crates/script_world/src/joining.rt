@@ -18,7 +18,7 @@ impl Parts {
     ghost use Rattle.world_model.specs.Rounds.{RoundLine};
     ghost use Rattle.script_world.specs.PartsState.{DoesIn};
 
-    /// The line `join`: a node of that number joins by a look-up; where it finds nobody, that is shown. The error is want of
+    /// The line `join`: a node of that number joins by a look-up; where it finds nobody, that is shown. The error is: out of
     /// memory, or 2^64 asks.
     pub fn join<J: Judge>(&mut self, alloc: Global, judge: &J, number: u32) -> Result<Taken, Memory>
         ensures { IfOk result (λ taken. DoesIn (λ w outcome. JoinLine (J.judges judge.now) w number w.replicas outcome) self.old taken self.new) }
@@ -30,7 +30,7 @@ impl Parts {
         taken_of(alloc, number, join)
     }
 
-    /// The line `round`: a round of maintenance over the live nodes. The error is want of memory, or 2^64 asks.
+    /// The line `round`: a round of maintenance over the live nodes. The error is: out of memory, or 2^64 asks.
     pub fn round<J: Judge>(&mut self, alloc: Global, judge: &J) -> Result<Taken, Memory>
         ensures { IfOk result (λ taken. DoesIn (λ w outcome. RoundLine (J.judges judge.now) w w.replicas outcome) self.old taken self.new) }
     {
@@ -42,7 +42,7 @@ impl Parts {
     }
 }
 
-/// How the line `join` of that number is taken by what became of it. The error is want of memory.
+/// How the line `join` of that number is taken by what became of it. The error is: out of memory.
 fn taken_of(alloc: Global, number: u32, join: Join) -> Result<Taken, Memory>
     ensures { IfOk result (λ taken. (w : World) → outcome_told taken w ≡ join_outcome number join w) }
 {
@@ -54,7 +54,7 @@ fn taken_of(alloc: Global, number: u32, join: Join) -> Result<Taken, Memory>
     }
 }
 
-/// What is shown where the node of that number didn't join. The error is want of memory.
+/// What is shown where the node of that number didn't join. The error is: out of memory.
 fn failed_join(alloc: Global, number: u32) -> Result<Vec<u8>, Memory>
     ensures { IfOk result (λ text. text.items ≡ failed_join_text number) }
 {

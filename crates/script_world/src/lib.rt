@@ -15,15 +15,15 @@
 //! - [`Parts::restart`] does so in worlds that satisfy the invariant (`EndsSessionsWell`,
 //!   `specs/Starting.antt`).
 //! - [`Parts::begin_log`] is the line `log` up to where its agent publishes, which takes a session
-//!   (`BeginsIn`, `specs/Newcomers.antt`).
+//!   (`BeginsIn`, `specs/NewParticipants.antt`).
 //! - The only errors are running out of memory and 2^64 asks; after an error the world is of no more use.
 //!
 //! Sessions are calls beside the parts, found by the name of their participant.
 //! - [`Parts::begin_call`] begins one with what a line sends, in each world that has the parts (`BeginsOf`,
 //!   `specs/Running.antt`).
 //! - [`Parts::step_on`] makes a number of steps and [`Parts::run_out`] all that are left, from each
-//!   configuration in progress in such a world (`IsSceneIn`). They reach one whose world has the new parts
-//!   and the same open sessions (`StepsOnIn`, `RunsOutIn`).
+//!   configuration in progress in such a world (`IsConfigurationIn`). They reach one whose world has the new
+//!   parts and the same open sessions (`StepsOnIn`, `RunsOutIn`).
 //! - [`Parts::publish`] is all that a participant publishes (`PublishesIn`).
 //! - [`Parts::take_reply`] keeps what a finished session leaves to later lines (`RepliesIn`).
 //!
@@ -49,7 +49,7 @@ mod faults;
 mod joining;
 mod made_views;
 mod naming;
-mod newcomers;
+mod new_participants;
 mod parts;
 mod running;
 mod setup;
@@ -59,5 +59,5 @@ mod views;
 
 pub use parts::Parts;
 
-// a call under way, which the parts go on with
+// a call in progress, which the parts go on with
 pub use session_steps::OpenCall;

@@ -21,7 +21,7 @@ pub enum Made {
     View(View),
 }
 
-/// The view of these members and former members, whose keys may come in any order. The error is want of memory.
+/// The view of these members and former members, whose keys may come in any order. The error is: out of memory.
 pub fn make_view(alloc: Global, members: Vec<PubKey>, former: Vec<PubKey>) -> Result<Made, Memory>
     requires { members.items ≢ [] }
     ensures { IfOk result (λ made. IsMade members.items former.items made) }
@@ -35,7 +35,7 @@ pub fn make_view(alloc: Global, members: Vec<PubKey>, former: Vec<PubKey>) -> Re
     Ok(Made::View(view_in_order(alloc, members, former)?))
 }
 
-/// Whether no two of the keys have one head key. Each head key is computed once. The error is want of memory.
+/// Whether no two of the keys have one head key. Each head key is computed once. The error is: out of memory.
 fn have_own_heads(alloc: Global, members: &[PubKey], former: &[PubKey]) -> Result<bool, Memory>
     ensures { IfOk result (λ own. own ≡ have_own_head_keys (members.now ++ former.now)) }
 {
@@ -48,7 +48,7 @@ fn have_own_heads(alloc: Global, members: &[PubKey], former: &[PubKey]) -> Resul
     Ok(true)
 }
 
-/// The view of these keys, which are put in order. The error is want of memory.
+/// The view of these keys, which are put in order. The error is: out of memory.
 fn view_in_order(alloc: Global, members: Vec<PubKey>, former: Vec<PubKey>) -> Result<View, Memory>
     requires some { members.items ≢ [] }
     requires few { length members.items ≤ most_members }

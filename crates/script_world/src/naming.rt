@@ -4,7 +4,7 @@ ghost use Rattle.std.specs.Prelude.{◌≡◌, find, option_map, IfOk};
 ghost use Rattle.std.specs.Str.{bytes_eq};
 ghost use Rattle.ivy_base.specs.Naming.{head_key_of};
 ghost use Rattle.log_model.specs.View.{view_name};
-ghost use Rattle.world_model.specs.Agents.{own};
+ghost use Rattle.world_model.specs.Agents.{own_hss_key};
 ghost use Rattle.world_model.specs.Faults as faults;
 ghost use Rattle.world_model.specs.World.{World, participant, view_named};
 ghost use Rattle.script_model.specs.declared.command.NodeWord.TheVariants as node;
@@ -40,7 +40,7 @@ impl Parts {
         }
     }
 
-    /// The peer of the node that a line names; None where there is no such node. The error is want of memory.
+    /// The peer of the node that a line names; None where there is no such node. The error is: out of memory.
     pub(crate) fn peer_named(&self, alloc: Global, word: &NodeWord) -> Result<Option<Peer>, Memory>
         ensures { IfOk result (λ peer. (w : World) → HasParts w self.now → IsPeerOf self.now.nodes (faults.node_named w word.now) peer) }
     {
@@ -50,7 +50,7 @@ impl Parts {
         }
     }
 
-    /// The named key's owner of that number. The error is want of memory.
+    /// The named key's owner of that number. The error is: out of memory.
     fn owner_named(&self, alloc: Global, place: u64, key: &KeyWord) -> Result<Option<Peer>, Memory>
         ensures { IfOk result (λ peer. (w : World) → HasParts w self.now → IsPeerOf self.now.nodes (faults.node_named w (node.OwnerOf place key.now)) peer) }
     {
@@ -66,7 +66,7 @@ impl Parts {
 
     /// The head key of the log of that name.
     fn head_key_of(&self, log: &[u8]) -> Option<Key>
-        ensures { (w : World) → HasParts w self.now → result ≡ option_map (λ p. head_key_of (own p.agent)) (participant w log.now) }
+        ensures { (w : World) → HasParts w self.now → result ≡ option_map (λ p. head_key_of (own_hss_key p.agent)) (participant w log.now) }
     {
         let one = self.participants.named(log)?;
         Some(head_key(&one.owner()))

@@ -17,10 +17,10 @@ use std::sync::ledger::{Blank, Ledger};
 
 impl Parts {
     ghost use Rattle.script_world.specs.PartsState.{HasParts};
-    ghost use Rattle.script_world.specs.Running.{BeginsOf, CanPublish, HasPublisher, HasSceneIn, IsShownIn, MayCall, PublishesIn, RepliesIn, RunsOutIn, StepsOnIn};
+    ghost use Rattle.script_world.specs.Running.{BeginsOf, CanPublish, HasPublisher, HasConfigurationIn, IsRepresentedIn, MayCall, PublishesIn, RepliesIn, RunsOutIn, StepsOnIn};
 
-    /// The session that begins with what a line of a call sends; None where the line sends nothing: its participant isn't there or
-    /// in no view, or its pieces are no message. The error is want of memory.
+    /// The session that begins with what a line of a call sends; None where the line sends nothing: its participant isn't there
+    /// or in no view, or its pieces are no message. The error is: out of memory.
     pub fn begin_call(
         &self,
         alloc: Global,
@@ -47,7 +47,7 @@ impl Parts {
         Ok(Some(call))
     }
 
-    /// A participant's session goes so many steps. The error is want of memory.
+    /// A participant's session goes so many steps. The error is: out of memory.
     pub fn step_on(
         &mut self,
         alloc: Global,
@@ -55,15 +55,15 @@ impl Parts {
         call: &mut OpenCall,
         count: u64,
     ) -> Result<(), Memory>
-        requires { HasSceneIn self.old name.now call.old }
+        requires { HasConfigurationIn self.old name.now call.old }
         ensures { OnOk result (StepsOnIn name.now self.old call.old self.new call.new count) }
     {
         self.count_steps::<Brand>(alloc, name, call, count, Blank::new(1))
     }
 
-    /// A participant's session goes to its end, which it tells. The error is want of memory.
+    /// A participant's session goes to its end, which it tells. The error is: out of memory.
     pub fn run_out(&mut self, alloc: Global, name: &[u8], call: &mut OpenCall) -> Result<(), Memory>
-        requires { HasSceneIn self.old name.now call.old }
+        requires { HasConfigurationIn self.old name.now call.old }
         ensures { OnOk result (RunsOutIn name.now self.old call.old self.new call.new) }
     {
         self.count_all_steps::<Brand>(alloc, name, call, Blank::new(1))
@@ -80,7 +80,7 @@ impl Parts {
     ) -> Result<(), Memory>
         requires name { L.name ≡ blank.name }
         requires parts { (L.parts ≡ blank.parts) × (0 < L.parts) }
-        requires scene { HasSceneIn self.old name.now call.old }
+        requires configuration { HasConfigurationIn self.old name.now call.old }
         ensures { OnOk result (StepsOnIn name.now self.old call.old self.new call.new count) }
     {
         let Some(place) = self.participants.place_of(name) else {
@@ -110,7 +110,7 @@ impl Parts {
     ) -> Result<(), Memory>
         requires name { L.name ≡ blank.name }
         requires parts { (L.parts ≡ blank.parts) × (0 < L.parts) }
-        requires scene { HasSceneIn self.old name.now call.old }
+        requires configuration { HasConfigurationIn self.old name.now call.old }
         ensures { OnOk result (RunsOutIn name.now self.old call.old self.new call.new) }
     {
         let Some(place) = self.participants.place_of(name) else {
@@ -129,7 +129,7 @@ impl Parts {
         end_steps(alloc, &mut self.participants, went)
     }
 
-    /// A participant publishes all that its agent has pending. The error is want of memory.
+    /// A participant publishes all that its agent has pending. The error is: out of memory.
     pub fn publish(&mut self, alloc: Global, name: &[u8]) -> Result<(), Memory>
         requires { HasPublisher self.old name.now }
         ensures { OnOk result (PublishesIn name.now self.old self.new) }
@@ -138,10 +138,10 @@ impl Parts {
         self.run_out(alloc, name, &mut call)
     }
 
-    /// The session by which a participant publishes all that its agent has pending. The error is want of memory.
+    /// The session by which a participant publishes all that its agent has pending. The error is: out of memory.
     fn publishing_of(&self, alloc: Global, name: &[u8]) -> Result<OpenCall, Memory>
         requires { HasPublisher self.now name.now }
-        ensures { IfOk result (λ call. (w : Played) (p : Seen) → CanPublish self.now name.now w p → IsShownIn self.now (to_publish w.0 p) call) }
+        ensures { IfOk result (λ call. (w : Played) (p : Seen) → CanPublish self.now name.now w p → IsRepresentedIn self.now (to_publish w.0 p) call) }
     {
         let Some(replicas) = self.replicas else {
             unreachable!();
@@ -152,7 +152,7 @@ impl Parts {
         OpenCall::publish(alloc, &self.nodes, replicas, one)
     }
 
-    /// What a session that is over leaves to later lines. The error is want of memory.
+    /// What a session that is over leaves to later lines. The error is: out of memory.
     pub fn take_reply(&mut self, given: Option<ReplyParts>) -> Result<(), Memory>
         ensures { OnOk result (RepliesIn given self.old self.new) }
     {
@@ -163,7 +163,7 @@ impl Parts {
     }
 }
 
-/// What the steps of a session came to. Where memory was wanting a call tells no longer who its participant is: nobody is left then.
+/// What the steps of a session came to. Where memory ran out a call tells no longer who its participant is: nobody is left then.
 fn end_steps(
     alloc: Global,
     participants: &mut Participants,

@@ -23,7 +23,7 @@ impl Parts {
     ghost use Rattle.world_model.specs.Ring.{RingLine};
     ghost use Rattle.script_world.specs.PartsState.{DoesIn, EndsSessionsIn};
 
-    /// The line `ring`: makes the settled ring of so many nodes, in which so many own a key. The error is want of memory.
+    /// The line `ring`: makes the settled ring of so many nodes, in which so many own a key. The error is: out of memory.
     pub fn ring(&mut self, alloc: Global, count: u64, replicas: u64) -> Result<Taken, Memory>
         ensures { IfOk result (λ taken. DoesIn (λ w outcome. RingLine w count replicas outcome) self.old taken self.new) }
     {
@@ -38,8 +38,8 @@ impl Parts {
         Ok(Taken::Went(Vec::new(alloc)))
     }
 
-    /// The line `use`: a participant enters a view, and its sessions are gone then, of which nothing is said here. Where its keeper
-    /// fails that is shown. The error is want of memory.
+    /// The line `use`: a participant enters a view, and its sessions are gone then, of which nothing is said here. Where its
+    /// keeper fails that is shown. The error is: out of memory.
     pub fn use_view(&mut self, alloc: Global, log: &[u8], named: &[u8]) -> Result<Taken, Memory>
         ensures { IfOk result (λ taken. EndsSessionsIn (λ w outcome. outcome ≡ use_line w log.now named.now) self.old taken self.new) }
     {
@@ -86,7 +86,7 @@ fn is_owner_count(count: u64) -> bool
     count >= 1 && count <= MOST_REPLICAS
 }
 
-/// How the line `use` of that participant is taken by how entering ended. The error is want of memory.
+/// How the line `use` of that participant is taken by how entering ended. The error is: out of memory.
 fn taken_of(alloc: Global, log: &[u8], end: EnterEnd) -> Result<Taken, Memory>
     ensures { IfOk result (λ taken. (w : Played) → outcome_told taken w ≡ use_outcome log.now end w) }
 {
@@ -97,7 +97,7 @@ fn taken_of(alloc: Global, log: &[u8], end: EnterEnd) -> Result<Taken, Memory>
     }
 }
 
-/// What is shown where the line `use` failed for the participant of that name. The error is want of memory.
+/// What is shown where the line `use` failed for the participant of that name. The error is: out of memory.
 fn failed(alloc: Global, name: &[u8]) -> Result<Vec<u8>, Memory>
     ensures { IfOk result (λ text. text.items ≡ failed_text (codes "use") name.now) }
 {

@@ -23,14 +23,14 @@ impl Parts {
     ghost use Rattle.world_model.specs.Shows.{Shows, show_line};
     ghost use Rattle.script_world.specs.PartsState.{DoesIn};
 
-    /// A line that shows something. The error is want of memory.
+    /// A line that shows something. The error is: out of memory.
     pub fn show(&self, alloc: Global, what: &Shown) -> Result<Taken, Memory>
         ensures { IfOk result (λ taken. DoesIn (λ w outcome. Shows w what.now outcome) self.now taken self.now) }
     {
         self.show_by(alloc, what)
     }
 
-    /// The same, by whatever tells which of the blocks met are records. The error is want of memory.
+    /// The same, by whatever tells which of the blocks met are records. The error is: out of memory.
     fn show_by(&self, alloc: Global, what: &Shown) -> Result<Taken, Memory>
         ensures { (before : Before) → TellsRecords before → IfOk result (λ taken. DoesIn (λ w outcome. outcome ≡ show_line before w what.now) self.now taken self.now) }
     {
@@ -43,7 +43,7 @@ impl Parts {
         }
     }
 
-    /// The line `holds`: shows the keys of the blocks that a live node holds, ascending. The error is want of memory.
+    /// The line `holds`: shows the keys of the blocks that a live node holds, ascending. The error is: out of memory.
     fn holds(&self, alloc: Global, node: &NodeWord) -> Result<Taken, Memory>
         ensures { (before : Before) → IfOk result (λ taken. DoesIn (λ w outcome. outcome ≡ show_line before w (shown.Holds node.now)) self.now taken self.now) }
     {
@@ -56,7 +56,7 @@ impl Parts {
         Ok(Taken::Went(held_text(alloc, peer.number, held.as_slice())?))
     }
 
-    /// The line `order`: shows the records that a participant in a view holds. The error is want of memory.
+    /// The line `order`: shows the records that a participant in a view holds. The error is: out of memory.
     fn order(&self, alloc: Global, log: &[u8]) -> Result<Taken, Memory>
         ensures { (before : Before) → IfOk result (λ taken. DoesIn (λ w outcome. outcome ≡ show_line before w (shown.Order log.now)) self.now taken self.now) }
     {
@@ -69,7 +69,7 @@ impl Parts {
         Ok(Taken::Went(self.participants.order_text(alloc, one)?))
     }
 
-    /// The line `work`: shows how many records a participant's last turn applied, where it is in a view. The error is want of
+    /// The line `work`: shows how many records a participant's last turn applied, where it is in a view. The error is: out of
     /// memory.
     fn work(&self, alloc: Global, log: &[u8]) -> Result<Taken, Memory>
         ensures { (before : Before) → IfOk result (λ taken. DoesIn (λ w outcome. outcome ≡ show_line before w (shown.Work log.now)) self.now taken self.now) }
@@ -83,8 +83,8 @@ impl Parts {
         Ok(Taken::Went(one.work_text(alloc)?))
     }
 
-    /// The line `conflicts`: shows which of the records that a participant in a view holds are in conflict. It meets a limit where
-    /// there are more than 1,000,000 pairs. The error is want of memory.
+    /// The line `conflicts`: shows which of the records that a participant in a view holds are in conflict. It meets a limit
+    /// where there are more than 1,000,000 pairs. The error is: out of memory.
     fn conflicts(&self, alloc: Global, log: &[u8]) -> Result<Taken, Memory>
         ensures { (before : Before) → IfOk result (λ taken. DoesIn (λ w outcome. outcome ≡ show_line before w (shown.Conflicts log.now)) self.now taken self.now) }
     {
@@ -100,8 +100,8 @@ impl Parts {
         }
     }
 
-    /// The line `proof`: shows that a participant's log was signed into two histories, where the blocks met show it. The error is
-    /// want of memory.
+    /// The line `proof`: shows that a participant's log was signed into two histories, where the blocks met show it. The error
+    /// is: out of memory.
     fn proof(&self, alloc: Global, log: &[u8]) -> Result<Taken, Memory>
         ensures { (before : Before) → TellsRecords before → IfOk result (λ taken. DoesIn (λ w outcome. outcome ≡ show_line before w (shown.Proof log.now)) self.now taken self.now) }
     {
@@ -115,7 +115,7 @@ impl Parts {
     }
 }
 
-/// Copies of the blocks in which that public key stands where a head has its owner's. The error is want of memory.
+/// Copies of the blocks in which that public key stands where a head has its owner's. The error is: out of memory.
 fn heads_of(alloc: Global, owner: &PubKey, blocks: &[Bytes]) -> Result<Vec<Bytes>, Memory>
     ensures { IfOk result (λ heads. heads.items ≡ filter (λ b. eq_by_cmp owner_cmp (owner_in b) owner.now) blocks.now) }
 {
@@ -135,7 +135,7 @@ fn is_of(block: &[u8], owner: &PubKey) -> bool
     first(behind(block, 4), 60) == owner.0.as_slice()
 }
 
-/// What stands behind so many bytes.
+/// What stands after so many bytes.
 fn behind(bytes: &[u8], count: usize) -> &[u8]
     ensures { result.now ≡ drop count bytes.now }
 {
@@ -149,7 +149,7 @@ fn first(bytes: &[u8], count: usize) -> &[u8]
     &bytes[..count.min(bytes.len())]
 }
 
-/// What is shown of a proof that was found, or of none. The error is want of memory.
+/// What is shown of a proof that was found, or of none. The error is: out of memory.
 fn found_text(alloc: Global, found: &Option<Bytes>) -> Result<Vec<u8>, Memory>
     ensures { IfOk result (λ text. text.items ≡ codes "proof" ++ 32 ∷ proof_text found.now) }
 {
@@ -159,7 +159,7 @@ fn found_text(alloc: Global, found: &Option<Bytes>) -> Result<Vec<u8>, Memory>
     }
 }
 
-/// What is shown of a proof. The error is want of memory.
+/// What is shown of a proof. The error is: out of memory.
 fn digits_text(alloc: Global, proof: &[u8]) -> Result<Vec<u8>, Memory>
     ensures { IfOk result (λ text. text.items ≡ codes "proof " ++ encode_lower proof.now ++ 10 ∷ []) }
 {
@@ -170,7 +170,7 @@ fn digits_text(alloc: Global, proof: &[u8]) -> Result<Vec<u8>, Memory>
     Ok(text)
 }
 
-/// What is shown of the node of that number, which holds these blocks. The error is want of memory.
+/// What is shown of the node of that number, which holds these blocks. The error is: out of memory.
 fn held_text(alloc: Global, number: u32, held: &[Post]) -> Result<Vec<u8>, Memory>
     ensures { IfOk result (λ text. text.items ≡ codes "holds " ++ decimal number ++ 32 ∷ decimal (length held.now) ++ 10 ∷ key_lines held.now) }
 {
@@ -180,7 +180,7 @@ fn held_text(alloc: Global, number: u32, held: &[Post]) -> Result<Vec<u8>, Memor
     Ok(text)
 }
 
-/// Appends a line for each block's key. The error is want of memory.
+/// Appends a line for each block's key. The error is: out of memory.
 fn put_keys(alloc: Global, text: &mut Vec<u8>, held: &[Post]) -> Result<(), Memory>
     ensures { OnOk result (text.new.items ≡ text.old.items ++ key_lines held.now) }
 {
@@ -190,7 +190,7 @@ fn put_keys(alloc: Global, text: &mut Vec<u8>, held: &[Post]) -> Result<(), Memo
     Ok(())
 }
 
-/// Appends a key's line. The error is want of memory.
+/// Appends a key's line. The error is: out of memory.
 fn put_key(alloc: Global, text: &mut Vec<u8>, key: &Key) -> Result<(), Memory>
     ensures { OnOk result (text.new.items ≡ text.old.items ++ encode_lower key.now.0 ++ 10 ∷ []) }
 {

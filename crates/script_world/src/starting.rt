@@ -14,7 +14,7 @@ impl Parts {
     ghost use Rattle.script_world.specs.Starting.{EndsSessionsWell};
 
     /// The line `restart`: a participant's agent starts again from what its keeper holds, and its sessions are gone then, of
-    /// which nothing is said here. What it has to publish is met. The error is want of memory.
+    /// which nothing is said here. What it has to publish is met. The error is: out of memory.
     pub fn restart(&mut self, alloc: Global, log: &[u8]) -> Result<Taken, Memory>
         ensures { IfOk result (λ taken. EndsSessionsWell (λ w outcome. RestartLine w (participant w.0 log.now) outcome) self.old taken self.new) }
     {
@@ -27,7 +27,7 @@ impl Parts {
                 self.met.meet_all(alloc, one.pending().as_slice())?;
                 Ok(Taken::Went(Vec::new(alloc)))
             }
-            // A world that keeps what it should loses nobody.
+            // A world in which the invariant holds loses nobody.
             RestartEnd::Outside | RestartEnd::Lost => Ok(Taken::Refused),
         }
     }

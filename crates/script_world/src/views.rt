@@ -16,8 +16,8 @@ impl Parts {
     ghost use Rattle.script_world.specs.Views.{MakesOf, PutsView};
 
     /// The line `view`: makes a view of that name, of the members' and the former members' logs. Its block is met, and put at
-    /// its owners; that the put was acknowledged is told by the story alone. A line names a member at least. The error is want
-    /// of memory, or 2^64 asks.
+    /// its owners; that the put was acknowledged is known to the ghost state alone. A line names a member at least. The error
+    /// is: out of memory, or 2^64 asks.
     pub fn make_view<J: Judge>(
         &mut self,
         alloc: Global,
@@ -43,7 +43,7 @@ impl Parts {
         }
     }
 
-    /// The view that a line makes; it is refused where a view has that name, or a log isn't there. The error is want of memory.
+    /// The view that a line makes; it is refused where a view has that name, or a log isn't there. The error is: out of memory.
     fn view_of(
         &self,
         alloc: Global,
@@ -66,7 +66,7 @@ impl Parts {
         make_view(alloc, members, former)
     }
 
-    /// A view comes behind the others; its block is met, and put at its owners. The error is want of memory, or 2^64 asks.
+    /// A view comes after the others; its block is met, and put at its owners. The error is: out of memory, or 2^64 asks.
     fn put_view<J: Judge>(
         &mut self,
         alloc: Global,
@@ -86,7 +86,7 @@ impl Parts {
     }
 }
 
-/// Puts a view behind the others. The error is want of memory.
+/// Puts a view after the others. The error is: out of memory.
 fn push_view(views: &mut Vec<NamedView>, name: Bytes, view: View) -> Result<(), Memory>
     ensures { OnOk result (views.new.items ≡ views.old.items ++ record { name = name; view = view } ∷ []) }
 {

@@ -18,7 +18,7 @@ pub record TurnAsked : Type 0 where
   pub asked : Asked
   pub now : Moment
 
--- What a turn gives its session: a reply and what is to be published then, a standing from which it begins anew, or nothing for want of
+-- What a turn gives its session: a reply and what is to be published then, a standing from which it begins again, or nothing when out of
 -- memory.
 pub data Gave : Type 0 where
   Replied : (reply : Reply) (posts : List Post) → Gave

@@ -7,9 +7,9 @@ use Rattle.dht_ids.specs.declared.post.Ack.{Ack}
 use Rattle.agent_model.specs.Agent.{Agent, Kept}
 use Rattle.agent_model.specs.Others.{settled}
 use Rattle.agent_model.specs.SavedBytes.{kept_bytes}
-use Rattle.agent_model.specs.Standing.{Standing, anew_in, standing_in}
+use Rattle.agent_model.specs.Standing.{Standing, begun_again_in, standing_in}
 use Rattle.agent_model.specs.Turning.{TurnEnd, Answered, Turns}
-use Rattle.session_model.specs.Courses.{IsRefusal}
+use Rattle.session_model.specs.Executions.{IsRefusal}
 use Rattle.server_model.specs.Acts.{Gave, Lacked, Refused, Replied, TurnAsked}
 use Rattle.server_model.specs.Takers.{Taker}
 
@@ -43,7 +43,7 @@ module _ {K S : Type 0} (signs : Signing S) (saves : K → List ℕ → Bool →
         → Turns signs turn.brought (record { agent = o.agent; view = view; now = turn.now; fails = false })
         turn.asked end after.agent saving
         → Saves saves o.keeper (option_map (kept_bytes signs) saving) false after.keeper
-        → TurnsAlone o turn (Refused (anew_in signs after.agent view)) after
+        → TurnsAlone o turn (Refused (begun_again_in signs after.agent view)) after
     lacks_memory : TurnsAlone o turn Lacked o
 
   -- the posts that are acknowledged are dropped

@@ -9,7 +9,7 @@ use Rattle.server_model.specs.declared.ended.Ended.{Ended}
 use Rattle.server_model.specs.declared.ended.Ended.TheVariants as ended
 
 -- What is seen of a link: the bytes read, the acts, and the bytes written.
-pub record Course : Type 0 where
+pub record Execution : Type 0 where
   pub read : List ℕ
   pub acts : List Act
   pub written : List ℕ
@@ -31,7 +31,7 @@ module _ {P : Type 0} (taker : Taker P) (ring : Ring) (p : P) where
   abbrev pub HasServed : List (List ℕ) → List Act → List (List ℕ) → Between P → Type 0
   HasServed = ServesEach taker ring (at_first p)
 
-  -- The next message was read, behind those that were served, and served.
+  -- The next message was read, after those that were served, and served.
   pub record HasServedNext (read : List ℕ) (acts : List Act) (replies : List (List ℕ)) (answer : Answer) (q : P) : Type 0 where
     pub messages : List (List ℕ)
     pub message : List ℕ
@@ -47,14 +47,14 @@ module _ {P : Type 0} (taker : Taker P) (ring : Ring) (p : P) where
 
   -- The messages of the bytes read are served in their order, and the bytes written are the replies to them, each as one fragment. Where
   -- the link ends by a fault, all is the beginning of that, and the last reply may be written in part.
-  pub data Link : Course → Ended → P → Type 0 where
+  pub data Link : Execution → Ended → P → Type 0 where
     done : {read : List ℕ} {messages replies : List (List ℕ)} {acts : List Act} {after : Between P} → IsSplit read messages []
         → HasServed messages acts replies after → Link (record { read = read; acts = acts; written = sent replies }) ended.Done after.taker
     -- the rest is the beginning of a message
     cut : {read : List ℕ} {messages replies : List (List ℕ)} {acts : List Act} {after : Between P} (rest : List ℕ) → rest ≢ []
         → IsSplit read messages rest → HasServed messages acts replies after
         → Link (record { read = read; acts = acts; written = sent replies }) ended.Cut after.taker
-    -- it stands behind these messages
+    -- it stands after these messages
     too_long : {read : List ℕ} {messages replies : List (List ℕ)} {acts : List Act} {after : Between P} → IsTooLong read messages
         → HasServed messages acts replies after
         → Link (record { read = read; acts = acts; written = sent replies }) ended.TooLong after.taker
@@ -68,7 +68,7 @@ module _ {P : Type 0} (taker : Taker P) (ring : Ring) (p : P) where
     write_fault : {read : List ℕ} {replies : List (List ℕ)} {acts : List Act} {q : P} (reply : List ℕ) (is_cut : Bool) (count : ℕ)
         → HasServedNext read acts replies (record { reply = Some reply; is_cut = is_cut }) q → count < length (fragment true reply)
         → Link (record { read = read; acts = acts; written = sent replies ++ take count (fragment true reply) }) ended.WriteFault q
-    -- so, as memory was wanting
+    -- so, as memory ran out
     unwritten : {read : List ℕ} {replies : List (List ℕ)} {acts : List Act} {q : P} (reply : List ℕ) (is_cut : Bool) (count : ℕ)
         → HasServedNext read acts replies (record { reply = Some reply; is_cut = is_cut }) q → count < length (fragment true reply)
         → Link (record { read = read; acts = acts; written = sent replies ++ take count (fragment true reply) }) ended.Memory q
@@ -76,7 +76,7 @@ module _ {P : Type 0} (taker : Taker P) (ring : Ring) (p : P) where
     was_cut : {read : List ℕ} {replies : List (List ℕ)} {acts : List Act} {q : P} (reply : List ℕ)
         → HasServedNext read acts replies (record { reply = Some reply; is_cut = true }) q
         → Link (record { read = read; acts = acts; written = sent (replies ++ reply ∷ []) }) ended.Memory q
-    -- Memory was wanting before anything was read, or for more than what was served: for a piece, or for a session that could not begin.
+    -- Memory ran out before anything was read, or for more than what was served: for a piece, or for a session that could not begin.
     stopped : {read : List ℕ} {messages replies : List (List ℕ)} {acts : List Act} {q : P} {before : Between P} (rest : List ℕ)
         → (read ≡ []) ⊎ (rest ≢ []) → Begins read messages rest → HasServed messages acts replies before
         → MayHaveLooked taker before.taker q

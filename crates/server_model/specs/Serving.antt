@@ -2,7 +2,7 @@
 use Rattle.std.specs.Prelude.{◌≡◌, ℕ, Bool, false, List, [], ◌∷◌, ◌++◌, Option, Some}
 use Rattle.agent_model.specs.Standing.{Standing}
 use Rattle.session_model.specs.Sessions.{Session, Cache, Over, Said}
-use Rattle.session_model.specs.Courses.{Begins}
+use Rattle.session_model.specs.Executions.{Begins}
 use Rattle.server_model.specs.Acts.{Act}
 use Rattle.server_model.specs.Driving.{Driven, Went}
 use Rattle.server_model.specs.Takers.{Follows, Ring, Taker}

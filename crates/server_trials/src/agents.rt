@@ -16,7 +16,7 @@ pub type MemAgent = Agent<MemKeeper, Hss>;
 /// The moment at which agents open their logs.
 const OPENING: Moment = Moment { sec: 0, nsec: 0 };
 
-/// A key with 32 signatures, of that identifier, from that seed. None is want of memory.
+/// A key with 32 signatures, of that identifier, from that seed. None means out of memory.
 fn key(alloc: Global, identifier: u8, seed: u8) -> Option<Hss> {
     let mut id = [0; 16];
     id[15] = identifier;
@@ -29,7 +29,7 @@ fn key(alloc: Global, identifier: u8, seed: u8) -> Option<Hss> {
     Hss::grow(alloc, &id, &seeds, &[set]).ok()
 }
 
-/// An agent with that key, in the view of its own log alone. None is want of memory.
+/// An agent with that key, in the view of its own log alone. None means out of memory.
 pub fn agent(alloc: Global, identifier: u8, seed: u8) -> Option<MemAgent>
     ensures { IfSome result (λ a. IsSomeAnd a.agent.view (λ view. Unit {0})) }
 {
@@ -45,7 +45,7 @@ pub fn agent(alloc: Global, identifier: u8, seed: u8) -> Option<MemAgent>
     }
 }
 
-/// The view of the logs of these two agents, whose keys ascend. None is want of memory.
+/// The view of the logs of these two agents, whose keys ascend. None means out of memory.
 pub fn view_of_both(alloc: Global, first: &MemAgent, second: &MemAgent) -> Option<View> {
     View::make(alloc, &[first.owner(), second.owner()], &[]).ok()
 }

@@ -18,7 +18,7 @@ use std::alloc::Global;
 use std::sync::Wait;
 
 /// Serves a link with a pass of the gate over the ring. The result is how the link ended, and the pass. Its own calls in the
-/// gate's history are the link's turns, in order, behind those that it had.
+/// gate's history are the link's turns, in order, after those that it had.
 fn serve_pass<R: Wait, K: Keeper + Drop, S: Signs + Drop>(
     rt: &R,
     alloc: Global,
@@ -49,8 +49,8 @@ pub struct Behind {
     pub turns: u64,
 }
 
-/// Serves the link of a line over the ring with a gate's only pass, and closes the gate. None is want of memory, or that the line
-/// is of another form.
+/// Serves the link of a line over the ring with a gate's only pass, and closes the gate. None means out of memory, or that the
+/// line is of another form.
 pub fn serve_behind<R: Wait>(rt: &R, alloc: Global, ring: &LiveRing, line: &str) -> Option<Behind> {
     let Link {
         mut source,
@@ -74,8 +74,8 @@ pub fn serve_behind<R: Wait>(rt: &R, alloc: Global, ring: &LiveRing, line: &str)
     })
 }
 
-/// Serves the link of a line behind a gate, over a small ring: what came of it, and how many turns the gate's history has. None is
-/// want of memory, or that the line is of another form.
+/// Serves the link of a line behind a gate, over a small ring: what came of it, and how many turns the gate's history has. None
+/// means out of memory, or that the line is of another form.
 pub fn serve_gated<R: Wait>(rt: &R, alloc: Global, line: &str) -> Option<(Served, u64)> {
     let ring = small_ring(rt, alloc)?;
     let behind = serve_behind(rt, alloc, &ring, line)?;

@@ -4,7 +4,7 @@ use ivy_base::Bytes;
 use ivy_io::{Failing, MemSink, MemSource};
 use std::alloc::Global;
 
-/// NULL of NFS (RFC 1813, section 3.3.0) as one fragment, behind its number: call, version 2 of RPC, the program, its version, the
+/// NULL of NFS (RFC 1813, section 3.3.0) as one fragment, after its number: call, version 2 of RPC, the program, its version, the
 /// procedure, and no credentials.
 const NULL: [u8; 36] = [
     0, 0, 0, 0, 0, 0, 0, 2, 0, 1, 0x86, 0xa3, 0, 0, 0, 3, 0, 0, 0, 0, 0, 0, 0, 0, 0, 0, 0, 0, 0, 0,
@@ -18,7 +18,7 @@ pub struct Link {
     pub sink: MemSink,
 }
 
-/// The link of a line. None is want of memory, or that the line is no `R W STREAM`.
+/// The link of a line. None means out of memory, or that the line is no `R W STREAM`.
 pub fn link_of(alloc: Global, line: &str) -> Option<Link> {
     let (reads, rest) = line.split_once(' ')?;
     let (writes, stream) = rest.split_once(' ')?;
@@ -31,7 +31,8 @@ pub fn link_of(alloc: Global, line: &str) -> Option<Link> {
     })
 }
 
-/// The call of that number is to fail; calls count from 1, so that 0 names none. None is want of memory, or no number.
+/// The call of that number is to fail; calls count from 1, so that 0 names none. None means out of memory, or no
+/// number.
 fn failing(alloc: Global, number: &str) -> Option<Failing> {
     let Ok(number) = number.parse() else {
         return None;
@@ -42,7 +43,7 @@ fn failing(alloc: Global, number: &str) -> Option<Failing> {
     Some(Failing::of(calls))
 }
 
-/// The bytes of a stream's words. None is want of memory, or a word of another form.
+/// The bytes of a stream's words. None means out of memory, or a word of another form.
 fn stream_of(alloc: Global, stream: &str) -> Option<Bytes> {
     let mut bytes = Vec::new(alloc);
     if stream == "-" {

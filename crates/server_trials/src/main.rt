@@ -34,7 +34,7 @@
 //!   to theirs; what the client read until the server hung up; the link's number; and ports that are to end before they listen.
 //!
 //! The answer to a line that changes a world is `changed`. Empty lines and those that begin with `#` are written as they are. `no
-//! answer` stands for other lines, and for want of memory.
+//! answer` stands for other lines, and when out of memory.
 //!
 //! The answers of the stored run are worked out by hand from RFC 5531 and RFC 1813, and those over a world are what the same calls
 //! get in scripts. The replies to MKDIR and LOOKUP are also those of a model in another language.
@@ -84,7 +84,7 @@ fn main(rt: HostRuntime) -> io::Result<()> {
     Ok(())
 }
 
-/// Prints the answer to a line, and gives the world behind it.
+/// Prints the answer to a line, and gives the world after it.
 fn answer<R: Print + Wait>(
     rt: &R,
     alloc: Global,

@@ -46,7 +46,7 @@ fn serve<R: Wait, Q: Source>(
     how
 }
 
-/// How the link ended, and what was written to the sink. None is want of memory.
+/// How the link ended, and what was written to the sink. None means out of memory.
 pub fn told(alloc: Global, how: Ended, sink: &MemSink) -> Option<Served> {
     let written = sink.written();
     if written.len() <= MOST_SHOWN {
@@ -59,12 +59,12 @@ pub fn told(alloc: Global, how: Ended, sink: &MemSink) -> Option<Served> {
     Some(Served { how, written })
 }
 
-/// The ring of those links: three nodes, of which one owns a key. None is want of memory.
+/// The ring of those links: three nodes, of which one owns a key. None means out of memory.
 pub fn small_ring<R>(rt: &R, alloc: Global) -> Option<LiveRing> {
     LiveRing::make(rt, alloc, 3, 1).ok()
 }
 
-/// Serves the link of a line. None is want of memory, or that the line is of another form.
+/// Serves the link of a line. None means out of memory, or that the line is of another form.
 pub fn serve_line<R: Wait>(rt: &R, alloc: Global, line: &str) -> Option<Served> {
     let Link {
         mut source,

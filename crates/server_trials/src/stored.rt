@@ -1,7 +1,7 @@
-//! What a live ring holds of a log behind a link of its agent.
+//! What a live ring holds of a log after a link of its agent.
 
 ghost use Rattle.std.specs.Prelude.{◌≢◌, ◌<◌, None, IfOk};
-ghost use Rattle.dhash_client.specs.Course.{asks_left};
+ghost use Rattle.dhash_client.specs.Execution.{asks_left};
 ghost use Rattle.dhash_client.specs.GetBlock.{block_awaited};
 ghost use Rattle.dhash_client.specs.GetHead.{head_awaited};
 
@@ -31,7 +31,7 @@ fn greatest(heads: &Heads) -> Option<Judged> {
     heads.as_slice().iter().copied().max_by_key(|head| head.seq)
 }
 
-/// One ask for a head, which hears its answer. The error is want of memory.
+/// One ask for a head, which hears its answer. The error is: out of memory.
 fn head_step<R: Wait>(
     rt: &R,
     alloc: Global,
@@ -41,13 +41,13 @@ fn head_step<R: Wait>(
     question: &Ask,
 ) -> Result<(), Memory>
     requires { head_awaited get.old ≢ None }
-    ensures { IfOk result (λ _. asks_left get.new.course < asks_left get.old.course) }
+    ensures { IfOk result (λ _. asks_left get.new.execution < asks_left get.old.execution) }
 {
     let answer = ring.ask(rt, alloc, node, question)?;
     get.heard(answer)
 }
 
-/// The head of the greatest number that a get over the ring gives under a log's key. The error is want of memory.
+/// The head of the greatest number that a get over the ring gives under a log's key. The error is: out of memory.
 fn head<R: Wait>(
     rt: &R,
     alloc: Global,
@@ -64,7 +64,7 @@ fn head<R: Wait>(
     }
 }
 
-/// One ask for a block, which hears its answer. The error is want of memory.
+/// One ask for a block, which hears its answer. The error is: out of memory.
 fn block_step<R: Wait>(
     rt: &R,
     alloc: Global,
@@ -74,13 +74,13 @@ fn block_step<R: Wait>(
     question: &Ask,
 ) -> Result<(), Memory>
     requires { block_awaited get.old ≢ None }
-    ensures { IfOk result (λ _. asks_left get.new.course < asks_left get.old.course) }
+    ensures { IfOk result (λ _. asks_left get.new.execution < asks_left get.old.execution) }
 {
     let answer = ring.ask(rt, alloc, node, question)?;
     get.heard(answer)
 }
 
-/// Whether a get over the ring gives the block of that name. The error is want of memory.
+/// Whether a get over the ring gives the block of that name. The error is: out of memory.
 fn has_block<R: Wait>(rt: &R, alloc: Global, ring: &LiveRing, name: Key) -> Result<bool, Memory> {
     let mut get = GetBlock::start(alloc, name, ring.replicas(), &ring.made(alloc)?)?;
     'asks: loop {
@@ -92,7 +92,7 @@ fn has_block<R: Wait>(rt: &R, alloc: Global, ring: &LiveRing, name: Key) -> Resu
     }
 }
 
-/// How many posts the agent has still to put. None is want of memory, or that it is in no view.
+/// How many posts the agent has still to put. None means out of memory, or that it is in no view.
 fn pending(alloc: Global, agent: &MemAgent) -> Option<usize> {
     match agent.view() {
         Some(_) => Some(agent.standing(alloc).ok()?.pending.as_slice().len()),
@@ -100,8 +100,8 @@ fn pending(alloc: Global, agent: &MemAgent) -> Option<usize> {
     }
 }
 
-/// Serves the link of a line behind a gate, over a ring of five nodes of which three own a key, and asks the ring then for what the
-/// agent put. None is want of memory, or that the line is of another form.
+/// Serves the link of a line behind a gate, over a ring of five nodes of which three own a key, and asks the ring then for what
+/// the agent put. None means out of memory, or that the line is of another form.
 pub fn serve_stored<R: Wait>(rt: &R, alloc: Global, line: &str) -> Option<Stored> {
     let ring = LiveRing::make(rt, alloc, 5, 3).ok()?;
     let behind = serve_behind(rt, alloc, &ring, line)?;

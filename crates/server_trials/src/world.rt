@@ -107,7 +107,7 @@ fn serve_link<R: Wait>(
 
 impl World {
     /// The settled ring of so many nodes, of which so many own a key, by a line `N R`; and two agents, each in the view of its
-    /// own log alone. None is want of memory, or that the line is of another form.
+    /// own log alone. None means out of memory, or that the line is of another form.
     pub fn make(alloc: Global, line: &str) -> Option<World> {
         let (count, replicas) = line.split_once(' ')?;
         let count: u32 = count.parse().ok()?;
@@ -127,7 +127,7 @@ impl World {
         })
     }
 
-    /// Both agents enter the view of their two logs. False is want of memory.
+    /// Both agents enter the view of their two logs. False means out of memory.
     pub fn join_views(&mut self, alloc: Global) -> bool {
         let Some(first) = view_of_both(alloc, &self.ann, &self.ben) else {
             return false;
@@ -146,7 +146,8 @@ impl World {
         }
     }
 
-    /// Loses the ask of that number from now, of a line `K`. False is want of memory, or that it is no number.
+    /// Loses the ask of that number from now, of a line `K`. False means out of memory, or that it is no
+    /// number.
     pub fn lose(&mut self, line: &str) -> bool {
         match line.parse() {
             Ok(count) => self.nodes.lose(count).is_ok(),
@@ -154,27 +155,27 @@ impl World {
         }
     }
 
-    /// Sets a byte of a block, by a line `I KEY OFFSET BYTE`. False is that the node holds no such byte, want of memory, or that
-    /// the line is of another form.
+    /// Sets a byte of a block, by a line `I KEY OFFSET BYTE`. False is that the node holds no such byte, running out of memory,
+    /// or that the line is of another form.
     pub fn damage(&mut self, alloc: Global, line: &str) -> bool {
         let Some(place) = place_of(line) else {
             return false;
         };
-        let spoilt = self.nodes.damage(
+        let corrupted = self.nodes.damage(
             alloc,
             &node_id(place.node),
             &place.key,
             place.offset,
             place.byte,
         );
-        match spoilt {
+        match corrupted {
             Ok(block) => block.is_some(),
             Err(_) => false,
         }
     }
 
-    /// Serves the link of a line for one of the agents over the nodes, and gives the world behind it. What came of the link is
-    /// None for want of memory. None alone is want of memory too, or that the line is of another form.
+    /// Serves the link of a line for one of the agents over the nodes, and gives the world after it. What came of the link is
+    /// None when out of memory. None alone means out of memory too, or that the line is of another form.
     pub fn serve<R: Wait>(
         self,
         rt: &R,

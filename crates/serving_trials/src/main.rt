@@ -6,7 +6,7 @@
 //!
 //! The participant has the key of identifier 1, seed 170 and the trees `w4h5`. The answer is the status, what the sink was told
 //! (`-` for nothing), how many links came back, and how many of these hold the reply to NULL and no more. Lines that begin with
-//! `#` are written as they are. `no answer` stands for other lines, and for want of memory.
+//! `#` are written as they are. `no answer` stands for other lines, and when out of memory.
 //!
 //! The answers of the stored run are worked out by hand, from what the words of `serve` promise and from RFC 5531.
 #![tactic(auto)]

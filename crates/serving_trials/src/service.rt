@@ -58,21 +58,21 @@ fn plan_of(line: &str) -> Option<Planned> {
     })
 }
 
-/// The call of that number is to fail; calls count from 1, so that 0 names none. None is want of memory.
+/// The call of that number is to fail; calls count from 1, so that 0 names none. None means out of memory.
 fn failing(alloc: Global, number: u64) -> Option<Failing> {
     let mut calls = Vec::new(alloc);
     calls.push(number).ok()?;
     Some(Failing::of(calls))
 }
 
-/// A link on which one call comes. None is want of memory.
+/// A link on which one call comes. None means out of memory.
 fn link(alloc: Global) -> Option<(MemSource, MemSink)> {
     let call = Bytes::copy_of(alloc, &CALL).ok()?;
     let source = MemSource::new(call, failing(alloc, 0)?);
     Some((source, MemSink::new(alloc, failing(alloc, 0)?)))
 }
 
-/// Ports that give so many links. None is want of memory.
+/// Ports that give so many links. None means out of memory.
 fn ports(alloc: Global, links: usize, listens: u64) -> Option<MemPorts> {
     let mut all = Vec::new(alloc);
     for _ in 0..links {
@@ -81,7 +81,7 @@ fn ports(alloc: Global, links: usize, listens: u64) -> Option<MemPorts> {
     MemPorts::new(alloc, all, failing(alloc, listens)?).ok()
 }
 
-/// The participant's key. None is want of memory.
+/// The participant's key. None means out of memory.
 fn key(alloc: Global) -> Option<Hss> {
     let mut id = [0; 16];
     id[15] = 1;
@@ -102,7 +102,7 @@ fn replied(links: &[(MemSource, MemSink)]) -> usize {
         .count()
 }
 
-/// Serves the participant as a line plans it. None is a line of another form, or want of memory.
+/// Serves the participant as a line plans it. None is a line of another form, or running out of memory.
 pub fn serve_line<R: Threads + Wait + Sync>(rt: &R, alloc: Global, line: &str) -> Option<Served> {
     let Planned {
         links,

@@ -16,11 +16,11 @@ use Rattle.session_model.specs.Brought.{BlockOf, heads_at}
 use Rattle.session_model.specs.Walks.{LogEnd}
 use Rattle.session_model.specs.Refreshing.{chains_of}
 use Rattle.std.specs.List.{AllByRecursion}
-use Rattle.ivy_base.specs.Naming.{NamesTellApart}
+use Rattle.ivy_base.specs.Naming.{IsCollisionFree}
 use Rattle.log_model.specs.View.{IsView}
 use Rattle.log_model.specs.Vector.{seq_of}
 use Rattle.log_model.specs.Fetched.{HasRecord}
-use Rattle.causal_order.specs.AtHand.{above}
+use Rattle.causal_order.specs.Available.{above}
 use Rattle.agent_model.specs.Standing.{go_on_from}
 use Rattle.session_model.specs.Brought.{Brought}
 use Rattle.session_model.specs.Refreshing.{Note, FetchesAll, Done}
@@ -75,7 +75,7 @@ pub record HasFloorChain (s : Standing) (start : Vector) (chains : List Chain) (
   pub beyond : above (seq_of start (head_key_of owner)) records ≡ records
   pub goes_on : go_on_from (stamp_at start (head_key_of owner)) records ≡ true
 
-module _ (met : List (List ℕ)) (s : Standing) (start : Vector) (knew : List Record) (brought : List Brought) (notes : List Note) (chains : List Chain) (apart : NamesTellApart met) (well : IsView s.view) (is_known : IsKnown s.view s.floor knew) (stand : Stand met knew) (from : StartsFrom s start knew) (are : AreMet met brought) (fetches : FetchesAll (record { standing = s; start = start }) s.view.members brought notes chains Done) where
+module _ (met : List (List ℕ)) (s : Standing) (start : Vector) (knew : List Record) (brought : List Brought) (notes : List Note) (chains : List Chain) (apart : IsCollisionFree met) (well : IsView s.view) (is_known : IsKnown s.view s.floor knew) (stand : Stand met knew) (from : StartsFrom s start knew) (are : AreMet met brought) (fetches : FetchesAll (record { standing = s; start = start }) s.view.members brought notes chains Done) where
   pub floor_chain : (owner : PubKey) (t : Stamp) → Contains s.view.members owner → stamp_at s.floor (head_key_of owner) ≡ Some t → seq_of start (head_key_of owner) < t.seq → HasFloorChain s start chains owner t
   floor_chain owner t member is far =
       let p = each (HasPart s start brought chains) s.view.members owner (parts s start fetches refl (apart_keys s.view.members s.view.former well.apart)) member in

@@ -1,4 +1,4 @@
--- Gets of blocks and of heads are courses: whether enough was heard is decided, and each ends somehow.
+-- Gets of blocks and of heads are executions: whether enough was heard is decided, and each ends somehow.
 use Rattle.std.proofs.Common.{◌≡◌, ◌⊎◌, ℕ, ◌≤◌, Bool, true, false, List, [], ◌∷◌, Option, Some, None, Result, refl, sym, ap, ◌∙◌, arith, inl, inr, ⊎_elim}
 use Rattle.std.specs.Str.{bytes_eq}
 use Rattle.std.proofs.lemmas.Bool.{true≢false, cases_lt}
@@ -13,17 +13,17 @@ use Rattle.dht_ids.specs.declared.peer.Peer.{Peer}
 use Rattle.ring_model.specs.Members.{IsAmong}
 use Rattle.ring_model.specs.Gets.{AreAsks, Got, Right, Damaged, Missing, nodes, answered_in, given, first_giver, judged, HasBlock, EndsBlock, EndsHeads}
 use Rattle.ring_model.proofs.Lists.{nil_cons}
-use Rattle.dhash_model.specs.Course.{Told, result_of}
+use Rattle.dhash_model.specs.Execution.{Told, result_of}
 use Rattle.dhash_model.specs.GetBlock.{is_of_get, block_in, EndsGet}
 use Rattle.dhash_model.specs.GetHead.{EndsHeadGet}
 use Rattle.dhash_model.specs.declared.miss.Miss.{Miss}
 use Rattle.dhash_client.specs.GetBlock.{IsEnoughBlock}
-use Rattle.session_model.specs.Brought.{Brought, HeadsOf, BlockOf, Want, Heads, Content}
+use Rattle.session_model.specs.Brought.{Brought, HeadsOf, BlockOf, WantedOfRing, Heads, Content}
 use Rattle.session_model.specs.Sessions.{Gets, IsGet, wanted_key}
 use Rattle.session_model.specs.Sessions.Gets.{heads as got_heads, content as got_content}
-use Rattle.session_laws.specs.Laws.{GetsAreOne, IsWholeGetOfHead, IsWholeGetOfBlock, HeadNextIsNotWhole, BlockNextIsNotWhole, GetNextIsNotWhole, NoneIsWhole, NoneIsWholeHead, NoneIsWholeBlock, NoneIsWholeGet}
-use Rattle.session_laws.proofs.AskedPlans.{Entries, IsPlanned, planned_alike, begins_none, are_one, next_is_not_whole}
-use Rattle.session_laws.proofs.AskedCourses.{planned, not_whole}
+use Rattle.session_laws.specs.Laws.{GetsAreDeterministic, IsWholeGetOfHead, IsWholeGetOfBlock, HeadNextIsNotWhole, BlockNextIsNotWhole, GetNextIsNotWhole, NoneIsWhole, NoneIsWholeHead, NoneIsWholeBlock, NoneIsWholeGet}
+use Rattle.session_laws.proofs.AskedPlans.{Entries, IsPlanned, planned_alike, begins_none, are_deterministic, next_is_not_whole}
+use Rattle.session_laws.proofs.AskedExecutions.{planned, not_whole}
 
 -- ---- what is decided
 
@@ -117,27 +117,27 @@ head_next_is_not_whole judge key r entries =
     next_is_not_whole key (ask.Get key) (IsWholeGetOfHead judge key r entries) tt (begins_none (get_entries key) (IsWholeGetOfHead judge key r entries) (heads_planned judge key r entries))
 
 -- a get of what is wanted
-abbrev IsWholeGet : (Key → List ℕ → Option Judged) → ℕ → List Peer → Want → List Heard → Type 0
+abbrev IsWholeGet : (Key → List ℕ → Option Judged) → ℕ → List Peer → WantedOfRing → List Heard → Type 0
 IsWholeGet judged r entries (Heads owner) = IsWholeGetOfHead (judged (head_key_of owner)) (head_key_of owner) r entries
 IsWholeGet judged r entries (Content key) = IsWholeGetOfBlock key r entries
 
-whole_get : (judged : Key → List ℕ → Option Judged) (r : ℕ) (entries : List Peer) {want : Want} {trail : List Heard} {brought : Brought} → Gets judged r entries want trail brought → IsWholeGet judged r entries want trail
+whole_get : (judged : Key → List ℕ → Option Judged) (r : ℕ) (entries : List Peer) {want : WantedOfRing} {trail : List Heard} {brought : Brought} → Gets judged r entries want trail brought → IsWholeGet judged r entries want trail
 whole_get judged r entries (got_heads came h) = (came, h)
 whole_get judged r entries (got_content came h) = (came, h)
 
-pub is_get : (judged : Key → List ℕ → Option Judged) (r : ℕ) (entries : List Peer) (want : Want) (trail : List Heard) → IsWholeGet judged r entries want trail → IsGet judged r entries want trail
+pub is_get : (judged : Key → List ℕ → Option Judged) (r : ℕ) (entries : List Peer) (want : WantedOfRing) (trail : List Heard) → IsWholeGet judged r entries want trail → IsGet judged r entries want trail
 is_get judged r entries (Heads owner) trail w = (HeadsOf owner w.0, got_heads w.0 w.1)
 is_get judged r entries (Content key) trail w = (BlockOf key w.0, got_content w.0 w.1)
 
-whole_planned : (judged : Key → List ℕ → Option Judged) (r : ℕ) (entries : List Peer) (want : Want) → IsPlanned (get_entries (wanted_key want)) (IsWholeGet judged r entries want)
+whole_planned : (judged : Key → List ℕ → Option Judged) (r : ℕ) (entries : List Peer) (want : WantedOfRing) → IsPlanned (get_entries (wanted_key want)) (IsWholeGet judged r entries want)
 whole_planned judged r entries (Heads owner) = heads_planned (judged (head_key_of owner)) (head_key_of owner) r entries
 whole_planned judged r entries (Content key) = blocks_planned key r entries
 
-gets_planned : (judged : Key → List ℕ → Option Judged) (r : ℕ) (entries : List Peer) (want : Want) → IsPlanned (get_entries (wanted_key want)) (IsGet judged r entries want)
+gets_planned : (judged : Key → List ℕ → Option Judged) (r : ℕ) (entries : List Peer) (want : WantedOfRing) → IsPlanned (get_entries (wanted_key want)) (IsGet judged r entries want)
 gets_planned judged r entries want =
     planned_alike (get_entries (wanted_key want)) (IsWholeGet judged r entries want) (IsGet judged r entries want) (whole_planned judged r entries want) (is_get judged r entries want) (λ trail w. whole_get judged r entries w.1)
 
-none_is_whole_of : (judged : Key → List ℕ → Option Judged) (r : ℕ) (entries : List Peer) (want : Want) → NoneIsWhole entries (IsWholeGet judged r entries want)
+none_is_whole_of : (judged : Key → List ℕ → Option Judged) (r : ℕ) (entries : List Peer) (want : WantedOfRing) → NoneIsWhole entries (IsWholeGet judged r entries want)
 none_is_whole_of judged r entries (Heads owner) = none_is_whole_head (judged (head_key_of owner)) (head_key_of owner) r entries
 none_is_whole_of judged r entries (Content key) = none_is_whole_block key r entries
 
@@ -148,6 +148,6 @@ pub get_next_is_not_whole : GetNextIsNotWhole
 get_next_is_not_whole judged r entries want =
     next_is_not_whole (wanted_key want) (ask.Get (wanted_key want)) (IsGet judged r entries want) tt (begins_none (get_entries (wanted_key want)) (IsGet judged r entries want) (gets_planned judged r entries want))
 
-pub gets_are_one : GetsAreOne
-gets_are_one judged r entries want =
-    are_one (get_entries (wanted_key want)) (ask.Get (wanted_key want)) entries (IsGet judged r entries want) (λ node given. refl) (gets_planned judged r entries want) (none_is_whole_get judged r entries want)
+pub gets_are_deterministic : GetsAreDeterministic
+gets_are_deterministic judged r entries want =
+    are_deterministic (get_entries (wanted_key want)) (ask.Get (wanted_key want)) entries (IsGet judged r entries want) (λ node given. refl) (gets_planned judged r entries want) (none_is_whole_get judged r entries want)

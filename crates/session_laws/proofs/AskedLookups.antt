@@ -18,7 +18,7 @@ use Rattle.ring_model.specs.Lookup.IsLookup.{over, spent, known, silent, answere
 use Rattle.ring_model.proofs.Lists.{cons_head, cons_tail, nil_cons}
 use Rattle.dht_ids.specs.Asked.{route_in, routes}
 use Rattle.dhash_client.specs.Machine.{State, Trail, FollowsAfter, fresh, to_ask}
-use Rattle.dhash_model.specs.Course.{Told, told_all}
+use Rattle.dhash_model.specs.Execution.{Told, told_all}
 use Rattle.dhash_client.proofs.Asks.{is_peer, asked_any}
 use Rattle.session_laws.proofs.AskedPlans.{Plan, asking, Entries, entry, Follows}
 use Rattle.session_laws.proofs.AskedOwners.{choose}
@@ -60,7 +60,7 @@ firsts_same (new {seen = seen} {p = p} {ps = ps} {qs = qs} h f) = by (among_or_n
 
 -- ---- look-ups
 
--- the owners that the last answer named, and the nodes still to ask, behind an answer
+-- the owners that the last answer named, and the nodes still to ask, after an answer
 abbrev pub last_after : Option (List Peer) → Option (Route Peer) → Option (List Peer)
 last_after last None = last
 last_after last (Some route) = Some route.owners

@@ -8,7 +8,7 @@ use Rattle.dht_ids.specs.declared.ask.Heard.{Heard}
 use Rattle.dht_ids.specs.declared.peer.Peer.{Peer}
 use Rattle.ring_model.specs.Gets.{AreFirsts, AreAsks, nodes}
 use Rattle.ring_model.proofs.Lists.{cons_head, cons_tail, nil_cons}
-use Rattle.dhash_model.specs.Course.{Told, told_all}
+use Rattle.dhash_model.specs.Execution.{Told, told_all}
 use Rattle.session_laws.proofs.AskedPlans.{Plan, ended, asking, Entries, entry, Follows, IsToldBy, some_follows}
 
 -- where something is decided, one thing or the other
@@ -25,7 +25,7 @@ told_owners e question t [] = refl
 told_owners e question t (s ∷ asks) = ap (λ (l : List Heard). l ++ told_all question asks) (t s.0 s.1) ∙ ap (λ (l : List Heard). entry e false s.0 s.1 ∷ l) (told_owners e question t asks)
 
 module _ (IsEnough : Told → Type 0) where
-  -- behind what was told of some owners these are asked of the rest
+  -- after what was told of some owners these are asked of the rest
   abbrev pub AreAsked : List Peer → Told → Told → Type 0
   AreAsked rest before [] = IsEnough before ⊎ (rest ≡ [])
   AreAsked rest before (s ∷ more) = (IsEnough before → ⊥) × (others : List Peer) × (rest ≡ s.0 ∷ others) × AreAsked others (before ++ s ∷ []) more

@@ -14,7 +14,7 @@ use Rattle.dht_ids.specs.declared.ask.Heard.{Heard}
 use Rattle.dht_ids.specs.declared.peer.Peer.{Peer}
 use Rattle.dht_ids.specs.Asked.{told, IsForData}
 use Rattle.ring_model.proofs.Lists.{cons_head, cons_tail, nil_cons}
-use Rattle.dhash_model.specs.Course.{Told, told_all}
+use Rattle.dhash_model.specs.Execution.{Told, told_all}
 use Rattle.session_laws.specs.Laws.{NextIsNotWhole}
 use Rattle.session_model.specs.Asking.{IsBegun, AsksNext, BeginsNoOther, AsksOneNext, GoesOnAlways}
 
@@ -117,7 +117,7 @@ planned_alike e Whole Other p to from = record { plan = p.plan; fits = λ trail 
 pub begins_none : (e : Entries) (Whole : List Heard → Type 0) → IsPlanned e Whole → BeginsNoOther Whole
 begins_none e Whole p asked more one other = begins_itself e p.plan asked more (p.fits asked one) (p.fits (asked ++ more) other)
 
--- an ask of the owners is told by their entry
+-- an ask of the owners is determined by their entry
 abbrev pub IsToldBy : Entries → Ask → Type 0
 IsToldBy e question = (node : Peer) (given : Answer) → told node question given ≡ entry e false node given ∷ []
 
@@ -180,11 +180,11 @@ begun : (e : Entries) (Whole : List Heard → Type 0) → IsPlanned e Whole → 
 begun e Whole p none = let r = some_follows e p.plan in (none, r.0, p.back r.0 r.1)
 
 -- what is said of gets and of puts, from these entry nodes
-abbrev pub AreOne : Key → Ask → List Peer → (List Heard → Type 0) → Type 0
-AreOne key own entries Whole = BeginsNoOther Whole × AsksOneNext key own Whole × GoesOnAlways key own Whole × (entries ≢ [] → IsBegun Whole [])
+abbrev pub AreDeterministic : Key → Ask → List Peer → (List Heard → Type 0) → Type 0
+AreDeterministic key own entries Whole = BeginsNoOther Whole × AsksOneNext key own Whole × GoesOnAlways key own Whole × (entries ≢ [] → IsBegun Whole [])
 
-pub are_one : (e : Entries) (own : Ask) (entries : List Peer) (Whole : List Heard → Type 0) → IsToldBy e own → IsPlanned e Whole → (entries ≢ [] → Whole [] → ⊥) → AreOne e.key own entries Whole
-are_one e own entries Whole t p some = (begins_none e Whole p, one_is_next e own Whole t p, goes_on_always e own Whole t p, λ h. begun e Whole p (some h))
+pub are_deterministic : (e : Entries) (own : Ask) (entries : List Peer) (Whole : List Heard → Type 0) → IsToldBy e own → IsPlanned e Whole → (entries ≢ [] → Whole [] → ⊥) → AreDeterministic e.key own entries Whole
+are_deterministic e own entries Whole t p some = (begins_none e Whole p, one_is_next e own Whole t p, goes_on_always e own Whole t p, λ h. begun e Whole p (some h))
 
 -- ---- what is asked next
 

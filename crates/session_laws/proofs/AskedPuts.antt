@@ -1,4 +1,4 @@
--- Puts are courses, of content blocks, of heads and of posts.
+-- Puts are executions, of content blocks, of heads and of posts.
 use Rattle.std.proofs.Common.{◌≡◌, ◌⊎◌, ℕ, ◌<◌, ◌≤◌, Bool, true, false, if◌then◌else◌, List, length, take, Some, Result, Ok, refl, ap, ◌∙◌, subst, arith, inl, inr, ⊎_elim}
 use Rattle.std.proofs.lemmas.Bool.{cases_lt}
 use Rattle.std.proofs.lemmas.List.{length-map, take_all}
@@ -12,7 +12,7 @@ use Rattle.dht_ids.specs.declared.peer.Peer.{Peer}
 use Rattle.dht_ids.specs.declared.post.Post.{Post}
 use Rattle.dht_ids.specs.Asked.{IsForData}
 use Rattle.ring_model.specs.Gets.{AreAsks, nodes, answered_in, IsAcknowledged}
-use Rattle.dhash_model.specs.Course.{Told, IsCourse}
+use Rattle.dhash_model.specs.Execution.{Told, IsExecution}
 use Rattle.dhash_model.specs.Puts.{is_of_put, holds, EndsPut}
 use Rattle.dhash_model.specs.declared.miss.Miss.{Miss}
 use Rattle.dhash_client.specs.Puts.{question_of}
@@ -20,9 +20,9 @@ use Rattle.dhash_client.specs.declared.put.PutKind.{PutKind}
 use Rattle.dhash_client.specs.declared.put.PutKind.TheVariants as put
 use Rattle.agent_model.specs.Agent.{is_head}
 use Rattle.session_model.specs.Sessions.{put_question}
-use Rattle.session_laws.specs.Laws.{PutsAreOne, IsWholePutOf, NextIsNotWhole, PutNextIsNotWhole, PostNextIsNotWhole, NoneIsWhole, NoneIsWholePut, NoneIsWholePost}
-use Rattle.session_laws.proofs.AskedPlans.{Entries, IsPlanned, IsToldBy, AreOne, begins_none, are_one, next_is_not_whole}
-use Rattle.session_laws.proofs.AskedCourses.{planned, not_whole}
+use Rattle.session_laws.specs.Laws.{PutsAreDeterministic, IsWholePutOf, NextIsNotWhole, PutNextIsNotWhole, PostNextIsNotWhole, NoneIsWhole, NoneIsWholePut, NoneIsWholePost}
+use Rattle.session_laws.proofs.AskedPlans.{Entries, IsPlanned, IsToldBy, AreDeterministic, begins_none, are_deterministic, next_is_not_whole}
+use Rattle.session_laws.proofs.AskedExecutions.{planned, not_whole}
 use Rattle.session_laws.proofs.AskedGets.{at_most_or_not}
 
 -- whether all owners were asked is decided
@@ -98,14 +98,14 @@ of_post P p h = subst P (question_is (is_head p.kind) p.bytes p.key) h
 
 pub none_is_whole_post : NoneIsWholePost
 none_is_whole_post r entries p =
-    of_post (λ q. NoneIsWhole entries (λ asks. (came : Result Bool Miss) × IsCourse p.key q entries (EndsPut r) asks came)) p (none_is_whole_put (kind_of_post (is_head p.kind)) p.bytes p.key r entries)
+    of_post (λ q. NoneIsWhole entries (λ asks. (came : Result Bool Miss) × IsExecution p.key q entries (EndsPut r) asks came)) p (none_is_whole_put (kind_of_post (is_head p.kind)) p.bytes p.key r entries)
 
 pub post_next_is_not_whole : PostNextIsNotWhole
 post_next_is_not_whole r entries p =
-    of_post (λ q. NextIsNotWhole p.key q (λ asks. (came : Result Bool Miss) × IsCourse p.key q entries (EndsPut r) asks came)) p (put_next_is_not_whole (kind_of_post (is_head p.kind)) p.bytes p.key r entries)
+    of_post (λ q. NextIsNotWhole p.key q (λ asks. (came : Result Bool Miss) × IsExecution p.key q entries (EndsPut r) asks came)) p (put_next_is_not_whole (kind_of_post (is_head p.kind)) p.bytes p.key r entries)
 
-pub puts_are_one : PutsAreOne
-puts_are_one judged r s p =
-    of_post (λ q. AreOne p.key q s.entries (λ asks. (came : Result Bool Miss) × IsCourse p.key q s.entries (EndsPut r) asks came)) p
-    (are_one (put_entries (kind_of_post (is_head p.kind)) p.bytes p.key) (question_of (kind_of_post (is_head p.kind)) p.bytes p.key) s.entries (IsWholePutOf (kind_of_post (is_head p.kind)) p.bytes p.key r s.entries)
+pub puts_are_deterministic : PutsAreDeterministic
+puts_are_deterministic judged r s p =
+    of_post (λ q. AreDeterministic p.key q s.entries (λ asks. (came : Result Bool Miss) × IsExecution p.key q s.entries (EndsPut r) asks came)) p
+    (are_deterministic (put_entries (kind_of_post (is_head p.kind)) p.bytes p.key) (question_of (kind_of_post (is_head p.kind)) p.bytes p.key) s.entries (IsWholePutOf (kind_of_post (is_head p.kind)) p.bytes p.key r s.entries)
     (told_put (kind_of_post (is_head p.kind)) p.bytes p.key) (puts_planned (kind_of_post (is_head p.kind)) p.bytes p.key r s.entries) (none_is_whole_put (kind_of_post (is_head p.kind)) p.bytes p.key r s.entries))

@@ -5,7 +5,7 @@ use Rattle.std.proofs.lemmas.List.{length-append}
 use Rattle.std.proofs.lemmas.List.Elements.{Contains-append_cases}
 use Rattle.ivy_base.specs.declared.key.Key.{Key}
 use Rattle.ivy_base.specs.declared.key.PubKey.{PubKey}
-use Rattle.ivy_base.specs.Naming.{NamesTellApart, head_key_of}
+use Rattle.ivy_base.specs.Naming.{IsCollisionFree, head_key_of}
 use Rattle.log_model.specs.View.{View}
 use Rattle.log_model.specs.Vector.{Stamp, reach, Dominates, with_entry}
 use Rattle.log_model.specs.Record.{Record}
@@ -15,9 +15,9 @@ use Rattle.log_model.specs.Chain.{IsGood, GoesOn, IsChain, LinkedFrom}
 use Rattle.log_model.specs.Standing.{StandsAmong, Stand}
 use Rattle.log_model.proofs.Lists.{each, each_left, each_right}
 use Rattle.log_model.proofs.Part.{Numbered, numbered, numbers_below, chain_front}
-use Rattle.log_model.specs.Fetched.{Edge, EndsAt, as_edge, GoesOnFrom, KnowsEdge, HasRecord, OldestNames, PassesFloor}
+use Rattle.log_model.specs.Fetched.{Edge, EndsAtStamp, as_edge, GoesOnFrom, KnowsEdge, HasRecord, OldestNames, PassesFloor}
 use Rattle.log_records.proofs.Batches.{has_passed}
-use Rattle.causal_order.specs.AtHand.{above}
+use Rattle.causal_order.specs.Available.{above}
 use Rattle.causal_order.proofs.Starts.{above_from, above_less}
 use Rattle.turn_model.specs.Known as known
 use Rattle.turn_model.specs.Candidates.{PassesThrough}
@@ -37,7 +37,7 @@ numbered_left n [] ys h = tt
 numbered_left n (x ∷ xs) ys h = (h.0, numbered_left (n + 1) xs ys h.1)
 
 -- what ends at a stamp ends there without some in front
-ends_later : (t : Stamp) (low high : List Record) → EndsAt t (low ++ high) → (high ≡ [] → ⊥) → EndsAt t high
+ends_later : (t : Stamp) (low high : List Record) → EndsAtStamp t (low ++ high) → (high ≡ [] → ⊥) → EndsAtStamp t high
 ends_later t [] high ends some = ends
 ends_later t (x ∷ []) [] ends some = absurd (some refl)
 ends_later t (x ∷ y ∷ low) [] ends some = absurd (some refl)
@@ -47,7 +47,7 @@ ends_later t (x ∷ low) (r ∷ rs) ends some = ends_later t low (r ∷ rs) (by 
     no_end [] e = cc e
     no_end (y ∷ xs) e = cc e
 
-    by : (rest before : List Record) (last : Record) → x ∷ rest ≡ before ++ last ∷ [] → (own_entry last).1 ≡ t → (rest ≡ [] → ⊥) → EndsAt t rest
+    by : (rest before : List Record) (last : Record) → x ∷ rest ≡ before ++ last ∷ [] → (own_entry last).1 ≡ t → (rest ≡ [] → ⊥) → EndsAtStamp t rest
     by rest [] last e same more = absurd (more (cc e))
     by rest (b ∷ before) last e same more = (before, last, cc e, same)
 
@@ -63,7 +63,7 @@ linked_chain view owner (r ∷ rs) c =
     linked_after p (q ∷ more) g =
         (g.0.owned, g.0.spelled, g.1.seq, g.1.prev, subst (λ (n : ℕ). LinkedFrom owner (n + 1) q.name more) g.1.seq (linked_after q more g.2))
 
--- what is behind a record of a chain goes on from it
+-- what is after a record of a chain goes on from it
 goes_behind : (view : View) (owner : PubKey) (before : List Record) (p : Record) (rs : List Record) → IsChain view owner (before ++ p ∷ rs) → IsGood view owner p × GoesOn view owner p rs
 goes_behind view owner [] p rs c = (c.0, c.2)
 goes_behind view owner (x ∷ before) p rs c = after x before c.2
@@ -148,7 +148,7 @@ floor_above (Some f) b low high h size passes = λ far.
     ]
 
 -- a chain through the floor's record begins with what the floor names
-known_first : (met : List (List ℕ)) → NamesTellApart met → (view : View) (owner : PubKey) (fl : Option Stamp) (knew : List Record) → IsChain view owner knew → Stand met knew → known.EndsAt fl knew
+known_first : (met : List (List ℕ)) → IsCollisionFree met → (view : View) (owner : PubKey) (fl : Option Stamp) (knew : List Record) → IsChain view owner knew → Stand met knew → known.EndsAt fl knew
     → (chain : List Record) → IsChain view owner chain → Stand met chain → PassesThrough fl chain → (rest : List Record) × (chain ≡ knew ++ rest)
 known_first met apart view owner None knew of_knew stand_knew ends chain of_chain stand passes = (chain, sym (ap (λ (l : List Record). l ++ chain) ends))
 known_first met apart view owner (Some f) knew of_knew stand_knew ends chain of_chain stand passes =
@@ -168,19 +168,19 @@ pub record IsLogKnown (met : List (List ℕ)) (view : View) (owner : PubKey) (fl
   pub stand : Stand met knew
   pub ends : known.EndsAt fl knew
 
-module _ (met : List (List ℕ)) (apart : NamesTellApart met) (view : View) (owner : PubKey) (held fl : Option Stamp) (knew : List Record) (k : IsLogKnown met view owner fl knew) where
+module _ (met : List (List ℕ)) (apart : IsCollisionFree met) (view : View) (owner : PubKey) (held fl : Option Stamp) (knew : List Record) (k : IsLogKnown met view owner fl knew) where
   pub record IsAbove (edge : Option Edge) (head : Stamp) (chain : List Record) : Type 0 where
     pub high : List Record
     pub is : above (reach held) chain ≡ high
     pub prev : Key
     pub linked : LinkedFrom owner (reach held + 1) prev high
     pub stand : Stand met high
-    pub ends : EndsAt head high
+    pub ends : EndsAtStamp head high
     pub goes_on : GoesOnFrom view held edge high
     pub names : OldestNames held high
     pub passes : PassesFloor fl (reach held) high
 
-  pub above_held : (edge : Option Edge) (head : Stamp) (chain : List Record) → StartsIn held edge knew → IsChain view owner chain → Stand met chain → EndsAt head chain → PassesThrough fl chain → reach held < head.seq → IsAbove edge head chain
+  pub above_held : (edge : Option Edge) (head : Stamp) (chain : List Record) → StartsIn held edge knew → IsChain view owner chain → Stand met chain → EndsAtStamp head chain → PassesThrough fl chain → reach held < head.seq → IsAbove edge head chain
   above_held edge head chain from of_chain stand ends passes far =
       let first = known_first met apart view owner fl knew k.chain k.stand k.ends chain of_chain stand passes in
       let cut = cut_at view owner held edge knew chain first.0 first.1 of_chain from in
@@ -195,7 +195,7 @@ module _ (met : List (List ℕ)) (apart : NamesTellApart met) (view : View) (own
         prev = newest_of no_name cut.low;
         linked = subst (λ (n : ℕ). LinkedFrom owner n (newest_of no_name cut.low) cut.high) (omega (arith, low_size)) (linked_right owner 1 no_name cut.low cut.high (subst (LinkedFrom owner 1 no_name) cut.is linked));
         stand = each_right (StandsAmong met) cut.low cut.high (subst (Stand met) cut.is stand);
-        ends = ends_later head cut.low cut.high (subst (EndsAt head) cut.is ends) (λ e. let none : length cut.high ≡ 0 = ap length e in omega (arith, size, both, low_size, none, far));
+        ends = ends_later head cut.low cut.high (subst (EndsAtStamp head) cut.is ends) (λ e. let none : length cut.high ≡ 0 = ap length e in omega (arith, size, both, low_size, none, far));
         goes_on = cut.goes_on;
         names = cut.names;
         passes = floor_above fl (reach held) cut.low cut.high numbers low_size (subst (PassesThrough fl) cut.is passes);

@@ -2,7 +2,7 @@
 use Rattle.std.proofs.Common.{◌⊎◌, inl, inr, List}
 use Rattle.ivy_base.specs.declared.key.Key.{Key}
 use Rattle.turn_model.specs.Basis.{Basis}
-use Rattle.snapshot_model.specs.Reading.{AreOf, Names, Part}
+use Rattle.snapshot_model.specs.Reading.{AreOf, NamesParts, SnapshotPart}
 use Rattle.snapshot_model.proofs.DecidedParts.{dec_part}
 use Rattle.snapshot_model.proofs.DecidedWhole.{dec_whole}
 use Rattle.session_laws.specs.Going.{SnapshotsAreDecided}
@@ -13,6 +13,6 @@ either (no none) = inr (λ x h. none (x, h))
 
 pub snapshots_are_decided : SnapshotsAreDecided
 snapshots_are_decided = record {
-  parts = λ part block. either {A = List (Part × Key)} {P = λ named. Names part block named} (dec_part part block);
+  parts = λ part block. either {A = List (SnapshotPart × Key)} {P = λ named. NamesParts part block named} (dec_part part block);
   wholes = λ blocks. either {A = Basis} {P = λ b. AreOf blocks b} (dec_whole blocks);
 }

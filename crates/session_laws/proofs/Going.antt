@@ -7,11 +7,11 @@ use Rattle.ivy_base.specs.declared.key.PubKey.{PubKey}
 use Rattle.ivy_base.specs.Naming.{head_key_of}
 use Rattle.log_model.specs.Vector.{Stamp, Vector, seq_of, stamp_at}
 use Rattle.log_model.specs.declared.chain_fault.ChainFault.{ChainFault}
-use Rattle.snapshot_model.specs.Reading.{Part}
+use Rattle.snapshot_model.specs.Reading.{SnapshotPart}
 use Rattle.dht_ids.specs.declared.judge.Judged.{Judged}
 use Rattle.dhash_model.specs.declared.miss.Miss.{Miss}
 use Rattle.agent_model.specs.Standing.{Chain, Refresh, Standing, edge_at}
-use Rattle.session_model.specs.Brought.{Brought, HeadsOf, BlockOf, Want, Heads, Content, stamp_of}
+use Rattle.session_model.specs.Brought.{Brought, HeadsOf, BlockOf, WantedOfRing, Heads, Content, stamp_of}
 use Rattle.session_model.specs.Walks.{Gives, GivesNone, Lacks, LogEnd, Stops, Tries}
 use Rattle.session_model.specs.Refreshing.{Done, Fetches, FetchesAll, Loaded, LoadEnd, LoadWants, Loads, LoadsFor, Needs, Note, RefreshEnd, Refreshes, chains_of, counting, end_of_log, floors_own, note_of, start_of}
 use Rattle.session_model.specs.Refreshing.Fetches.{wants_heads, no_heads, of_heads, of_own}
@@ -21,7 +21,7 @@ use Rattle.session_model.specs.Refreshing.LoadsFor.{none as nothing_to_load, som
 use Rattle.session_model.specs.Refreshing.Refreshes.{loading, fetching}
 use Rattle.turn_laws.proofs.SomeCandidate.{owner_known}
 use Rattle.session_laws.specs.Going.{ComesTo, IsOfWant, RefreshBegins, RefreshGoesOn, SnapshotsAreDecided}
-use Rattle.session_laws.proofs.GoingCourse.{TriesTo, tries_begin, tries_go_on, tries_lack}
+use Rattle.session_laws.proofs.GoingExecution.{TriesTo, tries_begin, tries_go_on, tries_lack}
 use Rattle.session_laws.proofs.GoingHeads.{tried_of}
 
 -- ---- one log
@@ -40,7 +40,7 @@ module _ (s : Standing) (start : Vector) where
     abbrev Reaches : List Stamp → List Brought → Type 0
     Reaches = TriesTo s.view owner start s.floor (edge_at s (head_key_of owner))
 
-    tries_on : {ts : List Stamp} {brought : List Brought} {faults : List ChainFault} {end : LogEnd} (want : Want) (came : Brought) → IsOfWant want came
+    tries_on : {ts : List Stamp} {brought : List Brought} {faults : List ChainFault} {end : LogEnd} (want : WantedOfRing) (came : Brought) → IsOfWant want came
         → Tries (record { view = s.view; owner = owner; start = start; floor = s.floor; edge = edge_at s (head_key_of owner) }) ts brought faults end → end ≡ Lacks want → Reaches ts (brought ++ came ∷ [])
     tries_on {ts} {brought} (Content key) (BlockOf name came) same tries is =
         subst (λ (k : Key). Reaches ts (brought ++ BlockOf k came ∷ [])) (sym same) (tries_go_on s.view owner start s.floor (edge_at s (head_key_of owner)) key came tries is)
@@ -57,7 +57,7 @@ module _ (s : Standing) (start : Vector) where
     same_owner a b e = cc e
 
     -- the heads came, or didn't
-    heads_next : (owner ≡ s.own → ⊥) → (want : Want) (came : Brought) → IsOfWant want came → Lacks (Heads owner) ≡ Lacks want → FetchesTo owner (came ∷ [])
+    heads_next : (owner ≡ s.own → ⊥) → (want : WantedOfRing) (came : Brought) → IsOfWant want came → Lacks (Heads owner) ≡ Lacks want → FetchesTo owner (came ∷ [])
     heads_next other (Heads of) (HeadsOf log came) same is = subst (λ (o : PubKey). FetchesTo owner (HeadsOf o came ∷ [])) (same_owner owner of is ∙ sym same) (by came)
       where
         by : (got : Result (List Judged) Miss) → FetchesTo owner (HeadsOf owner got ∷ [])
@@ -69,7 +69,7 @@ module _ (s : Standing) (start : Vector) where
     heads_next other (Heads of) (BlockOf name came) same is = absurd same
     heads_next other (Content key) came same is = absurd (cc is)
 
-    fetch_goes_on : {brought : List Brought} {notes : List Note} {end : LogEnd} (want : Want) (came : Brought) → IsOfWant want came → Fetches (record { standing = s; start = start }) owner brought notes end → end ≡ Lacks want → FetchesTo owner (brought ++ came ∷ [])
+    fetch_goes_on : {brought : List Brought} {notes : List Note} {end : LogEnd} (want : WantedOfRing) (came : Brought) → IsOfWant want came → Fetches (record { standing = s; start = start }) owner brought notes end → end ≡ Lacks want → FetchesTo owner (brought ++ came ∷ [])
     fetch_goes_on want came of (wants_heads other) is = heads_next other want came of is
     fetch_goes_on want came of (no_heads miss other) is = absurd (cc is)
     fetch_goes_on want came of (of_heads heads tried brought faults end other are tries) is =
@@ -100,13 +100,13 @@ module _ (s : Standing) (start : Vector) where
   all_begin [] = record { notes = []; chains = []; end = Done; fetches = all }
   all_begin (owner ∷ owners) = with_fetch owner owners [] (fetch_begins owner) (all_begin owners)
 
-  lacks_it : (log : LogEnd) (want : Want) → end_of_log log ≡ Some (Needs want) → log ≡ Lacks want
+  lacks_it : (log : LogEnd) (want : WantedOfRing) → end_of_log log ≡ Some (Needs want) → log ≡ Lacks want
   lacks_it (Lacks other) want e = ap Lacks (cc e)
   lacks_it (Stops miss) want e = cc e
   lacks_it (Gives records) want e = cc e
   lacks_it GivesNone want e = cc e
 
-  pub all_goes_on : {owners : List PubKey} {brought : List Brought} {notes : List Note} {chains : List Chain} {end : RefreshEnd} (want : Want) (came : Brought) → IsOfWant want came
+  pub all_goes_on : {owners : List PubKey} {brought : List Brought} {notes : List Note} {chains : List Chain} {end : RefreshEnd} (want : WantedOfRing) (came : Brought) → IsOfWant want came
       → FetchesAll (record { standing = s; start = start }) owners brought notes chains end → end ≡ Needs want → AllCome owners (brought ++ came ∷ [])
   all_goes_on want came of all is = absurd (cc is)
   all_goes_on want came of (stays {owner = owner} {owners = owners} {brought = brought} {log = log} fetch ends) is =
@@ -119,18 +119,18 @@ module _ (s : Standing) (start : Vector) where
 -- ---- loading
 
 module _ (decided : SnapshotsAreDecided) where
-  record LoadsTo (todo : List (Part × Key)) (read : List (List ℕ)) (brought : List Brought) : Type 0 where
+  record LoadsTo (todo : List (SnapshotPart × Key)) (read : List (List ℕ)) (brought : List Brought) : Type 0 where
     end : LoadEnd
     loads : Loads todo read brought end
 
-  load_begins : (todo : List (Part × Key)) (read : List (List ℕ)) → LoadsTo todo read []
+  load_begins : (todo : List (SnapshotPart × Key)) (read : List (List ℕ)) → LoadsTo todo read []
   load_begins [] read = elim (decided.wholes read) [
     | inl b ↦ record { end = Loaded (Some b.0); loads = loaded b.0 b.1 }
     | inr none ↦ record { end = Loaded None; loads = no_whole none }
   ]
   load_begins ((part, key) ∷ todo) read = record { end = LoadWants key; loads = wants }
 
-  load_next : (part : Part) (key : Key) (todo : List (Part × Key)) (read : List (List ℕ)) (came : Result (List ℕ) Miss) → LoadsTo ((part, key) ∷ todo) read (BlockOf key came ∷ [])
+  load_next : (part : SnapshotPart) (key : Key) (todo : List (SnapshotPart × Key)) (read : List (List ℕ)) (came : Result (List ℕ) Miss) → LoadsTo ((part, key) ∷ todo) read (BlockOf key came ∷ [])
   load_next part key todo read (Err miss) = record { end = Loaded None; loads = misses miss }
   load_next part key todo read (Ok bytes) = elim (decided.parts part bytes) [
     | inr none ↦ record { end = Loaded None; loads = garbled bytes none }
@@ -140,7 +140,7 @@ module _ (decided : SnapshotsAreDecided) where
   same_wanted : (a b : Key) → LoadWants a ≡ LoadWants b → a ≡ b
   same_wanted a b e = cc e
 
-  load_goes_on : {todo : List (Part × Key)} {read : List (List ℕ)} {brought : List Brought} {end : LoadEnd} (wanted : Key) (came : Result (List ℕ) Miss) → Loads todo read brought end → end ≡ LoadWants wanted
+  load_goes_on : {todo : List (SnapshotPart × Key)} {read : List (List ℕ)} {brought : List Brought} {end : LoadEnd} (wanted : Key) (came : Result (List ℕ) Miss) → Loads todo read brought end → end ≡ LoadWants wanted
       → LoadsTo todo read (brought ++ BlockOf wanted came ∷ [])
   load_goes_on wanted came (loaded b are) is = absurd (cc is)
   load_goes_on wanted came (no_whole none) is = absurd (cc is)
@@ -181,10 +181,10 @@ module _ (s : Standing) where
   begun_with None = record { end = Loaded None; loads = nothing_to_load }
   begun_with (Some root) = record { end = LoadWants root; loads = snapshot_to_load wants }
 
-  same_needed : (a b : Want) → Needs a ≡ Needs b → a ≡ b
+  same_needed : (a b : WantedOfRing) → Needs a ≡ Needs b → a ≡ b
   same_needed a b e = cc e
 
-  loads_next : (brought : List Brought) (key : Key) (want : Want) (came : Brought) → IfSome s.to_load (λ root. SnapshotsAreDecided) → IsOfWant want came → LoadsFor s.to_load brought (LoadWants key) → Content key ≡ want
+  loads_next : (brought : List Brought) (key : Key) (want : WantedOfRing) (came : Brought) → IfSome s.to_load (λ root. SnapshotsAreDecided) → IsOfWant want came → LoadsFor s.to_load brought (LoadWants key) → Content key ≡ want
       → RootLoadsTo s.to_load (brought ++ came ∷ [])
   loads_next brought key (Content wanted) (BlockOf name came) decided same loads is =
       let one : key ≡ wanted = cc is in
@@ -192,11 +192,11 @@ module _ (s : Standing) where
   loads_next brought key (Content wanted) (HeadsOf log came) decided same loads is = absurd same
   loads_next brought key (Heads owner) came decided same loads is = absurd (cc is)
 
-  course_goes_on : {brought : List Brought} {notes : List Note} {given : Refresh} {end : RefreshEnd} (want : Want) (came : Brought) → IfSome s.to_load (λ root. SnapshotsAreDecided) → IsOfWant want came
+  execution_goes_on : {brought : List Brought} {notes : List Note} {given : Refresh} {end : RefreshEnd} (want : WantedOfRing) (came : Brought) → IfSome s.to_load (λ root. SnapshotsAreDecided) → IsOfWant want came
       → Refreshes s brought notes given end → end ≡ Needs want → ComesTo s (brought ++ came ∷ [])
-  course_goes_on want came decided of (loading {brought = brought} {key = key} loads) is =
+  execution_goes_on want came decided of (loading {brought = brought} {key = key} loads) is =
       with_load (brought ++ came ∷ []) (loads_next brought key want came decided of loads (same_needed (Content key) want is))
-  course_goes_on want came decided of (fetching {loaded = blocks} {brought = brought} basis loads fetches) is =
+  execution_goes_on want came decided of (fetching {loaded = blocks} {brought = brought} basis loads fetches) is =
       let a = all_goes_on s (start_of s (counting s.floor basis)) want came of fetches is in
       subst (ComesTo s) (sym (append_assoc blocks brought (came ∷ []))) (record {
         notes = a.notes;
@@ -209,4 +209,4 @@ pub refresh_begins : RefreshBegins
 refresh_begins s = with_load s [] (begun_with s s.to_load)
 
 pub refresh_goes_on : RefreshGoesOn
-refresh_goes_on s brought notes given want came decided refreshes of = course_goes_on s want came decided of refreshes refl
+refresh_goes_on s brought notes given want came decided refreshes of = execution_goes_on s want came decided of refreshes refl

@@ -10,7 +10,7 @@ use Rattle.log_model.specs.Rank.{own_entry, full_vector}
 use Rattle.log_model.specs.Spelling.{HasSpelling}
 use Rattle.log_model.specs.Chain.{IsGood, GoesOn}
 use Rattle.log_model.proofs.Lists.{here, there, in_cons, in_nothing}
-use Rattle.log_model.specs.Fetched.{Edge, ChainFails, EndsAt, GoesOnFrom, HasRecord, IsOnward, IsSound, KnowsEdge, MayBeNext, OldestNames, PassesFloor, stamp_in}
+use Rattle.log_model.specs.Fetched.{Edge, ChainFails, EndsAtStamp, GoesOnFrom, HasRecord, IsOnward, IsSound, KnowsEdge, MayBeNext, OldestNames, PassesFloor, stamp_in}
 use Rattle.log_model.specs.declared.chain_fault.ChainFault.{ChainFault}
 use Rattle.log_model.specs.declared.chain_fault.ChainFault.TheVariants.{Bad, Fork, Memory}
 use Rattle.turn_laws.proofs.ChainRules.{made_known, named_known, first_known, further_known, follows_known, stamp_known}
@@ -51,11 +51,11 @@ goes_on_known view held edge (r ∷ rs) spelled =
       | inr none ↦ inr (λ g. none ((g.0, g.1), (g.2, g.3)))
     ]
 
-nothing_ends : (t : Stamp) → EndsAt t [] → ⊥
+nothing_ends : (t : Stamp) → EndsAtStamp t [] → ⊥
 nothing_ends t ([], last, is, same) = cc
 nothing_ends t (b ∷ before, last, is, same) = cc
 
-one_ends : (t : Stamp) (x : Record) → EndsAt t (x ∷ []) → (own_entry x).1 ≡ t
+one_ends : (t : Stamp) (x : Record) → EndsAtStamp t (x ∷ []) → (own_entry x).1 ≡ t
 one_ends t x f = by f.0 f.1 f.2 f.3
   where
     by : (before : List Record) (last : Record) → x ∷ [] ≡ before ++ last ∷ [] → (own_entry last).1 ≡ t → (own_entry x).1 ≡ t
@@ -63,14 +63,14 @@ one_ends t x f = by f.0 f.1 f.2 f.3
     by (b ∷ []) last e g = cc e
     by (b ∷ c ∷ before) last e g = cc e
 
-more_ends : (t : Stamp) (x y : Record) (ys : List Record) → EndsAt t (x ∷ y ∷ ys) → EndsAt t (y ∷ ys)
+more_ends : (t : Stamp) (x y : Record) (ys : List Record) → EndsAtStamp t (x ∷ y ∷ ys) → EndsAtStamp t (y ∷ ys)
 more_ends t x y ys f = by f.0 f.1 f.2 f.3
   where
-    by : (before : List Record) (last : Record) → x ∷ y ∷ ys ≡ before ++ last ∷ [] → (own_entry last).1 ≡ t → EndsAt t (y ∷ ys)
+    by : (before : List Record) (last : Record) → x ∷ y ∷ ys ≡ before ++ last ∷ [] → (own_entry last).1 ≡ t → EndsAtStamp t (y ∷ ys)
     by [] last e g = cc e
     by (b ∷ before) last e g = let rest : y ∷ ys ≡ before ++ last ∷ [] = cc e in (before, last, rest, g)
 
-ends_known : (t : Stamp) (xs : List Record) → Known (EndsAt t xs)
+ends_known : (t : Stamp) (xs : List Record) → Known (EndsAtStamp t xs)
 ends_known t [] = inr (nothing_ends t)
 ends_known t (x ∷ []) = elim (stamp_known (own_entry x).1 t) [
   | inl e ↦ inl ([], x, refl, e)

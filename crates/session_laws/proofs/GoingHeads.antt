@@ -57,7 +57,7 @@ placed t (x ∷ xs) order = elim (one_before t x) [
     has = λ u. (λ c. inr c, λ c. ⊎_elim (λ is. subst (Contains (x ∷ xs)) (sym same ∙ is) (here x xs)) (λ more. more) c);
     order = order;
   }
-  | inr (inr behind) ↦ (
+  | inr (inr after) ↦ (
       let p : Placed t xs = placed t xs order.1 in
       record {
         tried = x ∷ p.tried;
@@ -66,7 +66,7 @@ placed t (x ∷ xs) order = elim (one_before t x) [
           λ c. ⊎_elim (λ is. there x p.tried u ((p.has u).1 (inl is)))
               (λ old. ⊎_elim (λ is. subst (Contains (x ∷ p.tried)) is (here x p.tried)) (λ more. there x p.tried u ((p.has u).1 (inr more))) (in_cons x xs u old)) c,
         );
-        order = (each_from (IsTriedBefore x) p.tried (λ u c. ⊎_elim (λ is. subst (IsTriedBefore x) is behind) (λ old. each (IsTriedBefore x) xs u order.0 old) ((p.has u).0 c)), p.order);
+        order = (each_from (IsTriedBefore x) p.tried (λ u c. ⊎_elim (λ is. subst (IsTriedBefore x) is after) (λ old. each (IsTriedBefore x) xs u order.0 old) ((p.has u).0 c)), p.order);
       }
       )
 ]

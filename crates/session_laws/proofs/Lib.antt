@@ -10,10 +10,10 @@ pub mod Starting
 mod WholeTrees
 mod MadeBlocks
 pub mod Loading
-mod OneCourse
+mod OneExecution
 pub mod OneRefresh
 mod GoingChains
-mod GoingCourse
+mod GoingExecution
 mod GoingHeads
 pub mod Going
 pub mod Missing
@@ -21,7 +21,7 @@ pub mod DecidedSnapshots
 pub mod AskedPlans
 pub mod AskedOwners
 pub mod AskedLookups
-pub mod AskedCourses
+pub mod AskedExecutions
 pub mod AskedGets
 pub mod AskedPuts
 pub mod AskedMachines

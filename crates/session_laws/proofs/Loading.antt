@@ -5,7 +5,7 @@ use Rattle.std.specs.List.{AllByRecursion}
 use Rattle.std.proofs.lemmas.List.{append-nil}
 use Rattle.std.proofs.lemmas.List.Elements.{Contains-append_left, Contains-append_cases}
 use Rattle.ivy_base.specs.declared.key.Key.{Key}
-use Rattle.ivy_base.specs.Naming.{NamesTellApart, name}
+use Rattle.ivy_base.specs.Naming.{IsCollisionFree, name}
 use Rattle.ivy_base.proofs.NameLemmas.{length-name, bytes-name}
 use Rattle.log_model.specs.View.{View, view_block, view_name}
 use Rattle.log_model.specs.Record.{Record}
@@ -14,7 +14,7 @@ use Rattle.log_model.specs.Replay.{effect, in_order}
 use Rattle.log_model.proofs.Lists.{here, there, each}
 use Rattle.turn_model.specs.Basis.{Basis, StandsFor}
 use Rattle.snapshot_model.specs.Spelling.{snapshot_of}
-use Rattle.snapshot_model.specs.Reading.{Part, IsWholeTree, IsBasisSpelled, AreOf}
+use Rattle.snapshot_model.specs.Reading.{SnapshotPart, IsWholeTree, IsBasisSpelled, AreOf}
 use Rattle.snapshot_model.proofs.Loaded.{loaded_is_made as one_is_made}
 use Rattle.agent_model.specs.Standing.{dominates}
 use Rattle.agent_model.specs.Candidates.{StandsWithin}
@@ -32,7 +32,7 @@ use Rattle.session_laws.proofs.MadeBlocks.{read_met}
 
 module _ (met : List (List ℕ)) (b : Basis) where
   -- further blocks were met, and with those before them are the basis's
-  read_more : {todo : List (Part × Key)} {read : List (List ℕ)} {brought : List Brought} → Loads todo read brought (Loaded (Some b)) → AreMet met brought
+  read_more : {todo : List (SnapshotPart × Key)} {read : List (List ℕ)} {brought : List Brought} → Loads todo read brought (Loaded (Some b)) → AreMet met brought
       → (more : List (List ℕ)) × AreOf (read ++ more) b × AllByRecursion (Contains met) more
   read_more (loaded {read = read} c are_of) are = ([], subst (λ (blocks : List (List ℕ)). AreOf blocks b) (sym (append-nil read)) are_of, tt)
   read_more (goes_on {key = key} {read = read} {more = later} bytes named names rest) are =
@@ -72,7 +72,7 @@ loaded_is_made met view knew root snapshot brought b apart are loads =
     one_is_made (w.0 ∷ w.1) reading b snapshot.made w.2 (made_of view snapshot.made snapshot.below snapshot.stands snapshot.spelled)
     (λ x y in_x in_y e. apart x y (among x in_x) (among y in_y) e) (ap (λ (k : Key). k ∷ []) (w.4 ∙ snapshot.named))
 
-module _ (met : List (List ℕ)) (apart : NamesTellApart met) (view : View) (knew : List Record) where
+module _ (met : List (List ℕ)) (apart : IsCollisionFree met) (view : View) (knew : List Record) where
   loaded_within : {root : Option Key} {brought : List Brought} {basis : Option Basis} → LoadsFor root brought (Loaded basis) → AreMet met brought → IfSome root (IsSnapshotOf met view knew) → IfSome basis (StandsWithin view knew)
   loaded_within {basis = None} loads are snapshot = tt
   loaded_within {basis = Some b} loads are snapshot = of_some loads are snapshot

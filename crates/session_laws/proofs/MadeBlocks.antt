@@ -12,7 +12,7 @@ use Rattle.std.proofs.lemmas.Slice.Eq.{bytes_eq-Decides}
 use Rattle.log_model.proofs.Lists.{in_cons, in_nothing, each_from, each, who_passes}
 use Rattle.tree_model.specs.Tree.{Tree, Inode, listing}
 use Rattle.turn_model.specs.Basis.{Basis}
-use Rattle.snapshot_model.specs.Spelling.{Made, over, list_made, listed, list_of, pieces, in_pieces, entries_made, items_of, inode_made, snapshot_of, snapshot_blocks, with_block}
+use Rattle.snapshot_model.specs.Spelling.{Made, over, list_made, list_blocks_over, list_of, pieces, in_pieces, entries_made, items_of, inode_made, snapshot_of, snapshot_blocks, with_block}
 
 -- what is read of it is put
 abbrev IsPut : Made → Type 0
@@ -56,15 +56,15 @@ lists_put : (level : ℕ) (lists : List (List Made)) → AllByRecursion ArePut l
 lists_put level [] h = tt
 lists_put level (items ∷ lists) h = (over_put _ items h.0, lists_put level lists h.1)
 
-listed_put : (levels level : ℕ) (items : List Made) → ArePut items → ArePut (listed levels level items).1
+listed_put : (levels level : ℕ) (items : List Made) → ArePut items → ArePut (list_blocks_over levels level items).1
 listed_put zero level [] h = tt
 listed_put zero level (item ∷ items) h = tt
 listed_put (suc levels) level [] h = tt
 listed_put (suc levels) level (item ∷ items) h = by (nat_le (length (item ∷ items)) 512)
     (listed_put levels (level + 1) (map (list_made level) (in_pieces 512 (item ∷ items))) (lists_put level (in_pieces 512 (item ∷ items)) (each_piece IsPut (length (item ∷ items)) 512 (item ∷ items) h)))
   where
-    by : (b : Bool) → ArePut (listed levels (level + 1) (map (list_made level) (in_pieces 512 (item ∷ items)))).1
-        → ArePut (cond b (level, list_made level (item ∷ items) ∷ []) (listed levels (level + 1) (map (list_made level) (in_pieces 512 (item ∷ items))))).1
+    by : (b : Bool) → ArePut (list_blocks_over levels (level + 1) (map (list_made level) (in_pieces 512 (item ∷ items)))).1
+        → ArePut (cond b (level, list_made level (item ∷ items) ∷ []) (list_blocks_over levels (level + 1) (map (list_made level) (in_pieces 512 (item ∷ items))))).1
     by true rest = (over_put _ (item ∷ items) h, tt)
     by false rest = rest
 

@@ -7,7 +7,7 @@ use Rattle.std.specs.FinMap.Entries.{is_sorted}
 use Rattle.std.specs.Ordering.{eq_by_cmp}
 use Rattle.ivy_base.specs.declared.key.Key.{Key}
 use Rattle.ivy_base.specs.declared.key.PubKey.{PubKey}
-use Rattle.ivy_base.specs.Naming.{NamesTellApart, head_key_of, key_cmp, owner_cmp}
+use Rattle.ivy_base.specs.Naming.{IsCollisionFree, head_key_of, key_cmp, owner_cmp}
 use Rattle.tree_model.specs.Tree.{same_key}
 use Rattle.tree_model.proofs.Keys.{keys_total, same_key_itself}
 use Rattle.log_model.specs.View.{IsView}
@@ -114,7 +114,7 @@ module _ (s : Standing) (start : Vector) (chains : List Chain) (h : Holding) (sa
 
 -- of a fetch that is done
 pub fetch_not_behind : (met : List (List ℕ)) (s : Standing) (start : Vector) (knew : List Record) (brought : List Brought) (notes : List Note) (chains : List Chain) (basis : Option Basis) (h : Holding)
-    → NamesTellApart met → IsView s.view → IsKnown s.view s.floor knew → Stand met knew → StartsFrom s start knew → AreMet met brought → FetchesAll (record { standing = s; start = start }) s.view.members brought notes chains Done
+    → IsCollisionFree met → IsView s.view → IsKnown s.view s.floor knew → Stand met knew → StartsFrom s start knew → AreMet met brought → FetchesAll (record { standing = s; start = start }) s.view.members brought notes chains Done
     → joined h ≡ start → IsTrue (is_sorted key_cmp start) → is_behind s.view s.own s.floor h (record { started = start; chains = chains; basis = basis }) ≡ false
 fetch_not_behind met s start knew brought notes chains basis h apart well known stand from are fetches same sorted =
     not_behind s start chains h same basis sorted (floor_chain met s start knew brought notes chains apart well known stand from are fetches)

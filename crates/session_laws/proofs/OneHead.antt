@@ -8,7 +8,7 @@ use Rattle.std.proofs.lemmas.List.{length-append, nil_from_length}
 use Rattle.std.proofs.lemmas.List.Elements.{Contains-append_right}
 use Rattle.ivy_base.specs.declared.key.Key.{Key}
 use Rattle.ivy_base.specs.declared.key.PubKey.{PubKey}
-use Rattle.ivy_base.specs.Naming.{NamesTellApart, head_key_of}
+use Rattle.ivy_base.specs.Naming.{IsCollisionFree, head_key_of}
 use Rattle.log_model.specs.View.{View}
 use Rattle.log_model.specs.Vector.{Stamp, Vector, stamp_at, reach, with_entry}
 use Rattle.log_model.specs.Record.{Record}
@@ -19,12 +19,12 @@ use Rattle.log_model.specs.Chain.{IsChain, LinkedFrom}
 use Rattle.log_model.specs.Standing.{StandsAmong, Stand}
 use Rattle.log_model.proofs.Lists.{both, there, each, each_append, each_left, each_right}
 use Rattle.log_model.proofs.Part.{far_dominates, dominates_far, Numbered, chain_front, numbered, numbers_below}
-use Rattle.log_model.specs.Fetched.{Edge, owner_of, stamp_in, as_edge, EndsAt, GoesOnFrom, IsOnward, IsSound, ChainFails, OldestNames, PassesFloor}
+use Rattle.log_model.specs.Fetched.{Edge, owner_of, stamp_in, as_edge, EndsAtStamp, GoesOnFrom, IsOnward, IsSound, ChainFails, OldestNames, PassesFloor}
 use Rattle.log_model.specs.declared.chain_fault.ChainFault.{ChainFault}
 use Rattle.log_model.specs.declared.chain_fault.ChainFault.TheVariants.{Bad, Fork, Memory}
 use Rattle.log_records.specs.Batches.{name_or_none}
 use Rattle.log_records.proofs.Batches.{linked, extends, chains_begin, chains_go_on, passes_through}
-use Rattle.causal_order.specs.AtHand.{above}
+use Rattle.causal_order.specs.Available.{above}
 use Rattle.causal_order.proofs.Starts.{above_from}
 use Rattle.agent_model.specs.Standing.{go_on_from}
 use Rattle.tree_model.specs.Tree.{same_key}
@@ -41,7 +41,7 @@ use Rattle.session_laws.proofs.Cuts.{linked_chain, StartsIn, IsLogKnown, IsAbove
 
 -- ---- plain facts
 
-owned_owner : (owner : PubKey) (xs : List Record) (t : Stamp) → AllByRecursion (λ r. r.owner ≡ owner) xs → EndsAt t xs → owner_of xs ≡ owner
+owned_owner : (owner : PubKey) (xs : List Record) (t : Stamp) → AllByRecursion (λ r. r.owner ≡ owner) xs → EndsAtStamp t xs → owner_of xs ≡ owner
 owned_owner owner [] t all ends = absurd (nothing_ends t ends)
 owned_owner owner (r ∷ rs) t all ends = all.0
 
@@ -66,7 +66,7 @@ edge_or_not view t e (r ∷ rs) g = by (goes_as_far (full_vector r) (with_entry 
     by false short = inr (λ h. let far = dominates_far (full_vector r) (with_entry e.vector (head_key_of r.owner, t)) h.2 in cc (far, short))
 
 -- records that go on, by the test
-go_on : (view : View) (held : Option Stamp) (edge : Option Edge) (t : Stamp) (xs : List Record) → EndsAt t xs → GoesOnFrom view held edge xs → OldestNames held xs → go_on_from held xs ≡ true
+go_on : (view : View) (held : Option Stamp) (edge : Option Edge) (t : Stamp) (xs : List Record) → EndsAtStamp t xs → GoesOnFrom view held edge xs → OldestNames held xs → go_on_from held xs ≡ true
 go_on view held edge t [] ends g names = absurd (nothing_ends t ends)
 go_on view None edge t (r ∷ rs) ends g names = eq-eqb r.seq 1 g.1.seq
 go_on view (Some h) edge t (r ∷ rs) ends g names =
@@ -80,7 +80,7 @@ linked_numbered owner n prev (x ∷ xs) h = (h.2, linked_numbered owner (n + 1) 
 
 module _ (view : View) (owner : PubKey) where
   -- what is known goes as far as the floor
-  known_size : (f : Stamp) (knew : List Record) → IsChain view owner knew → EndsAt f knew → length knew ≡ f.seq
+  known_size : (f : Stamp) (knew : List Record) → IsChain view owner knew → EndsAtStamp f knew → length knew ≡ f.seq
   known_size f knew of_knew ends = let size = long owner 1 no_name knew f (linked_chain view owner knew of_knew) ends in omega (arith, size)
 
   -- so the held record isn't above the floor
@@ -117,25 +117,25 @@ module _ (view : View) (owner : PubKey) where
         let one_more = length-append before (r ∷ []) in
         let none : mid ≡ [] = nil_from_length mid (omega (arith, near, size, number, long_both, one_more, seq)) in
         let same : knew ≡ before ++ r ∷ [] = e ∙ ap (λ (l : List Record). before ++ r ∷ l) none in
-        (before ++ r ∷ [], records, sym (append_assoc before (r ∷ []) records), subst (EndsAt f) same ends)
+        (before ++ r ∷ [], records, sym (append_assoc before (r ∷ []) records), subst (EndsAtStamp f) same ends)
         )
   ]
 
 -- ---- one head
 
-module _ (met : List (List ℕ)) (apart : NamesTellApart met) (view : View) (owner : PubKey) (start floor : Vector) (knew : List Record) (k : IsLogKnown met view owner (stamp_at floor (head_key_of owner)) knew) where
+module _ (met : List (List ℕ)) (apart : IsCollisionFree met) (view : View) (owner : PubKey) (start floor : Vector) (knew : List Record) (k : IsLogKnown met view owner (stamp_at floor (head_key_of owner)) knew) where
   abbrev held : Option Stamp
   held = stamp_at start (head_key_of owner)
 
   abbrev read : Reading
   read = record { blocks = met; view = view; floor = floor }
 
-  sound_of : (edge : Option Edge) (head : Stamp) (prev : Key) (high : List Record) → LinkedFrom owner (reach held + 1) prev high → EndsAt head high → GoesOnFrom view held edge high → IsSound view start edge head high
+  sound_of : (edge : Option Edge) (head : Stamp) (prev : Key) (high : List Record) → LinkedFrom owner (reach held + 1) prev high → EndsAtStamp head high → GoesOnFrom view held edge high → IsSound view start edge head high
   sound_of edge head prev high linked_high ends goes =
       let mine : owner ≡ owner_of high = sym (linked_owner owner (reach held + 1) prev high head linked_high ends) in
       record { goes_on = subst (λ (o : PubKey). GoesOnFrom view (stamp_at start (head_key_of o)) edge high) mine goes; ends = ends }
 
-  onward_of : (head : Stamp) (prev : Key) (high : List Record) → LinkedFrom owner (reach held + 1) prev high → EndsAt head high → OldestNames held high → PassesFloor (stamp_at floor (head_key_of owner)) (reach held) high → IsOnward start floor high
+  onward_of : (head : Stamp) (prev : Key) (high : List Record) → LinkedFrom owner (reach held + 1) prev high → EndsAtStamp head high → OldestNames held high → PassesFloor (stamp_at floor (head_key_of owner)) (reach held) high → IsOnward start floor high
   onward_of head prev high linked_high ends names passes =
       let mine : owner ≡ owner_of high = sym (linked_owner owner (reach held + 1) prev high head linked_high ends) in
       record {
@@ -145,7 +145,7 @@ module _ (met : List (List ℕ)) (apart : NamesTellApart met) (view : View) (own
 
   -- no records that stand there and end at the head are sound and onward
   abbrev pub IsRefused : Option Edge → Stamp → Type 0
-  IsRefused edge head = (prev : Key) (high : List Record) → LinkedFrom owner (reach held + 1) prev high → Stand met high → EndsAt head high → IsSound view start edge head high → IsOnward start floor high → ⊥
+  IsRefused edge head = (prev : Key) (high : List Record) → LinkedFrom owner (reach held + 1) prev high → Stand met high → EndsAtStamp head high → IsSound view start edge head high → IsOnward start floor high → ⊥
 
   pub refused_came : (edge : Option Edge) (head : Stamp) {brought : List Brought} {records : List Record} → Walks owner (head.seq - reach held) head.name brought records Came → AreMet met brought
       → (fault : ChainFault) → fault ≢ Memory → ChainFails view start floor head edge (reverse records) fault → IsRefused edge head
@@ -184,7 +184,7 @@ module _ (met : List (List ℕ)) (apart : NamesTellApart met) (view : View) (own
     pub stand : Stand met records
     pub sound : IsSound view start edge head records
     pub onward : IsOnward start floor records
-    pub only : (prev : Key) (high : List Record) → LinkedFrom owner (reach held + 1) prev high → Stand met high → EndsAt head high → records ≡ high
+    pub only : (prev : Key) (high : List Record) → LinkedFrom owner (reach held + 1) prev high → Stand met high → EndsAtStamp head high → records ≡ high
 
   pub given_came : (edge : Option Edge) (head : Stamp) {brought : List Brought} {records : List Record} → Walks owner (head.seq - reach held) head.name brought records Came → AreMet met brought
       → IsSound view start edge head (reverse records) → IsOnward start floor (reverse records) → IsGiven edge head (reverse records)

@@ -9,7 +9,7 @@ use Rattle.std.proofs.lemmas.List.{append-nil}
 use Rattle.std.proofs.lemmas.List.Elements.{Contains-append_left, Contains-append_right, Contains-append_cases}
 use Rattle.ivy_base.specs.declared.key.Key.{Key}
 use Rattle.ivy_base.specs.declared.key.PubKey.{PubKey}
-use Rattle.ivy_base.specs.Naming.{NamesTellApart, head_key_of, key_cmp}
+use Rattle.ivy_base.specs.Naming.{IsCollisionFree, head_key_of, key_cmp}
 use Rattle.tree_model.proofs.Keys.{keys_total}
 use Rattle.log_model.specs.Vector.{Stamp, Vector, stamp_at, seq_of}
 use Rattle.log_model.specs.Record.{Record}
@@ -17,7 +17,7 @@ use Rattle.log_model.specs.Closed.{log_of}
 use Rattle.log_model.proofs.Lists.{here, there, in_cons, each, each_left}
 use Rattle.log_model.specs.Fetched.{Edge, IsSound, HasRecord, PassesFloor}
 use Rattle.log_model.specs.declared.chain_fault.ChainFault.{ChainFault}
-use Rattle.causal_order.specs.AtHand.{above}
+use Rattle.causal_order.specs.Available.{above}
 use Rattle.turn_model.specs.Basis.{Basis}
 use Rattle.turn_model.specs.Known as known
 use Rattle.turn_model.specs.Candidates.{IsTriedBefore, PassesThrough, MakeChain, IsPassedOver, IsTried, Reading, own_log, newest, as_known}
@@ -48,7 +48,7 @@ not_both_before s t (inr f) (inr g) =
     let turned : is_lt (key_cmp t.name s.name) ≡ false = ap is_lt (keys_total.antisymm t.name s.name ∙ ap ordering_reverse (is_less (key_cmp s.name t.name) f.1)) in
     absurd (let e = sym g.1 ∙ turned in cc)
 
--- those behind one of them are tried after it
+-- those after one of them are tried after it
 behind_after : (passed : List Stamp) (head : Stamp) (rest : List Stamp) → InTryingOrder (passed ++ head ∷ rest) → AllByRecursion (IsTriedBefore head) rest
 behind_after [] head rest order = order.0
 behind_after (p ∷ passed) head rest order = behind_after passed head rest order.1
@@ -83,7 +83,7 @@ own_is (Some t) b before head rest e = by (nat_lt b t.seq) refl before e
 
 -- ---- what came of the heads
 
-module _ (met : List (List ℕ)) (apart : NamesTellApart met) (s : Standing) (start : Vector) (knew : List Record) (owner : PubKey) (k : IsLogKnown met s.view owner (stamp_at s.floor (head_key_of owner)) (log_of owner knew)) (from : StartsIn (stamp_at start (head_key_of owner)) (edge_at s (head_key_of owner)) (log_of owner knew)) where
+module _ (met : List (List ℕ)) (apart : IsCollisionFree met) (s : Standing) (start : Vector) (knew : List Record) (owner : PubKey) (k : IsLogKnown met s.view owner (stamp_at s.floor (head_key_of owner)) (log_of owner knew)) (from : StartsIn (stamp_at start (head_key_of owner)) (edge_at s (head_key_of owner)) (log_of owner knew)) where
   -- of the log: its name, where the fetch starts, what the floor names, what is known of the held record, and what is known
   abbrev log : Key
   log = head_key_of owner
@@ -109,7 +109,7 @@ module _ (met : List (List ℕ)) (apart : NamesTellApart met) (s : Standing) (st
   abbrev Given : Stamp → List Record → Type 0
   Given t records = IsGiven met apart s.view owner start s.floor own_knew k edge t records
 
-  -- a head's records were taken behind heads that were passed over, or all were
+  -- a head's records were taken after heads that were passed over, or all were
   abbrev Results : List Stamp → LogEnd → Type 0
   Results ts (Lacks want) = Unit {0}
   Results ts (Stops miss) = Unit {0}

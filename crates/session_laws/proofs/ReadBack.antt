@@ -1,10 +1,10 @@
--- What a walk back by names reads: where names tell the blocks apart, the records that stand there, are linked and end at the name.
+-- What a walk back by names reads: where no names collide, the records that stand there, are linked and end at the name.
 use Rattle.std.proofs.Common.{◌≡◌, ℕ, ◌+◌, ◌-◌, List, [], ◌∷◌, ◌++◌, length, reverse, Ok, refl, sym, ap, ◌∙◌, subst, arith, append_assoc, Contains}
 use Rattle.std.specs.List.{AllByRecursion}
 use Rattle.std.proofs.lemmas.List.{append-nil, reverse-append, reverse-reverse, length-reverse, length-append}
 use Rattle.ivy_base.specs.declared.key.Key.{Key}
 use Rattle.ivy_base.specs.declared.key.PubKey.{PubKey}
-use Rattle.ivy_base.specs.Naming.{NamesTellApart, name}
+use Rattle.ivy_base.specs.Naming.{IsCollisionFree, name}
 use Rattle.wire_model.proofs.OneReading.{whole}
 use Rattle.log_model.specs.Vector.{Stamp}
 use Rattle.log_model.specs.Record.{Record}
@@ -12,7 +12,7 @@ use Rattle.log_model.specs.Spelling.{HasSpelling, IsRecordOf}
 use Rattle.log_model.specs.Chain.{LinkedFrom}
 use Rattle.log_model.specs.Standing.{StandsAmong, Stand}
 use Rattle.log_model.proofs.Lists.{here, there, each_append}
-use Rattle.log_model.specs.Fetched.{EndsAt, owner_of}
+use Rattle.log_model.specs.Fetched.{EndsAtStamp, owner_of}
 use Rattle.log_records.proofs.OneRecord.{one_record, block_among}
 use Rattle.session_model.specs.Brought.{Brought, BlockOf}
 use Rattle.session_model.specs.Walks.{Walks, WalkEnd, Came, Garbled}
@@ -26,7 +26,7 @@ each_reverse P (x ∷ xs) h = subst (AllByRecursion P) (sym (reverse-append (x �
 
 -- ---- linked records
 
-pub nothing_ends : (t : Stamp) → EndsAt t [] → ⊥
+pub nothing_ends : (t : Stamp) → EndsAtStamp t [] → ⊥
 nothing_ends t ([], last, is, same) = cc
 nothing_ends t (b ∷ before, last, is, same) = cc
 
@@ -45,7 +45,7 @@ module _ (owner : PubKey) where
   linked_right n prev (x ∷ xs) ys h = subst (λ (k : ℕ). LinkedFrom owner k (newest_of x.name xs) ys) (omega arith) (linked_right (n + 1) x.name xs ys h.4)
 
   -- how many they are, up to the stamp
-  pub long : (n : ℕ) (prev : Key) (xs : List Record) (t : Stamp) → LinkedFrom owner n prev xs → EndsAt t xs → n + length xs ≡ t.seq + 1
+  pub long : (n : ℕ) (prev : Key) (xs : List Record) (t : Stamp) → LinkedFrom owner n prev xs → EndsAtStamp t xs → n + length xs ≡ t.seq + 1
   long n prev xs t h ends =
       let last = last_seq owner n prev ends.0 ends.1 (subst (LinkedFrom owner n prev) ends.2 h) in
       let same : ends.1.seq ≡ t.seq = ap (λ (s : Stamp). s.seq) ends.3 in
@@ -53,13 +53,13 @@ module _ (owner : PubKey) where
       let one_more = length-append ends.0 (ends.1 ∷ []) in
       omega (arith, last, same, size, one_more)
 
-  pub linked_owner : (n : ℕ) (prev : Key) (xs : List Record) (t : Stamp) → LinkedFrom owner n prev xs → EndsAt t xs → owner_of xs ≡ owner
+  pub linked_owner : (n : ℕ) (prev : Key) (xs : List Record) (t : Stamp) → LinkedFrom owner n prev xs → EndsAtStamp t xs → owner_of xs ≡ owner
   linked_owner n prev [] t h ends = absurd (nothing_ends t ends)
   linked_owner n prev (r ∷ rs) t h ends = h.0
 
 -- ---- back by names
 
-module _ (met : List (List ℕ)) (apart : NamesTellApart met) (owner : PubKey) where
+module _ (met : List (List ℕ)) (apart : IsCollisionFree met) (owner : PubKey) where
   -- the owner's records among the blocks from that name back, the newest first
   abbrev pub LeadBack : Key → List Record → Type 0
   LeadBack key [] = Unit {0}
@@ -72,7 +72,7 @@ module _ (met : List (List ℕ)) (apart : NamesTellApart met) (owner : PubKey) w
       subst (LeadBack (newest_of x.name xs)) (sym turned)
       (lead_on (n + 1) x.name xs (x ∷ acc) h.4 stand.1 (h.0, h.1, stand.0, refl, subst (λ (k : Key). LeadBack k acc) (sym h.3) lead))
 
-  leads : (n : ℕ) (prev : Key) (xs : List Record) (t : Stamp) → LinkedFrom owner n prev xs → Stand met xs → EndsAt t xs → LeadBack t.name (reverse xs)
+  leads : (n : ℕ) (prev : Key) (xs : List Record) (t : Stamp) → LinkedFrom owner n prev xs → Stand met xs → EndsAtStamp t xs → LeadBack t.name (reverse xs)
   leads n prev xs t h stand ends =
       subst (λ (k : Key). LeadBack k (reverse xs)) (ap (newest_of prev) ends.2 ∙ newest_is prev ends.0 ends.1 ∙ ap (λ (s : Stamp). s.name) ends.3)
       (subst (LeadBack (newest_of prev xs)) (append-nil (reverse xs)) (lead_on n prev xs [] h stand tt))
@@ -103,7 +103,7 @@ module _ (met : List (List ℕ)) (apart : NamesTellApart met) (owner : PubKey) w
 
   -- ---- from a stamp back to a number
 
-  module _ (b : ℕ) (prev : Key) (high : List Record) (t : Stamp) (linked : LinkedFrom owner (b + 1) prev high) (stand : Stand met high) (ends : EndsAt t high) where
+  module _ (b : ℕ) (prev : Key) (high : List Record) (t : Stamp) (linked : LinkedFrom owner (b + 1) prev high) (stand : Stand met high) (ends : EndsAtStamp t high) where
     sized : t.seq - b ≡ length (reverse high)
     sized = let size = long owner (b + 1) prev high t linked ends in let same = length-reverse high in omega (arith, size, same)
 

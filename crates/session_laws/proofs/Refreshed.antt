@@ -8,7 +8,7 @@ use Rattle.log_model.specs.Vector.{Stamp}
 use Rattle.log_model.proofs.Lists.{here, there}
 use Rattle.agent_model.specs.Standing.{Refresh}
 use Rattle.agent_model.specs.Candidates.{Brings}
-use Rattle.snapshot_model.specs.Reading.{Part}
+use Rattle.snapshot_model.specs.Reading.{SnapshotPart}
 use Rattle.session_model.specs.Brought.{Brought, HeadsOf, BlockOf, all_heads, heads_at}
 use Rattle.session_model.specs.Refreshing.{Loads, LoadsFor, LoadEnd, counting, start_of}
 use Rattle.session_model.specs.Refreshing.Loads.{loaded, no_whole, wants, misses, garbled, goes_on}
@@ -19,7 +19,7 @@ use Rattle.session_laws.proofs.OwnParts.{HasNoHeads, none_yet, block_first}
 use Rattle.session_laws.proofs.NotBehind.{fetch_not_behind}
 use Rattle.session_laws.proofs.AllLogs.{fetched_is_brought, floor_is_brought}
 
-loads_no_heads : {todo : List (Part × Key)} {read : List (List ℕ)} {brought : List Brought} {end : LoadEnd} → Loads todo read brought end → HasNoHeads brought
+loads_no_heads : {todo : List (SnapshotPart × Key)} {read : List (List ℕ)} {brought : List Brought} {end : LoadEnd} → Loads todo read brought end → HasNoHeads brought
 loads_no_heads (loaded b are) = none_yet
 loads_no_heads (no_whole none) = none_yet
 loads_no_heads wants = none_yet

@@ -84,7 +84,7 @@ module _ (view : View) (owner : PubKey) (well : IsView view) (member : Contains 
   newest_is_last before r [] = refl
   newest_is_last before r (q ∷ rs) = newest_is_last (Some (as_edge r)) q rs
 
-  -- of the last of some and of those behind them
+  -- of the last of some and of those after them
   newest_behind : (xs ys : List Record) (p : Record) → newest_edge None (xs ++ ys) ≡ Some (as_edge p) → IfSome (newest_edge None ys) (λ e. e ≡ as_edge p)
   newest_behind xs [] p e = tt
   newest_behind xs (y ∷ ys) p e = subst (λ (o : Option Edge). IfSome o (λ x. x ≡ as_edge p)) (sym (sym (newest_skips None xs y ys) ∙ e)) refl

@@ -3,7 +3,7 @@ use Rattle.std.specs.Prelude.{◌≡◌, ℕ, ◌<◌, List, Contains, Ok, IfSom
 use Rattle.std.specs.FinMap.Entries.{is_sorted}
 use Rattle.ivy_base.specs.declared.key.Key.{Key}
 use Rattle.ivy_base.specs.declared.key.PubKey.{PubKey}
-use Rattle.ivy_base.specs.Naming.{NamesTellApart, head_key_of, key_cmp, name}
+use Rattle.ivy_base.specs.Naming.{IsCollisionFree, head_key_of, key_cmp, name}
 use Rattle.log_model.specs.View.{IsView}
 use Rattle.log_model.specs.Vector.{Stamp, Vector, stamp_at, seq_of}
 use Rattle.log_model.specs.Record.{Record}
@@ -32,11 +32,11 @@ StartsFrom s start knew = (owner : PubKey) → Contains s.view.members owner →
 
 -- ---- laws
 
--- Where names tell the blocks apart, the members' logs that were fetched to the end bring what their heads name.
+-- Where no names collide, the members' logs that were fetched to the end bring what their heads name.
 abbrev pub FetchedIsBrought : Type 0
 FetchedIsBrought = (met : List (List ℕ)) (s : Standing) (start : Vector) (knew : List Record) (brought : List Brought) (notes : List Note)
     (chains : List Chain) (basis : Option Basis)
-    → NamesTellApart met → IsView s.view → IsKnown s.view s.floor knew → Stand met knew → StartsFrom s start knew → AreMet met brought
+    → IsCollisionFree met → IsView s.view → IsKnown s.view s.floor knew → Stand met knew → StartsFrom s start knew → AreMet met brought
     → FetchesAll (record { standing = s; start = start }) s.view.members brought notes chains Done
     → Brings (record { heads = heads_at brought; met = met; standing = s; knew = knew }) s.view
     (record { started = start; chains = chains; basis = basis })
@@ -45,7 +45,7 @@ FetchedIsBrought = (met : List (List ℕ)) (s : Standing) (start : Vector) (knew
 abbrev pub FloorIsBrought : Type 0
 FloorIsBrought = (met : List (List ℕ)) (s : Standing) (start : Vector) (knew : List Record) (brought : List Brought) (notes : List Note)
     (chains : List Chain)
-    → NamesTellApart met → IsView s.view → IsKnown s.view s.floor knew → Stand met knew → StartsFrom s start knew → AreMet met brought
+    → IsCollisionFree met → IsView s.view → IsKnown s.view s.floor knew → Stand met knew → StartsFrom s start knew → AreMet met brought
     → FetchesAll (record { standing = s; start = start }) s.view.members brought notes chains Done
     → (owner : PubKey) (t : Stamp) → Contains s.view.members owner → stamp_at s.floor (head_key_of owner) ≡ Some t
     → seq_of start (head_key_of owner) < t.seq
@@ -57,14 +57,14 @@ FloorIsBrought = (met : List (List ℕ)) (s : Standing) (start : Vector) (knew :
 abbrev pub RefreshedIsBrought : Type 0
 RefreshedIsBrought = (met : List (List ℕ)) (s : Standing) (knew : List Record) (brought : List Brought) (notes : List Note)
     (given : Refresh)
-    → NamesTellApart met → IsView s.view → IsKnown s.view s.floor knew → Stand met knew → StartsFrom s given.started knew
+    → IsCollisionFree met → IsView s.view → IsKnown s.view s.floor knew → Stand met knew → StartsFrom s given.started knew
     → AreMet met brought
     → Refreshes s brought notes given Done → Brings (record { heads = heads_at brought; met = met; standing = s; knew = knew }) s.view given
 
 -- And the floor's record, where that goes further than what it started from.
 abbrev pub FloorIsReached : Type 0
 FloorIsReached = (met : List (List ℕ)) (s : Standing) (knew : List Record) (brought : List Brought) (notes : List Note) (given : Refresh)
-    → NamesTellApart met → IsView s.view → IsKnown s.view s.floor knew → Stand met knew → StartsFrom s given.started knew
+    → IsCollisionFree met → IsView s.view → IsKnown s.view s.floor knew → Stand met knew → StartsFrom s given.started knew
     → AreMet met brought
     → Refreshes s brought notes given Done
     → (owner : PubKey) (t : Stamp) → Contains s.view.members owner → stamp_at s.floor (head_key_of owner) ≡ Some t
@@ -75,7 +75,7 @@ FloorIsReached = (met : List (List ℕ)) (s : Standing) (knew : List Record) (br
 abbrev pub DoneIsNotBehind : Type 0
 DoneIsNotBehind = (met : List (List ℕ)) (s : Standing) (h : Holding) (knew : List Record) (brought : List Brought) (notes : List Note)
     (given : Refresh)
-    → NamesTellApart met → IsView s.view → IsKnown s.view s.floor knew → Stand met knew → StartsFrom s given.started knew
+    → IsCollisionFree met → IsView s.view → IsKnown s.view s.floor knew → Stand met knew → StartsFrom s given.started knew
     → AreMet met brought
     → Refreshes s brought notes given Done → joined h ≡ given.started → IsTrue (is_sorted key_cmp given.started)
     → is_behind s.view s.own s.floor h given ≡ false

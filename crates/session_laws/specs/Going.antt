@@ -2,14 +2,14 @@
 use Rattle.std.specs.Prelude.{◌≡◌, ◌⊎◌, ℕ, List, [], ◌∷◌, ◌++◌, Err, IfSome}
 use Rattle.dhash_model.specs.declared.miss.Miss.{Miss}
 use Rattle.turn_model.specs.Basis.{Basis}
-use Rattle.snapshot_model.specs.Reading.{AreOf, Names, Part}
+use Rattle.snapshot_model.specs.Reading.{AreOf, NamesParts, SnapshotPart}
 use Rattle.ivy_base.specs.declared.key.Key.{Key}
 use Rattle.agent_model.specs.Standing.{Standing, Refresh}
-use Rattle.session_model.specs.Brought.{Brought, HeadsOf, BlockOf, Want, Heads, Content}
+use Rattle.session_model.specs.Brought.{Brought, HeadsOf, BlockOf, WantedOfRing, Heads, Content}
 use Rattle.session_model.specs.Refreshing.{Note, RefreshEnd, Refreshes, Needs, FailsBy}
 
 -- it is what came of that want, or why nothing did
-abbrev pub IsOfWant : Want → Brought → Type 0
+abbrev pub IsOfWant : WantedOfRing → Brought → Type 0
 IsOfWant (Heads owner) (HeadsOf log came) = log ≡ owner
 IsOfWant (Content key) (BlockOf name came) = name ≡ key
 IsOfWant _ _ = ⊥
@@ -29,8 +29,9 @@ pub record ComesTo (s : Standing) (brought : List Brought) : Type 0 where
 
 -- Of any bytes it is known whether they are a part of a snapshot, and of any blocks whether they are a whole one.
 pub record SnapshotsAreDecided : Type 0 where
-  pub parts : (part : Part) (block : List ℕ)
-      → ((named : List (Part × Key)) × Names part block named) ⊎ ((named : List (Part × Key)) → Names part block named → ⊥)
+  pub parts : (part : SnapshotPart) (block : List ℕ)
+      → ((named : List (SnapshotPart × Key)) × NamesParts part block named)
+      ⊎ ((named : List (SnapshotPart × Key)) → NamesParts part block named → ⊥)
   pub wholes : (blocks : List (List ℕ)) → ((b : Basis) × AreOf blocks b) ⊎ ((b : Basis) → AreOf blocks b → ⊥)
 
 -- ---- laws
@@ -42,7 +43,7 @@ RefreshBegins = (s : Standing) → ComesTo s []
 -- Whatever came of what is wanted, the refresh goes on. That a snapshot is one can be told is premised where there is one to load; nothing
 -- else is.
 abbrev pub RefreshGoesOn : Type 0
-RefreshGoesOn = (s : Standing) (brought : List Brought) (notes : List Note) (given : Refresh) (want : Want) (came : Brought)
+RefreshGoesOn = (s : Standing) (brought : List Brought) (notes : List Note) (given : Refresh) (want : WantedOfRing) (came : Brought)
     → IfSome s.to_load (λ root. SnapshotsAreDecided)
     → Refreshes s brought notes given (Needs want) → IsOfWant want came → ComesTo s (brought ++ came ∷ [])
 

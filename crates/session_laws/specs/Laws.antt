@@ -1,4 +1,4 @@
--- Laws of gets and puts, ask by ask: each is one course that the answers tell, and what a machine is to ask is the next of it.
+-- Laws of gets and puts, ask by ask: each is deterministic, and what a machine is to ask is its next ask.
 use Rattle.std.specs.Prelude.{◌≡◌, ◌≢◌, ℕ, Bool, if◌then◌else◌, List, [], Option, Some, Result}
 use Rattle.ivy_base.specs.declared.key.Key.{Key}
 use Rattle.ivy_base.specs.declared.key.PubKey.{PubKey}
@@ -18,21 +18,21 @@ use Rattle.dhash_client.specs.GetBlock.{BlockState, BlockIsAfter, block_awaited}
 use Rattle.dhash_client.specs.GetHead.{Judges, HeadState, HeadIsAfter, head_awaited}
 use Rattle.dhash_client.specs.Puts.{IsPutOf, PutState, PutIsAfter, put_awaited, question_of}
 use Rattle.agent_model.specs.Agent.{is_head}
-use Rattle.session_model.specs.Brought.{Want, Heads, Content}
+use Rattle.session_model.specs.Brought.{WantedOfRing, Heads, Content}
 use Rattle.session_model.specs.Sessions.{Session, IsGet, IsPut, IsPutOfPost, put_question, wanted_key}
 use Rattle.session_model.specs.Asking.{IsBegun, AsksNext, AsksOneNext, BeginsNoOther, GoesOnAlways}
 
 -- ---- they are one
 
 -- of any entry nodes, some of which there are, whatever is asked for
-abbrev pub GetsAreOne : Type 0
-GetsAreOne = (judged : Key → List ℕ → Option Judged) (r : ℕ) (entries : List Peer) (want : Want)
+abbrev pub GetsAreDeterministic : Type 0
+GetsAreDeterministic = (judged : Key → List ℕ → Option Judged) (r : ℕ) (entries : List Peer) (want : WantedOfRing)
     → BeginsNoOther (IsGet judged r entries want) × AsksOneNext (wanted_key want) (ask.Get (wanted_key want)) (IsGet judged r entries want)
     × GoesOnAlways (wanted_key want) (ask.Get (wanted_key want)) (IsGet judged r entries want)
     × (entries ≢ [] → IsBegun (IsGet judged r entries want) [])
 
-abbrev pub PutsAreOne : Type 0
-PutsAreOne = (judged : Key → List ℕ → Option Judged) (r : ℕ) (s : Session) (p : Post)
+abbrev pub PutsAreDeterministic : Type 0
+PutsAreDeterministic = (judged : Key → List ℕ → Option Judged) (r : ℕ) (s : Session) (p : Post)
     → BeginsNoOther (IsPut judged r s p) × AsksOneNext p.key (put_question p) (IsPut judged r s p)
     × GoesOnAlways p.key (put_question p) (IsPut judged r s p) × (s.entries ≢ [] → IsBegun (IsPut judged r s p) [])
 
@@ -69,7 +69,7 @@ PutNextIsNotWhole = (what : PutKind) (bytes : List ℕ) (key : Key) (r : ℕ) (e
     → NextIsNotWhole key (question_of what bytes key) (IsWholePutOf what bytes key r entries)
 
 abbrev pub GetNextIsNotWhole : Type 0
-GetNextIsNotWhole = (judged : Key → List ℕ → Option Judged) (r : ℕ) (entries : List Peer) (want : Want)
+GetNextIsNotWhole = (judged : Key → List ℕ → Option Judged) (r : ℕ) (entries : List Peer) (want : WantedOfRing)
     → NextIsNotWhole (wanted_key want) (ask.Get (wanted_key want)) (IsGet judged r entries want)
 
 abbrev pub PostNextIsNotWhole : Type 0
@@ -91,7 +91,7 @@ NoneIsWholePut = (what : PutKind) (bytes : List ℕ) (key : Key) (r : ℕ) (entr
     → NoneIsWhole entries (IsWholePutOf what bytes key r entries)
 
 abbrev pub NoneIsWholeGet : Type 0
-NoneIsWholeGet = (judged : Key → List ℕ → Option Judged) (r : ℕ) (entries : List Peer) (want : Want)
+NoneIsWholeGet = (judged : Key → List ℕ → Option Judged) (r : ℕ) (entries : List Peer) (want : WantedOfRing)
     → NoneIsWhole entries (IsGet judged r entries want)
 
 abbrev pub NoneIsWholePost : Type 0
@@ -103,20 +103,20 @@ NoneIsWholePost = (r : ℕ) (entries : List Peer) (p : Post) → NoneIsWhole ent
 abbrev pub HeadAsksNext : Type 0 → Type 0
 HeadAsksNext J = (judges : Judges J) (entries : List Peer) (trail : List Heard) (s : HeadState J) (node : Peer) (question : Ask)
     → HeadIsAfter judges entries trail s → head_awaited s ≡ Some (node, question)
-    → AsksNext s.course.look.key (ask.Get s.course.look.key)
-    (IsWholeGetOfHead (judges s.judge s.course.look.key) s.course.look.key s.course.replicas entries) trail node question
+    → AsksNext s.execution.look.key (ask.Get s.execution.look.key)
+    (IsWholeGetOfHead (judges s.judge s.execution.look.key) s.execution.look.key s.execution.replicas entries) trail node question
 
 abbrev pub BlockAsksNext : Type 0
 BlockAsksNext = (entries : List Peer) (trail : List Heard) (s : BlockState) (node : Peer) (question : Ask) → BlockIsAfter entries trail s
     → block_awaited s ≡ Some (node, question)
-    → AsksNext s.course.look.key (ask.Get s.course.look.key)
-    (IsWholeGetOfBlock s.course.look.key s.course.replicas entries) trail node question
+    → AsksNext s.execution.look.key (ask.Get s.execution.look.key)
+    (IsWholeGetOfBlock s.execution.look.key s.execution.replicas entries) trail node question
 
 abbrev pub PutAsksNext : Type 0
 PutAsksNext = (entries : List Peer) (trail : List Heard) (s : PutState) (node : Peer) (question : Ask) → PutIsAfter entries trail s
     → put_awaited s ≡ Some (node, question)
-    → AsksNext s.course.look.key (question_of s.what s.bytes s.course.look.key)
-    (IsWholePutOf s.what s.bytes s.course.look.key s.course.replicas entries) trail node question
+    → AsksNext s.execution.look.key (question_of s.what s.bytes s.execution.look.key)
+    (IsWholePutOf s.what s.bytes s.execution.look.key s.execution.replicas entries) trail node question
 
 -- ---- the same of a session's gets and puts
 
@@ -124,24 +124,24 @@ PutAsksNext = (entries : List Peer) (trail : List Heard) (s : PutState) (node : 
 abbrev pub HeadsAreAskedNext : Type 0 → Type 0
 HeadsAreAskedNext J = (judges : Judges J) (entries : List Peer) (trail : List Heard) (s : HeadState J) (owner : PubKey) (node : Peer)
     (question : Ask) → HeadIsAfter judges entries trail s
-    → s.course.look.key ≡ head_key_of owner → head_awaited s ≡ Some (node, question)
+    → s.execution.look.key ≡ head_key_of owner → head_awaited s ≡ Some (node, question)
     → AsksNext (head_key_of owner) (ask.Get (head_key_of owner))
-    (IsGet (judges s.judge) s.course.replicas entries (Heads owner)) trail node question
+    (IsGet (judges s.judge) s.execution.replicas entries (Heads owner)) trail node question
 
 -- of a content block, whatever judges heads
 abbrev pub ContentIsAskedNext : Type 0
 ContentIsAskedNext = (judged : Key → List ℕ → Option Judged) (entries : List Peer) (trail : List Heard) (s : BlockState) (node : Peer)
     (question : Ask) → BlockIsAfter entries trail s → block_awaited s ≡ Some (node, question)
-    → AsksNext s.course.look.key (ask.Get s.course.look.key)
-    (IsGet judged s.course.replicas entries (Content s.course.look.key)) trail node question
+    → AsksNext s.execution.look.key (ask.Get s.execution.look.key)
+    (IsGet judged s.execution.replicas entries (Content s.execution.look.key)) trail node question
 
 -- the machine puts this post
 pub record PutsPost (s : PutState) (p : Post) : Type 0 where
-  pub key : s.course.look.key ≡ p.key
+  pub key : s.execution.look.key ≡ p.key
   pub bytes : s.bytes ≡ p.bytes
   pub what : s.what ≡ (if is_head p.kind then put.Head else put.Block)
 
 abbrev pub PostIsAskedNext : Type 0
 PostIsAskedNext = (entries : List Peer) (trail : List Heard) (s : PutState) (p : Post) (node : Peer) (question : Ask)
     → PutIsAfter entries trail s → PutsPost s p → put_awaited s ≡ Some (node, question)
-    → AsksNext p.key (put_question p) (IsWholePutOfPost s.course.replicas entries p) trail node question
+    → AsksNext p.key (put_question p) (IsWholePutOfPost s.execution.replicas entries p) trail node question

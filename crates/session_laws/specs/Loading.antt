@@ -2,7 +2,7 @@
 use Rattle.std.specs.Prelude.{◌≡◌, ℕ, List, Contains, Some, IfSome}
 use Rattle.std.specs.List.{AllByRecursion}
 use Rattle.ivy_base.specs.declared.key.Key.{Key}
-use Rattle.ivy_base.specs.Naming.{NamesTellApart}
+use Rattle.ivy_base.specs.Naming.{IsCollisionFree}
 use Rattle.log_model.specs.View.{View}
 use Rattle.log_model.specs.Record.{Record}
 use Rattle.turn_model.specs.Basis.{Basis, StandsFor}
@@ -26,15 +26,15 @@ pub record IsSnapshotOf (met : List (List ℕ)) (view : View) (knew : List Recor
 
 -- ---- laws
 
--- Where names tell the blocks apart, what is loaded by a snapshot's name is what it was made of.
+-- Where no names collide, what is loaded by a snapshot's name is what it was made of.
 abbrev pub LoadedIsMade : Type 0
 LoadedIsMade = (met : List (List ℕ)) (view : View) (knew : List Record) (root : Key) (snapshot : IsSnapshotOf met view knew root)
     (brought : List Brought) (b : Basis)
-    → NamesTellApart met → AreMet met brought → LoadsFor (Some root) brought (Loaded (Some b)) → b ≡ snapshot.made
+    → IsCollisionFree met → AreMet met brought → LoadsFor (Some root) brought (Loaded (Some b)) → b ≡ snapshot.made
 
 -- So a basis that a refresh goes by stands for a part of what was known.
 abbrev pub BasisIsKnown : Type 0
 BasisIsKnown = (met : List (List ℕ)) (s : Standing) (knew : List Record) (brought : List Brought) (notes : List Note) (given : Refresh)
     (end : RefreshEnd)
-    → NamesTellApart met → AreMet met brought → IfSome s.to_load (IsSnapshotOf met s.view knew) → Refreshes s brought notes given end
+    → IsCollisionFree met → AreMet met brought → IfSome s.to_load (IsSnapshotOf met s.view knew) → Refreshes s brought notes given end
     → IfSome given.basis (StandsWithin s.view knew)

@@ -2,44 +2,44 @@
 //!
 //! Layer: laws and no code, over the machines of `dhash_client` and the definitions of `session_model` and `agent_model`; below
 //! the code of sessions and the laws of the world.
-//! For the layers above, ask by ask: a get or a put is one course that the answers tell, whatever they are ([`gets_are_one`]). It
-//! isn't whole where a node is asked next ([`next_is_not_whole`]), nor before a first ask ([`none_is_whole`]). What a machine is
-//! to ask behind its trail is the next ask of its get or put ([`machines_ask_next`]), also in the words of sessions
-//! ([`sessions_ask_next`]). Definitions: `specs/Laws.antt`. Lemmas, each file on those before it: `proofs/AskedPlans.antt` (whole
-//! trails that follow a plan), `proofs/AskedOwners.antt`, `proofs/AskedLookups.antt`, `proofs/AskedCourses.antt` (the asks of
-//! owners, look-ups, and both as a plan), `proofs/AskedGets.antt`, `proofs/AskedPuts.antt`, `proofs/AskedMachines.antt`.
+//! For the layers above, ask by ask: a get or a put is deterministic, as the answers decide it, whatever they are
+//! ([`gets_are_deterministic`]). It isn't whole where a node is asked next ([`next_is_not_whole`]), nor before a first ask
+//! ([`none_is_whole`]). What a machine is to ask after its trail is the next ask of its get or put ([`machines_ask_next`]), also
+//! in the words of sessions ([`sessions_ask_next`]). Definitions: `specs/Laws.antt`. Lemmas, each file on those before it:
+//! `proofs/AskedPlans.antt` (whole trails that follow a plan), `proofs/AskedOwners.antt`, `proofs/AskedLookups.antt`,
+//! `proofs/AskedExecutions.antt` (the asks of owners, look-ups, and both as a plan), `proofs/AskedGets.antt`,
+//! `proofs/AskedPuts.antt`, `proofs/AskedMachines.antt`.
 //!
-//! On refreshes, where names tell the blocks apart: a refresh that is done has brought of each member's log what
-//! `agent_model` holds a turn to (`Brings`), and the floor's record where the floor goes further than what it started from, so
-//! that its own agent isn't behind (`is_behind`). All ask that it starts from known records, which it does
-//! (`start_is_known`), also where it goes by a basis, since what it loads is what was made (`loaded_is_made`). Whatever names
-//! tell, what a refresh was brought tells how it stands (`refreshes_are_one`), so one that is done wants nothing more; and
-//! whatever comes of what it wants, it goes on (`refreshes_go_on`).
+//! On refreshes, where no names collide: a refresh that is done has brought of each member's log what `agent_model` holds a turn
+//! to (`Brings`), and the floor's record where the floor goes further than what it started from, so that its own agent isn't
+//! behind (`is_behind`). All ask that it starts from known records, which it does (`start_is_known`), also where it goes by a
+//! basis, since what it loads is what was made (`loaded_is_made`). Whatever names tell, what a refresh was brought tells how it
+//! stands (`refreshes_are_deterministic`), so one that is done wants nothing more; and whatever comes of what it wants, it goes
+//! on (`refreshes_go_on`).
 //! Definitions: `specs/Bringing.antt` (`AreMet`, `StartsFrom`, and the laws on what is brought), `specs/Starting.antt`,
 //! `specs/Loading.antt` (`IsSnapshotOf`), `specs/Once.antt`, `specs/Going.antt` (`ComesTo`).
 //! Lemmas, each file on those before it: `proofs/ReadBack.antt`, that a walk back by names reads the linked records that end at
 //! the name; `proofs/Cuts.antt`, that a chain is sound and onward above the held record; `proofs/OneHead.antt`,
 //! `proofs/OneLog.antt`, `proofs/OwnParts.antt`, `proofs/AllLogs.antt`: one head, one log, each log's part of what was brought,
-//! all logs; `proofs/NotBehind.antt`, `proofs/Refreshed.antt`. By themselves: `proofs/Starting.antt`; `proofs/Loading.antt`
-//! over `proofs/WholeTrees.antt` (trees that operations make have the facts of a snapshot's tree) and `proofs/MadeBlocks.antt`;
-//! `proofs/OneRefresh.antt` (also `load_is_one`, of what loading came to) over
-//! `proofs/OneCourse.antt` (walks, and the heads of one log);
-//! `proofs/Going.antt` over `proofs/GoingCourse.antt`, `proofs/GoingChains.antt` (whether records are sound and onward is known)
-//! and `proofs/GoingHeads.antt` (heads can be put in order); `proofs/DecidedSnapshots.antt`.
+//! all logs; `proofs/NotBehind.antt`, `proofs/Refreshed.antt`. By themselves: `proofs/Starting.antt`; `proofs/Loading.antt` over
+//! `proofs/WholeTrees.antt` (trees that operations make have the facts of a snapshot's tree) and `proofs/MadeBlocks.antt`;
+//! `proofs/OneRefresh.antt` (also `load_is_deterministic`, of what loading came to) over `proofs/OneExecution.antt` (walks, and
+//! the heads of one log); `proofs/Going.antt` over `proofs/GoingExecution.antt`, `proofs/GoingChains.antt` (whether records are
+//! sound and onward is known) and `proofs/GoingHeads.antt` (heads can be put in order); `proofs/DecidedSnapshots.antt`.
 #![tactic(auto)]
 
-ghost use Rattle.session_laws.specs.Laws.{BlockAsksNext, BlockNextIsNotWhole, ContentIsAskedNext, GetNextIsNotWhole, GetsAreOne, HeadAsksNext, HeadNextIsNotWhole, HeadsAreAskedNext, NoneIsWholeBlock, NoneIsWholeGet, NoneIsWholeHead, NoneIsWholePost, NoneIsWholePut, PostIsAskedNext, PostNextIsNotWhole, PutAsksNext, PutNextIsNotWhole, PutsAreOne};
+ghost use Rattle.session_laws.specs.Laws.{BlockAsksNext, BlockNextIsNotWhole, ContentIsAskedNext, GetNextIsNotWhole, GetsAreDeterministic, HeadAsksNext, HeadNextIsNotWhole, HeadsAreAskedNext, NoneIsWholeBlock, NoneIsWholeGet, NoneIsWholeHead, NoneIsWholePost, NoneIsWholePut, PostIsAskedNext, PostNextIsNotWhole, PutAsksNext, PutNextIsNotWhole, PutsAreDeterministic};
 ghost use Rattle.session_laws.specs.Bringing.{FetchedIsBrought, FloorIsBrought, RefreshedIsBrought, FloorIsReached, DoneIsNotBehind};
 ghost use Rattle.session_laws.specs.Going.{FailsByTheLast, RefreshBegins, RefreshGoesOn, SnapshotsAreDecided};
 ghost use Rattle.session_laws.specs.Loading.{LoadedIsMade, BasisIsKnown};
-ghost use Rattle.session_laws.specs.Once.{FetchIsOne, RefreshIsOne};
+ghost use Rattle.session_laws.specs.Once.{FetchIsDeterministic, RefreshIsDeterministic};
 ghost use Rattle.session_laws.specs.Starting.{StartIsKnown, StartIsSorted};
 
 /// A law and no code: of any entry nodes, a whole get or put begins no other, one ask is the next, it goes on or is whole
 /// whatever is answered, and where there is an entry node nothing asked is the beginning of one.
-pub fn gets_are_one()
-    ensures gets { GetsAreOne }
-    ensures puts { PutsAreOne }
+pub fn gets_are_deterministic()
+    ensures gets { GetsAreDeterministic }
+    ensures puts { PutsAreDeterministic }
 {}
 
 /// A law and no code: where some node is asked next, what was asked is no whole get or put.
@@ -60,7 +60,7 @@ pub fn none_is_whole()
     ensures posts { NoneIsWholePost }
 {}
 
-/// A law and no code: behind its trail, what a machine of a get or a put is to ask is the next ask.
+/// A law and no code: after its trail, what a machine of a get or a put is to ask is the next ask.
 pub fn machines_ask_next<J>()
     ensures heads { HeadAsksNext J }
     ensures blocks { BlockAsksNext }
@@ -76,8 +76,8 @@ pub fn sessions_ask_next<J>()
 
 /// A law and no code.
 ///
-/// Where names tell the blocks apart, a refresh that is done has brought of each member's log what the heads that came name,
-/// above what it started from; the floor's record among it, where the floor goes further than that.
+/// Where no names collide, a refresh that is done has brought of each member's log what the heads that came name, above what
+/// it started from; the floor's record among it, where the floor goes further than that.
 pub fn fetched_is_brought()
     ensures brought { FetchedIsBrought }
     ensures floor { FloorIsBrought }
@@ -104,8 +104,8 @@ pub fn start_is_known()
 
 /// A law and no code.
 ///
-/// Where names tell the blocks apart, what a refresh loads by a snapshot's name is the basis of which that was made; so a basis
-/// that it goes by stands for a part of what was known.
+/// Where no names collide, what a refresh loads by a snapshot's name is the basis of which that was made; so a basis that it
+/// goes by stands for a part of what was known.
 pub fn loaded_is_made()
     ensures made { LoadedIsMade }
     ensures known { BasisIsKnown }
@@ -113,11 +113,11 @@ pub fn loaded_is_made()
 
 /// A law and no code.
 ///
-/// What a refresh was brought tells what it notes, what it gives and how it stands; so one that is done wants nothing more. By
-/// the bytes alone: no names have to tell blocks apart.
-pub fn refreshes_are_one()
-    ensures refresh { RefreshIsOne }
-    ensures fetch { FetchIsOne }
+/// What a refresh was brought determines what it notes, what it gives and how it stands; so one that is done wants nothing
+/// more. By the bytes alone: names may collide.
+pub fn refreshes_are_deterministic()
+    ensures refresh { RefreshIsDeterministic }
+    ensures fetch { FetchIsDeterministic }
 {}
 
 /// A law and no code.

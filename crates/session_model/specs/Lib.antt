@@ -4,4 +4,4 @@ pub mod Refreshing
 pub mod Asking
 pub mod Sessions
 pub mod Replies
-pub mod Courses
+pub mod Executions

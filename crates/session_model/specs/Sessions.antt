@@ -11,7 +11,7 @@ use Rattle.dhash_model.specs.Cache.{block_of, kept, moved_to_front}
 use Rattle.dhash_model.specs.declared.miss.Miss.{Miss}
 use Rattle.dhash_model.specs.GetBlock.{IsGetOfBlock}
 use Rattle.dhash_model.specs.GetHead.{IsGetOfHead}
-use Rattle.dhash_model.specs.Course.{IsCourse}
+use Rattle.dhash_model.specs.Execution.{IsExecution}
 use Rattle.dhash_model.specs.Puts.{EndsPut}
 use Rattle.dht_ids.specs.declared.ask.Answer.{Answer}
 use Rattle.dht_ids.specs.declared.ask.Ask.{Ask}
@@ -27,7 +27,7 @@ use Rattle.dht_ids.specs.Asked.{told}
 use Rattle.agent_model.specs.Agent.{is_head}
 use Rattle.agent_model.specs.Others.{is_block}
 use Rattle.agent_model.specs.Standing.{Standing, Refresh}
-use Rattle.session_model.specs.Brought.{Brought, HeadsOf, BlockOf, Part, Want, Heads, Content, brought_in}
+use Rattle.session_model.specs.Brought.{Brought, HeadsOf, BlockOf, Part, WantedOfRing, Heads, Content, brought_in}
 use Rattle.session_model.specs.Asking.{AsksNext}
 use Rattle.session_model.specs.Refreshing.{Note, Refreshes, Needs}
 
@@ -44,7 +44,7 @@ pub data Stage : Type 0 where
   Over : (said : Option Said) → Stage
 
 -- A session: whose it is, its message, the nodes that it knows, the standing with which it last began, what it was brought since and by
--- which asks (its trail), the asks of the get or put on its way, how often it began anew, how far it has come, what is noted, and why its
+-- which asks (its trail), the asks of the get or put on its way, how often it began again, how far it has come, what is noted, and why its
 -- refresh failed, where it did.
 pub record Session : Type 0 where
   pub by : List ℕ
@@ -79,7 +79,7 @@ put_question p = if is_head p.kind then ask.PutHead p.key p.bytes else ask.PutBl
 
 -- a put of the post, over a whole trail
 abbrev pub IsPutOfPost : ℕ → List Peer → Post → List Heard → Result Bool Miss → Type 0
-IsPutOfPost r entries p = IsCourse p.key (put_question p) entries (EndsPut r)
+IsPutOfPost r entries p = IsExecution p.key (put_question p) entries (EndsPut r)
 
 abbrev pub ack_of : Post → Ack
 ack_of p = record { key = p.key; name = name p.bytes }
@@ -101,7 +101,7 @@ acknowledged (Err miss) = false
 abbrev pub publishing : Option Said → List Post → Stage
 publishing said pending = Publishing said (in_publishing_order pending) []
 
--- ---- what is at hand without asking
+-- ---- what is available without asking
 
 -- a post's block, where it is content
 abbrev pub pending_block : Key → List Post → Option (List ℕ)
@@ -113,13 +113,13 @@ with_part s brought asks = record s { parts = s.parts ++ record { brought = brou
 -- ---- steps that nobody sees, and asks
 
 -- the key that it is under
-abbrev pub wanted_key : Want → Key
+abbrev pub wanted_key : WantedOfRing → Key
 wanted_key (Heads owner) = head_key_of owner
 wanted_key (Content key) = key
 
 module _ (judged : Key → List ℕ → Option Judged) (replicas : ℕ) where
   -- the session's refresh wants this next
-  abbrev pub Wants : Session → Want → Type 0
+  abbrev pub Wants : Session → WantedOfRing → Type 0
   Wants s want = (s.stage ≡ Refreshing) × (notes : List Note) × (given : Refresh)
       × Refreshes s.standing (brought_in s.parts) notes given (Needs want)
 
@@ -142,14 +142,14 @@ module _ (judged : Key → List ℕ → Option Judged) (replicas : ℕ) where
         → TakesSome s cache t after
 
   -- a get of what is wanted, over a whole part of the trail: what it brings
-  pub data Gets (entries : List Peer) : Want → List Heard → Brought → Type 0 where
+  pub data Gets (entries : List Peer) : WantedOfRing → List Heard → Brought → Type 0 where
     heads : {owner : PubKey} {asks : List Heard} (came : Result (List Judged) Miss)
         → IsGetOfHead (judged (head_key_of owner)) (head_key_of owner) replicas entries asks came
         → Gets entries (Heads owner) asks (HeadsOf owner came)
     content : {key : Key} {asks : List Heard} (came : Result (List ℕ) Miss) → IsGetOfBlock key replicas entries asks came
         → Gets entries (Content key) asks (BlockOf key came)
 
-  abbrev pub IsGet : List Peer → Want → List Heard → Type 0
+  abbrev pub IsGet : List Peer → WantedOfRing → List Heard → Type 0
   IsGet entries want asks = (brought : Brought) × Gets entries want asks brought
 
   -- a block that a get gave right is kept
@@ -162,11 +162,11 @@ module _ (judged : Key → List ℕ → Option Judged) (replicas : ℕ) where
 
   -- One ask of the session, and how it is once the answer is heard: its get or put goes on, or is over.
   pub data Hears (s : Session) (cache : Cache) (node : Peer) (question : Ask) (answer : Answer) : Session → Cache → Type 0 where
-    gets_on : (want : Want) → Wants s want
+    gets_on : (want : WantedOfRing) → Wants s want
         → AsksNext (wanted_key want) (ask.Get (wanted_key want)) (IsGet s.entries want) s.current node question
         → (IsGet s.entries want (s.current ++ told node question answer) → ⊥)
         → Hears s cache node question answer (record s { current = s.current ++ told node question answer }) cache
-    got : (want : Want) (brought : Brought) → Wants s want
+    got : (want : WantedOfRing) (brought : Brought) → Wants s want
         → AsksNext (wanted_key want) (ask.Get (wanted_key want)) (IsGet s.entries want) s.current node question
         → Gets s.entries want (s.current ++ told node question answer) brought
         → Hears s cache node question answer (with_part s brought (s.current ++ told node question answer)) (keeping brought cache)

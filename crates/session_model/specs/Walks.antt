@@ -13,7 +13,7 @@ use Rattle.log_model.specs.declared.chain_fault.ChainFault.{ChainFault}
 use Rattle.log_model.specs.declared.chain_fault.ChainFault.TheVariants.{Bad, Memory}
 use Rattle.turn_model.specs.Candidates.{IsTriedBefore}
 use Rattle.dhash_model.specs.declared.miss.Miss.{Miss}
-use Rattle.session_model.specs.Brought.{Brought, BlockOf, Want, Content}
+use Rattle.session_model.specs.Brought.{Brought, BlockOf, WantedOfRing, Content}
 
 -- ---- back by names
 
@@ -49,7 +49,7 @@ pub record AreTried (floor : ℕ) (heads tried : List Stamp) : Type 0 where
 
 -- how the fetch of one log stands: something is wanted, or couldn't be had; or a head's records are taken, or none's are
 pub data LogEnd : Type 0 where
-  Lacks : (want : Want) → LogEnd
+  Lacks : (want : WantedOfRing) → LogEnd
   Stops : (miss : Miss) → LogEnd
   Gives : (records : List Record) → LogEnd
   GivesNone : LogEnd

@@ -11,5 +11,5 @@
 //! - `specs/Asking.antt`: gets and puts in progress;
 //! - `specs/Sessions.antt`: a session and its asks;
 //! - `specs/Replies.antt`: what is replied;
-//! - `specs/Courses.antt`: beginning, turn and end.
+//! - `specs/Executions.antt`: beginning, turn and end.
 #![tactic(auto)]

@@ -1,4 +1,4 @@
--- Each arm of a step: whichever scene was shown, it is a step of it, and less is left.
+-- Each arm of a step: whichever configuration was represented, it is a step of it, and less is left.
 use Rattle.std.proofs.Common.{◌≡◌, ◌<◌, ◌≤◌, ◌+◌, ℕ, List, Option, Some, None, Result, Ok, Err, refl, ap, ◌∙◌, arith}
 use Rattle.std.specs.Prelude.{OnOk, is_some, if◌then◌else◌}
 use Rattle.dht_ids.specs.declared.ask.Ask.{Ask}
@@ -12,7 +12,7 @@ use Rattle.ivy_session.specs.Left.{session_left}
 use Rattle.ring_nodes.specs.NodesState.{NodesState}
 use Rattle.session_steps.specs.MetState.{MetState}
 use Rattle.script_participants.specs.ParticipantState.{ParticipantState}
-use Rattle.session_steps.specs.Showing.{CallState, Shown, shown}
+use Rattle.session_steps.specs.Representing.{CallState, Shown, shown}
 use Rattle.session_steps.specs.Within.{HasAskedOf, HasNext, HasTurned, IsArm, Laws, left_to}
 use Rattle.session_steps.proofs.Asks.{asks_step}
 use Rattle.session_steps.proofs.Turns.{turns_step}

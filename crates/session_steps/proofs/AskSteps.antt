@@ -1,4 +1,4 @@
--- An ask of a session in code, with its fate and its hearing, is a step of the scene.
+-- An ask of a session in code, with its fate and its hearing, is a step of the configuration.
 use Rattle.std.proofs.Common.{◌≡◌, ◌⊎◌, ℕ, true, false, List, map, Option, Result, Ok, refl, sym, ap, ◌∙◌, subst}
 use Rattle.ivy_base.specs.declared.memory.Memory.{Memory}
 use Rattle.dhash_model.specs.Signed.{hss_judged}
@@ -9,8 +9,8 @@ use Rattle.dht_ids.specs.declared.peer.Peer.{Peer}
 use Rattle.dht_ids.specs.declared.post.Ack.{Ack}
 use Rattle.dht_ids.specs.declared.post.Post.{Post}
 use Rattle.dhash_client.specs.GetHead.{Judges}
-use Rattle.session_model.specs.Courses.{Fails, LacksMemory}
-use Rattle.session_model.specs.Courses.Fails.{goes_on as refresh_goes}
+use Rattle.session_model.specs.Executions.{Fails, LacksMemory}
+use Rattle.session_model.specs.Executions.Fails.{goes_on as refresh_goes}
 use Rattle.session_model.specs.Sessions.{Cache, Hears, Publishing, Said, Session}
 use Rattle.ivy_session.specs.declared.session.Next.TheVariants as next
 use Rattle.ivy_session.specs.States.{IsSession, SessionState, is_turning}
@@ -23,23 +23,23 @@ use Rattle.ivy_session.proofs.Wanted.{AsksThen, asks_then}
 use Rattle.ring_nodes.specs.NodesState.{NodesState, IsNodesOf, with_nodes}
 use Rattle.world_model.specs.Fates.{FateOf}
 use Rattle.world_model.specs.World.{World, Participant, peer_of, with_participant}
-use Rattle.world_model.specs.Steps.{Scene, ask_told, with_cache}
+use Rattle.world_model.specs.Steps.{Configuration, ask_told, with_cache}
 use Rattle.world_model.specs.Steps.Acts.{asks as acts_asks, asks_in_vain}
 use Rattle.world_model.specs.Steps.Steps.{acts}
-use Rattle.world_laws.specs.Keeps.{GoesOn, OnlyPublishes}
+use Rattle.world_laws.specs.Invariant.{GoesOn, OnlyPublishes}
 use Rattle.session_steps.specs.Laws.{AsksAreSteps, NextAskedAreMade}
-use Rattle.session_steps.specs.Scenes.{IsLeft, IsSceneOf, IsStep, given_at}
-use Rattle.session_steps.specs.Scenes.IsLeft.{goes_on as left_on, is_cut as left_cut}
+use Rattle.session_steps.specs.Configurations.{IsLeft, IsConfigurationOf, IsStep, given_at}
+use Rattle.session_steps.specs.Configurations.IsLeft.{goes_on as left_on, is_cut as left_cut}
 use Rattle.session_steps.proofs.Asked.{asks_made, knows_made, taken_knows}
-use Rattle.session_steps.proofs.SceneSteps.{as_ring, as_ring_then, fails_gives, hears_gives, lacking_gives, taken_gives, twice_placed}
+use Rattle.session_steps.proofs.ConfigurationSteps.{as_ring, as_ring_then, fails_gives, hears_gives, lacking_gives, taken_gives, twice_placed}
 
 same_answer : (a b : Answer) → ◌≡◌ {A = Result Answer Memory} (Ok a) (Ok b) → a ≡ b
 same_answer a b e = cc e
 
 -- ---- what is asked next
 
-module _ {J : Type 0} (judges : Judges J) (c : Scene) (r : ℕ) (p : Participant) (old : SessionState J) (is : IsSceneOf judges c r p old) where
-  -- what was at hand is taken, and then the session asks that
+module _ {J : Type 0} (judges : Judges J) (c : Configuration) (r : ℕ) (p : Participant) (old : SessionState J) (is : IsConfigurationOf judges c r p old) where
+  -- what was available is taken, and then the session asks that
   abbrev pub Asks : SessionState J → Cache → Peer → Ask → Type 0
   Asks = AsksThen judges hss_judged r c.session p.cache
 
@@ -56,7 +56,7 @@ module _ {J : Type 0} (judges : Judges J) (c : Scene) (r : ℕ) (p : Participant
   module _ (mid new : SessionState J) (between after : Cache) (node : Peer) (question : Ask) (given : Answer) (before later : NodesState) (same : IsSameSession old mid) (then_asks : Asks mid between node question)
       (nodes : IsNodesOf c.world before) (fate : (w : World) → IsNodesOf w before → FateOf hss_judged w node question given (with_nodes w later))
       (past : is_turning new.stage ≡ false) where
-    abbrev here : Scene
+    abbrev here : Configuration
     here = with_cache hss_judged r c p then_asks.taken between
 
     abbrev mine : Participant
@@ -70,14 +70,14 @@ module _ {J : Type 0} (judges : Judges J) (c : Scene) (r : ℕ) (p : Participant
 
     heard_so : (heard t : Session) → Hears hss_judged r then_asks.taken between node question given heard after → Fails heard t → IsLeft judges ⊥ t new → IsStep judges c r new ⊥ (with_participant (with_nodes c.world later) (record p { cache = after })) (given_at c.session.stage)
     heard_so heard t hearing goes left = record {
-      next = record { world = with_participant (with_nodes here.world later) (record p { cache = after }); story = ask_told c.story p.name then_asks.taken t; session = t; began = c.began };
+      next = record { world = with_participant (with_nodes here.world later) (record p { cache = after }); ghost_state = ask_told c.ghost_state p.name then_asks.taken t; session = t; began = c.began };
       steps = acts p then_asks.taken between _ is.is_by then_asks.takes (acts_asks node question given (with_nodes here.world later) heard t after fate_now hearing goes);
       left = left;
       world = same_world;
       gives = fails_gives goes ∙ hears_gives hearing ∙ taken_gives then_asks.takes;
     }
 
-    -- where memory is wanting
+    -- where memory runs out
     in_vain : (t : Session) → LacksMemory then_asks.taken t → after ≡ between → IsSession judges t new → IsStep judges c r new ⊥ (with_participant (with_nodes c.world later) (record p { cache = after })) (given_at c.session.stage)
     in_vain t lacking stays session =
         let h = hears_some hss_judged r then_asks.taken between node question given then_asks.asks in

@@ -24,15 +24,15 @@ use Rattle.dht_ids.specs.declared.judge.Judged.{Judged}
 use Rattle.dht_ids.specs.declared.peer.Peer.{Peer}
 use Rattle.dht_ids.specs.declared.post.Post.{Post}
 use Rattle.dhash_model.specs.declared.miss.Miss.TheVariants as miss
-use Rattle.dhash_model.specs.Course.{IsCourse, Told, told_all, outcome}
-use Rattle.dhash_model.specs.Course.IsCourse.{no_route, of_owners}
+use Rattle.dhash_model.specs.Execution.{IsExecution, Told, told_all, outcome}
+use Rattle.dhash_model.specs.Execution.IsExecution.{no_route, of_owners}
 use Rattle.dhash_model.specs.GetBlock.{EndsGet}
 use Rattle.dhash_model.specs.GetHead.{EndsHeadGet}
 use Rattle.dhash_model.specs.Puts.{EndsPut}
 use Rattle.dhash_model.specs.declared.miss.Miss.{Miss}
 use Rattle.agent_model.specs.Agent.{is_head}
 use Rattle.session_model.specs.Asking.{AsksNext}
-use Rattle.session_model.specs.Brought.{Brought, Want}
+use Rattle.session_model.specs.Brought.{Brought, WantedOfRing}
 use Rattle.session_model.specs.Sessions.{Cache, Gets, IsGet, IsPut, Session, TakesAll, put_question, wanted_key}
 use Rattle.session_model.specs.Sessions.Gets.{heads as got_heads, content as got_content}
 use Rattle.session_model.specs.Sessions.Takes.{posted, cached}
@@ -40,7 +40,7 @@ use Rattle.session_model.specs.Sessions.TakesAll.{none as takes_none, more as ta
 use Rattle.ivy_session.specs.Stepping.{AsksOf}
 use Rattle.ivy_session.specs.Stepping.AsksOf.{gets as asks_get, puts as asks_put}
 use Rattle.world_model.specs.World.{World, peer_of}
-use Rattle.world_laws.specs.Keeps.{GoesOn, IsAnswerIn, OnlyPublishes}
+use Rattle.world_laws.specs.Invariant.{GoesOn, IsAnswerIn, OnlyPublishes}
 use Rattle.session_steps.specs.Laws.{AskedAreMade}
 
 -- ---- lists
@@ -50,7 +50,7 @@ into_among x xs h = each (λ y. IsAmong y xs) xs x (all_from (λ y. IsAmong y xs
 
 -- ---- what is told of an ask
 
--- an ask for is_data is told by one entry, of its node
+-- an ask for is_data is determined by one entry, of its node
 pub one_told : (node : Peer) (question : Ask) (given : Answer) → IsForData question → (h : Heard) × (told node question given ≡ h ∷ []) × (h.node ≡ node) × (h.got ≡ given)
 one_told node (ask.Route key) given is_data = (_, refl, refl, refl)
 one_told node ask.Near given is_data = absurd is_data
@@ -106,7 +106,7 @@ module _ (w : World) where
   routed answer.Noted route h is = absurd (not_some route is)
   routed answer.Silent route h is = absurd (not_some route is)
 
-  -- behind these asks an entry follows
+  -- after these asks an entry follows
   module _ (key : Key) (h : Heard) (more rest : List Heard) where
     -- the entry is of the look-up, and its node was made; or it is of what comes then, and so were the owners that were found
     abbrev Comes : Option (List Peer) → Type 0
@@ -181,8 +181,8 @@ module _ (w : World) where
 
   module _ {T : Type 0} (key : Key) (question : Ask) (is_data : IsForData question) (entries : List Peer) (Ends : List Peer → Told → Result T Miss → Type 0)
       (asks_of : (owners : List Peer) (asks : Told) (result : Result T Miss) → Ends owners asks result → AllByRecursion IsMade owners → AllByRecursion IsMade (nodes asks)) (made : AllByRecursion IsMade entries) where
-    course_made : (trail : List Heard) (node : Peer) (q : Ask) (given : Answer) (more : List Heard) (result : Result T Miss) → IsForData q → AreAnswered trail → IsCourse key question entries Ends (trail ++ told node q given ++ more) result → IsMade node
-    course_made trail node q given more result q_data heard course = subst IsMade one.2 (by course)
+    execution_made : (trail : List Heard) (node : Peer) (q : Ask) (given : Answer) (more : List Heard) (result : Result T Miss) → IsForData q → AreAnswered trail → IsExecution key question entries Ends (trail ++ told node q given ++ more) result → IsMade node
+    execution_made trail node q given more result q_data heard execution = subst IsMade one.2 (by execution)
       where
         one : (h : Heard) × (told node q given ≡ h ∷ []) × (h.node ≡ node) × (h.got ≡ given)
         one = one_told node q given q_data
@@ -190,7 +190,7 @@ module _ (w : World) where
         same_trail : trail ++ one.0 ∷ more ≡ trail ++ told node q given ++ more
         same_trail = sym (append_assoc trail (one.0 ∷ []) more) ∙ ap (λ (x : List Heard). trail ++ x ++ more) (sym one.1)
 
-        by : IsCourse key question entries Ends (trail ++ told node q given ++ more) result → IsMade one.0.node
+        by : IsExecution key question entries Ends (trail ++ told node q given ++ more) result → IsMade one.0.node
         by (no_route looks found is looked nobody result_is) =
             let came = look_made key one.0 more [] looked looks refl made tt trail heard (same_trail ∙ is ∙ sym (append-nil (told_all (ask.Route key) looks))) in
             ⊎_elim (λ look. look) (λ later. absurd (none_before later.0 more one.0 later.2)) came
@@ -198,22 +198,22 @@ module _ (w : World) where
             let came = look_made key one.0 more (told_all question asks) looked looks refl made tt trail heard (same_trail ∙ is) in
             ⊎_elim (λ look. look) (λ later. owner_made question one.0 more is_data asks (asks_of owners asks result ends (found_made key found owners some later.3)) later.0 later.2) came
 
-  got_made : (r : ℕ) (entries : List Peer) (trail : List Heard) (node : Peer) (question : Ask) (given : Answer) (more : List Heard) {want : Want} {brought : Brought} → AllByRecursion IsMade entries → AreAnswered trail → IsForData question
+  got_made : (r : ℕ) (entries : List Peer) (trail : List Heard) (node : Peer) (question : Ask) (given : Answer) (more : List Heard) {want : WantedOfRing} {brought : Brought} → AllByRecursion IsMade entries → AreAnswered trail → IsForData question
       → Gets hss_judged r entries want (trail ++ told node question given ++ more) brought → IsMade node
   got_made r entries trail node question given more made heard is_data (got_heads {owner = owner} came get) =
-      course_made (head_key_of owner) (ask.Get (head_key_of owner)) tt entries (EndsHeadGet (hss_judged (head_key_of owner)) (head_key_of owner) r)
+      execution_made (head_key_of owner) (ask.Get (head_key_of owner)) tt entries (EndsHeadGet (hss_judged (head_key_of owner)) (head_key_of owner) r)
       (λ owners asks result ends all. asked_made owners _ asks ends.1.asks all) made trail node question given more came is_data heard get
   got_made r entries trail node question given more made heard is_data (got_content {key = key} came get) =
-      course_made key (ask.Get key) tt entries (EndsGet key r) (λ owners asks result ends all. asked_made owners _ asks ends.1.asks all) made trail node question given more came is_data heard get
+      execution_made key (ask.Get key) tt entries (EndsGet key r) (λ owners asks result ends all. asked_made owners _ asks ends.1.asks all) made trail node question given more came is_data heard get
 
-  get_made : (r : ℕ) (entries : List Peer) (want : Want) (trail : List Heard) (node : Peer) (question : Ask) → AllByRecursion IsMade entries → AreAnswered trail
+  get_made : (r : ℕ) (entries : List Peer) (want : WantedOfRing) (trail : List Heard) (node : Peer) (question : Ask) → AllByRecursion IsMade entries → AreAnswered trail
       → AsksNext (wanted_key want) (ask.Get (wanted_key want)) (IsGet hss_judged r entries want) trail node question → IsMade node
   get_made r entries want trail node question made heard next =
       got_made r entries trail node question next.answer next.more made heard (for_data (wanted_key want) (ask.Get (wanted_key want)) question tt next.is_of) next.whole.1
 
   put_made : (r : ℕ) (s : Session) (p : Post) (node : Peer) (question : Ask) → AllByRecursion IsMade s.entries → AreAnswered s.current → AsksNext p.key (put_question p) (IsPut hss_judged r s p) s.current node question → IsMade node
   put_made r s p node question made heard next =
-      course_made p.key (put_question p) (post_for_data p) s.entries (EndsPut r) (λ owners asks result ends all. asked_made owners _ asks ends.1.asks all) made s.current node question next.answer next.more next.whole.0
+      execution_made p.key (put_question p) (post_for_data p) s.entries (EndsPut r) (λ owners asks result ends all. asked_made owners _ asks ends.1.asks all) made s.current node question next.answer next.more next.whole.0
       (for_data p.key (put_question p) question (post_for_data p) next.is_of) heard next.whole.1
 
   -- ---- sessions
@@ -231,7 +231,7 @@ module _ (w : World) where
   knows_made r s (inl h) = record { entries = h.entries; heard = h.heard }
   knows_made r s (inr h) = record { entries = h.entries; heard = h.heard }
 
-  -- so it does once it took what was at hand
+  -- so it does once it took what was available
   pub taken_knows : {judged : Key → List ℕ → Option Judged} {r : ℕ} {s t : Session} {cache after : Cache} → TakesAll judged r s cache t after → KnowsMade s → KnowsMade t
   taken_knows (takes_none nothing) knows = knows
   taken_knows (takes_more (posted key bytes wants free is) rest) knows = taken_knows rest (record { entries = knows.entries; heard = tt })

@@ -17,19 +17,19 @@ use Rattle.ivy_session.proofs.Hearing.{asks_for_data}
 use Rattle.ring_nodes.specs.NodesState.{BringsOnly, NodesState, made_peers}
 use Rattle.script_participants.specs.ParticipantState.{ParticipantState, state_of}
 use Rattle.world_model.specs.World.{peer_of}
-use Rattle.world_model.specs.Steps.{Scene}
-use Rattle.world_laws.specs.Keeps.{GoesOn, OnlyPublishes}
-use Rattle.session_steps.specs.Showing.{CallState, HasScene, IsUnderWay, IsUntold, Shown, Shows, StepsTo, judges, shown}
+use Rattle.world_model.specs.Steps.{Configuration}
+use Rattle.world_laws.specs.Invariant.{GoesOn, OnlyPublishes}
+use Rattle.session_steps.specs.Representing.{CallState, HasConfiguration, IsInProgress, IsUntold, Shown, Represents, StepsTo, judges, shown}
 use Rattle.session_steps.specs.Within.{HasAskedOf, HasNext, Laws, MayAsk}
-use Rattle.session_steps.proofs.Scenes.{by_step, left_is, scene_of, untold}
+use Rattle.session_steps.proofs.Configurations.{by_step, left_is, configuration_of, untold}
 
 -- ---- before it is known what is wanted
 
 -- the session may be asked what it wants
-pub may_want : (old : Shown) → HasScene old → old.call.told ≡ None → (is_turning old.call.session.stage ≡ false) × (is_told old.call.session.stage ≡ false)
-may_want old scene none =
-    let is = untold scene.0.session old.call none scene.3.session in
-    (is.no_turn, not_told judges scene.0.session old.call.session is.session)
+pub may_want : (old : Shown) → HasConfiguration old → old.call.told ≡ None → (is_turning old.call.session.stage ≡ false) × (is_told old.call.session.stage ≡ false)
+may_want old configuration none =
+    let is = untold configuration.0.session old.call none configuration.3.session in
+    (is.no_turn, not_told judges configuration.0.session old.call.session is.session)
 
 -- ---- whom it asks
 
@@ -50,10 +50,10 @@ next_brings : (made : List Peer) {old new : SessionState HssJudge} {s : Session}
 next_brings made {new = new} (asks t node question takes session awaited of) = (data_brings made question (asks_for_data of), awaits (session_awaited new) awaited)
 next_brings made {new = new} (asks_again node question waits awaited session of same) = (data_brings made question (asks_for_data of), awaits (session_awaited new) awaited)
 
--- ---- what is wanted of a scene that is shown
+-- ---- what is wanted of a configuration that is represented
 
-module _ (c : Scene) (r : ℕ) (old : Shown) (way : IsUnderWay c r) (shows : Shows c r old) (none : old.call.told ≡ None) (mid : CallState) (between : ParticipantState) where
-  -- the scene's participant had that cache
+module _ (c : Configuration) (r : ℕ) (old : Shown) (way : IsInProgress c r) (shows : Represents c r old) (none : old.call.told ≡ None) (mid : CallState) (between : ParticipantState) where
+  -- the configuration's participant had that cache
   pub wants_there : {wanted : Next} → HasNext old.call mid old.who between wanted → IsNext judges old.call.session mid.session shows.p.cache between.cache wanted
   wants_there {wanted} h = subst (λ (who : ParticipantState). IsNext judges old.call.session mid.session who.cache between.cache wanted) (sym shows.who) h.wants
 
@@ -73,7 +73,7 @@ module _ (c : Scene) (r : ℕ) (old : Shown) (way : IsUnderWay c r) (shows : Sho
       let brings = next_brings (made_peers old.nodes) (wants.1 c.session is_untold.session) in
       record {
         made = subst (λ nodes. IsAmong node (map peer_of nodes)) shows.nodes.0
-            (laws.made judges c r shows.p old.call.session mid.session between.cache node question (scene_of c r old way shows is_untold) goes wants);
+            (laws.made judges c r shows.p old.call.session mid.session between.cache node question (configuration_of c r old way shows is_untold) goes wants);
         brings = brings.0;
         waits = brings.1;
       }
@@ -83,7 +83,7 @@ module _ (c : Scene) (r : ℕ) (old : Shown) (way : IsUnderWay c r) (shows : Sho
       → HasAskedOf node question mid new old.nodes later between after → new.session.is_cut ≡ false → StepsTo c r (shown new later after old.met old.now)
   asks_step laws new after later node question h asked whole =
       let wants = wants_there h in
-      let step = laws.asks judges c r shows.p old.call.session mid.session new.session between.cache after.cache node question asked.answer old.nodes later (scene_of c r old way shows is_untold) is_untold.asked wants
+      let step = laws.asks judges c r shows.p old.call.session mid.session new.session between.cache after.cache node question asked.answer old.nodes later (configuration_of c r old way shows is_untold) is_untold.asked wants
       shows.nodes asked.fate asked.heard.heard asked.heard.no_turn in
       by_step c r old way shows laws (shown new later after old.met old.now) (record shows.p { cache = after.cache }) c.world.met is_untold step
       (left_is step.left whole (λ t may lacking session. may))
@@ -99,7 +99,7 @@ module _ (c : Scene) (r : ℕ) (old : Shown) (way : IsUnderWay c r) (shows : Sho
         untold = ap (λ (call : CallState). call.told) asked.heard.call ∙ ap (λ (call : CallState). call.told) h.call ∙ none;
       })
 
--- some scene is shown
-pub may_ask : Laws → (old : Shown) → HasScene old → old.call.told ≡ None → (mid : CallState) (between : ParticipantState) (node : Peer) (question : Ask) → HasNext old.call mid old.who between (next.Ask node question)
+-- some configuration is represented
+pub may_ask : Laws → (old : Shown) → HasConfiguration old → old.call.told ≡ None → (mid : CallState) (between : ParticipantState) (node : Peer) (question : Ask) → HasNext old.call mid old.who between (next.Ask node question)
     → MayAsk mid old.nodes node question
-may_ask laws old scene none mid between node question h = asked_may_be scene.0 scene.1 old scene.2 scene.3 none mid between laws node question h
+may_ask laws old configuration none mid between node question h = asked_may_be configuration.0 configuration.1 old configuration.2 configuration.3 none mid between laws node question h

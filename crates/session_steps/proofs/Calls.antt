@@ -9,22 +9,22 @@ use Rattle.dht_ids.specs.declared.peer.Peer.{Peer}
 use Rattle.ivy_base.specs.declared.operation.Moment.{Moment}
 use Rattle.log_model.specs.View.{View}
 use Rattle.agent_model.specs.Turning.{TurnEnd}
-use Rattle.session_model.specs.Courses.{Fails, LacksMemory, Settles}
-use Rattle.session_model.specs.Courses.Fails.{fails as refresh_fails, goes_on as refresh_goes}
-use Rattle.session_model.specs.Courses.LacksMemory.{lacks}
-use Rattle.session_model.specs.Courses.Settles.{settles as settles_all}
-use Rattle.session_model.specs.Courses.TakesTurn.{answers, begins_anew, gives_up}
+use Rattle.session_model.specs.Executions.{Fails, LacksMemory, Settles}
+use Rattle.session_model.specs.Executions.Fails.{fails as refresh_fails, goes_on as refresh_goes}
+use Rattle.session_model.specs.Executions.LacksMemory.{lacks}
+use Rattle.session_model.specs.Executions.Settles.{settles as settles_all}
+use Rattle.session_model.specs.Executions.TakesTurn.{answers, begins_again, gives_up}
 use Rattle.session_model.specs.Sessions.{Cache, Hears, Session, TakesAll, TakesSome}
 use Rattle.session_model.specs.Sessions.Hears.{gets_on, got, puts_on, puts}
 use Rattle.session_model.specs.Sessions.Takes.{posted, cached}
 use Rattle.session_model.specs.Sessions.TakesAll.{none as takes_none, more as takes_more}
 use Rattle.session_model.specs.Sessions.TakesSome.{none as some_none, more as some_more}
-use Rattle.world_model.specs.Agents.{Agent, Kept, TakesTurn}
+use Rattle.world_model.specs.Agents.{HssAgent, HssKept, TakesHssTurn}
 use Rattle.world_model.specs.World.{Participant, participant}
-use Rattle.world_model.specs.Steps.{Acts, Scene, Steps}
+use Rattle.world_model.specs.Steps.{Acts, Configuration, Steps}
 use Rattle.world_model.specs.Steps.Acts.{asks as acts_asks, asks_in_vain, turns as acts_turns, is_refused, settles as acts_settles}
 use Rattle.world_model.specs.Steps.Steps.{acts, lacks_memory}
-use Rattle.session_steps.specs.Laws.{ScenesGoOn, StepsAreOfOneCall}
+use Rattle.session_steps.specs.Laws.{ConfigurationsGoOn, StepsAreOfOneCall}
 
 -- what stays of a call
 pub record IsOneCall (s t : Session) : Type 0 where
@@ -62,30 +62,30 @@ failed_same {s = s} (refresh_goes not) = itself s
 lacking_same : {s t : Session} → LacksMemory s t → IsOneCall s t
 lacking_same (lacks notes shown given end xid asked at refreshed asks rest front) = record { by = refl; message = refl; entries = refl }
 
-turned_same : {now : Moment} {a : Agent} {view : View} {fails : Bool} {s t : Session} {end : TurnEnd} {after : Agent} {saving : Option Kept} → TakesTurn (record { agent = a; view = view; now = now; fails = fails }) s end after saving t → IsOneCall s t
+turned_same : {now : Moment} {a : HssAgent} {view : View} {fails : Bool} {s t : Session} {end : TurnEnd} {after : HssAgent} {saving : Option HssKept} → TakesHssTurn (record { agent = a; view = view; now = now; fails = fails }) s end after saving t → IsOneCall s t
 turned_same (answers notes given xid asked reply applied after saving done asks turns) = record { by = refl; message = refl; entries = refl }
-turned_same (begins_anew notes given xid asked end after saving done asks turns refused few) = record { by = refl; message = refl; entries = refl }
+turned_same (begins_again notes given xid asked end after saving done asks turns refused few) = record { by = refl; message = refl; entries = refl }
 turned_same (gives_up notes given xid asked end after saving done asks turns refused many) = record { by = refl; message = refl; entries = refl }
 
-settled_same : {a after : Agent} {s t : Session} → Settles a s after t → IsOneCall s t
+settled_same : {a after : HssAgent} {s t : Session} → Settles a s after t → IsOneCall s t
 settled_same (settles_all said acks at) = record { by = refl; message = refl; entries = refl }
 
-acted_same : {r : ℕ} {p : Participant} {c next : Scene} → Acts hss_judged r p c next → IsOneCall c.session next.session × (next.began.number ≡ c.began.number)
+acted_same : {r : ℕ} {p : Participant} {c next : Configuration} → Acts hss_judged r p c next → IsOneCall c.session next.session × (next.began.number ≡ c.began.number)
 acted_same (acts_asks node question answer next heard t cache fate hears goes) = (behind (heard_same hears) (failed_same goes), refl)
 acted_same (asks_in_vain node question answer next heard t cache fate hears lacking) = (lacking_same lacking, refl)
 acted_same (acts_turns view reply applied after saving t turned in_view takes replies is_turn) = (turned_same takes, refl)
 acted_same (is_refused view end after saving t in_view refusal takes) = (turned_same takes, refl)
 acted_same (acts_settles after t settling) = (settled_same settling, refl)
 
-pub one_call_so : {r : ℕ} {name : List ℕ} {c next : Scene} → Steps hss_judged r name c next → IsOneCall c.session next.session × (next.began.number ≡ c.began.number)
+pub one_call_so : {r : ℕ} {name : List ℕ} {c next : Configuration} → Steps hss_judged r name c next → IsOneCall c.session next.session × (next.began.number ≡ c.began.number)
 one_call_so (acts p taken cache next is takes act) = let a = acted_same act in (behind (all_taken takes) a.0, a.1)
 one_call_so (lacks_memory p taken t cache is takes lacking) = (behind (some_taken takes) (lacking_same lacking), refl)
 
 pub steps_are_of_one_call : StepsAreOfOneCall
 steps_are_of_one_call r name c next steps = let o = one_call_so steps in (o.0.by, o.0.message, o.0.entries, o.1)
 
-pub scenes_go_on : {J : Type 0} → ScenesGoOn J
-scenes_go_on judges c next r p q old new is same steps found session =
+pub configurations_go_on : {J : Type 0} → ConfigurationsGoOn J
+configurations_go_on judges c next r p q old new is same steps found session =
     let o = one_call_so steps in
     record {
       is_by = subst (λ (name : List ℕ). participant next.world name ≡ Some q) (sym o.0.by) found;

@@ -4,7 +4,7 @@ use Rattle.dhash_model.specs.Signed.{hss_judged}
 use Rattle.dht_ids.specs.declared.post.Ack.{Ack}
 use Rattle.dhash_client.specs.GetHead.{Judges}
 use Rattle.agent_model.specs.Others.{settled}
-use Rattle.session_model.specs.Courses.Settles.{settles as settles_all}
+use Rattle.session_model.specs.Executions.Settles.{settles as settles_all}
 use Rattle.session_model.specs.Sessions.{Cache, Over, Publishing, Session, TakesSome}
 use Rattle.ivy_session.specs.declared.served.Served.{Served}
 use Rattle.ivy_session.specs.declared.session.Next.TheVariants as next
@@ -15,16 +15,16 @@ use Rattle.ivy_session.proofs.Ended.{over_has_asked, over_is_past}
 use Rattle.ivy_session.proofs.Hearing.{publishing_now}
 use Rattle.ivy_session.proofs.Staying.{taken_same, takes_later}
 use Rattle.world_model.specs.World.{Participant, with_participant}
-use Rattle.world_model.specs.Steps.{Scene, with_cache}
+use Rattle.world_model.specs.Steps.{Configuration, with_cache}
 use Rattle.world_model.specs.Steps.Acts.{settles as acts_settles}
 use Rattle.world_model.specs.Steps.Steps.{acts, lacks_memory}
 use Rattle.session_steps.specs.Laws.{DoneIsOver, SettlingsAreSteps}
-use Rattle.session_steps.specs.Scenes.{IsDone, IsSceneOf, IsStep, given_at}
-use Rattle.session_steps.specs.Scenes.IsDone.{was_over, lacks_memory as done_lacking, is_cut as done_cut}
-use Rattle.session_steps.specs.Scenes.IsLeft.{goes_on as left_on}
-use Rattle.session_steps.proofs.SceneSteps.{as_ring, lacking_gives, some_gives, twice_placed}
+use Rattle.session_steps.specs.Configurations.{IsDone, IsConfigurationOf, IsStep, given_at}
+use Rattle.session_steps.specs.Configurations.IsDone.{was_over, lacks_memory as done_lacking, is_cut as done_cut}
+use Rattle.session_steps.specs.Configurations.IsLeft.{goes_on as left_on}
+use Rattle.session_steps.proofs.ConfigurationSteps.{as_ring, lacking_gives, some_gives, twice_placed}
 
-module _ {J : Type 0} (judges : Judges J) (c : Scene) (r : ℕ) (p : Participant) (old : SessionState J) (is : IsSceneOf judges c r p old) where
+module _ {J : Type 0} (judges : Judges J) (c : Configuration) (r : ℕ) (p : Participant) (old : SessionState J) (is : IsConfigurationOf judges c r p old) where
   module _ (new : SessionState J) (after : Cache) where
     settles_so : (acks : List Ack) → NextIs judges old new c.session p.cache after (next.Settle acks) → IsStep judges c r new ⊥ (with_participant c.world (record p { agent = settled p.agent acks; cache = after })) (given_at c.session.stage)
     settles_so acks (next_settles said _ at free stays session) =

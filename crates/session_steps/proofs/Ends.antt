@@ -13,24 +13,24 @@ use Rattle.ivy_session.specs.Stepping.{IsNext, NextIs}
 use Rattle.ivy_session.specs.Stepping.NextIs.{settles}
 use Rattle.ivy_session.proofs.Ended.{over_is_past}
 use Rattle.script_participants.specs.ParticipantState.{ParticipantState, state_of}
-use Rattle.world_model.specs.Steps.{Scene}
+use Rattle.world_model.specs.Steps.{Configuration}
 use Rattle.world_model.specs.World.{Participant, World, with_participant}
-use Rattle.session_steps.specs.Scenes.{IsDone, IsSceneOf, given_at}
-use Rattle.session_steps.specs.Scenes.IsDone.{was_over, lacks_memory, is_cut}
-use Rattle.session_steps.specs.Showing.{CallState, IsTold, IsUnderWay, IsUntold, Shown, Shows, ShowsBy, ShowsSession, StepsFrom, StepsTo, judges, shown}
+use Rattle.session_steps.specs.Configurations.{IsDone, IsConfigurationOf, given_at}
+use Rattle.session_steps.specs.Configurations.IsDone.{was_over, lacks_memory, is_cut}
+use Rattle.session_steps.specs.Representing.{CallState, IsTold, IsInProgress, IsUntold, Shown, Represents, RepresentsBy, RepresentsSession, StepsFrom, StepsTo, judges, shown}
 use Rattle.session_steps.specs.Within.{HasNext, Laws}
-use Rattle.session_steps.proofs.Scenes.{as_told, by_step, left_is, same_nodes, scene_of, stayed, stays, stepped, untold}
+use Rattle.session_steps.proofs.Configurations.{as_told, by_step, left_is, same_nodes, configuration_of, stayed, stays, stepped, untold}
 use Rattle.session_steps.proofs.Asks.{wants_there, with_cache}
 
 settled_no_turn : {old new : SessionState HssJudge} {s : Session} {before after : Cache} {acks : List Ack} → NextIs judges old new s before after (next.Settle acks) → is_turning new.stage ≡ false
 settled_no_turn {new = new} {s = s} (settles said acks at free same session) = over_is_past judges (record s { stage = Over said }) new said refl session
 
-module _ (c : Scene) (r : ℕ) (old : Shown) (way : IsUnderWay c r) (shows : Shows c r old) (none : old.call.told ≡ None) (mid : CallState) (between : ParticipantState) (laws : Laws) where
+module _ (c : Configuration) (r : ℕ) (old : Shown) (way : IsInProgress c r) (shows : Represents c r old) (none : old.call.told ≡ None) (mid : CallState) (between : ParticipantState) (laws : Laws) where
   is_untold : IsUntold c.session old.call
   is_untold = untold c.session old.call none shows.session
 
-  scene : IsSceneOf judges c r shows.p old.call.session
-  scene = scene_of c r old way shows is_untold
+  configuration : IsConfigurationOf judges c r shows.p old.call.session
+  configuration = configuration_of c r old way shows is_untold
 
   -- its participant, with the cache as it is then
   abbrev mine : Participant
@@ -50,7 +50,7 @@ module _ (c : Scene) (r : ℕ) (old : Shown) (way : IsUnderWay c r) (shows : Sho
   pub settles_step : (acks : List Ack) (after : ParticipantState) → HasNext old.call mid old.who between (next.Settle acks) → after ≡ record between { agent = settled between.agent acks } → mid.session.is_cut ≡ false
       → StepsTo c r (shown mid old.nodes after old.met old.now)
   settles_step acks after h dropped whole =
-      let step = laws.settlings judges c r shows.p old.call.session mid.session between.cache acks scene (wants (next.Settle acks) h) in
+      let step = laws.settlings judges c r shows.p old.call.session mid.session between.cache acks configuration (wants (next.Settle acks) h) in
       by_step c r old way shows laws (shown mid old.nodes after old.met old.now) (record mine { agent = settled shows.p.agent acks }) c.world.met is_untold step
       (left_is step.left whole (λ t may lacking session. may))
       (record {
@@ -92,9 +92,9 @@ module _ (c : Scene) (r : ℕ) (old : Shown) (way : IsUnderWay c r) (shows : Sho
     })
     by whole (is_cut cut) = cc (cut, whole)
 
-    -- it was over, or memory was wanting
+    -- it was over, or memory ran out
     pub done_step : mid.session.is_cut ≡ false → StepsTo c r then_shown
-    done_step whole = by whole (laws.done judges c r shows.p old.call.session mid.session between.cache told scene (wants (next.Done told) h))
+    done_step whole = by whole (laws.done judges c r shows.p old.call.session mid.session between.cache told configuration (wants (next.Done told) h))
 
 -- a call that was told to be over stays
 pub told_stays : (old : Shown) (told : Served) → old.call.told ≡ Some told → StepsFrom old old
@@ -110,8 +110,8 @@ told_stays old told is c r way shows =
       session = shows.session;
     })
   where
-    shows_told : (told : Served) → old.call.told ≡ Some told → ShowsSession c.session old.call → IsTold c.session old.call told
-    shows_told told is shows = subst (λ (o : Option Served). ShowsBy c.session old.call o) is shows
+    shows_told : (told : Served) → old.call.told ≡ Some told → RepresentsSession c.session old.call → IsTold c.session old.call told
+    shows_told told is shows = subst (λ (o : Option Served). RepresentsBy c.session old.call o) is shows
 
 some_of : (P : Type 0) (o : Option Served) → is_some o ≡ true → ((told : Served) → o ≡ Some told → P) → P
 some_of P None is each = cc is

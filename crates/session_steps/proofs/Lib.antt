@@ -1,11 +1,11 @@
 mod Calls
 mod Asked
-pub mod SceneSteps
+pub mod ConfigurationSteps
 mod AskSteps
 mod Read
 mod TurnSteps
 mod EndSteps
-mod Scenes
+mod Configurations
 mod Asks
 mod Turns
 mod Ends

@@ -15,8 +15,8 @@ use Rattle.session_model.specs.Sessions.{Over, Said}
 use Rattle.ivy_session.specs.declared.served.Served.{Served}
 use Rattle.ivy_session.specs.States.{reply_or_none, served_of}
 use Rattle.world_model.specs.Calls.{key_line, shown_end, shown_message, shown_miss, shown_note}
-use Rattle.session_steps.specs.Ending.{IsShownOf, is_miss, is_shown, note_line, served_line}
-use Rattle.session_steps.specs.Showing.{CallState, IsTold, ShowsBy}
+use Rattle.session_steps.specs.Ending.{IsRepresentedOf, is_miss, is_shown, note_line, served_line}
+use Rattle.session_steps.specs.Representing.{CallState, IsTold, RepresentsBy}
 
 -- the lines of the notes that are shown then
 abbrev pub lines_of : Bool → List Noted → List ℕ
@@ -81,8 +81,8 @@ served_first (Some message) = refl
 same_said : (a b : Option Said) → Over a ≡ Over b → a ≡ b
 same_said a b e = cc e
 
-pub all_shown : (call : CallState) (told : Served) → call.told ≡ Some told → IsShownOf call (served_line told ++ lines_of true call.session.notes ++ lines_of false call.session.notes)
-all_shown call told is s said shows at = by (subst (λ (o : Option Served). ShowsBy s call o) is shows)
+pub all_shown : (call : CallState) (told : Served) → call.told ≡ Some told → IsRepresentedOf call (served_line told ++ lines_of true call.session.notes ++ lines_of false call.session.notes)
+all_shown call told is s said shows at = by (subst (λ (o : Option Served). RepresentsBy s call o) is shows)
   where
     by : IsTold s call told → served_line told ++ lines_of true call.session.notes ++ lines_of false call.session.notes ≡ shown_end s said
     by over =
@@ -94,8 +94,8 @@ all_shown call told is s said shows at = by (subst (λ (o : Option Served). Show
 
 -- the text, as it was put
 pub shown_so : (call : CallState) (told : Served) (notes : List Noted) (fresh first second third : List ℕ) → call.told ≡ Some told → notes ≡ call.session.notes → fresh ≡ [] → first ≡ fresh ++ served_line told → second ≡ first ++ lines_of true notes
-    → third ≡ second ++ lines_of false notes → IsShownOf call third
-shown_so call told notes fresh first second third is same none e f g = subst (IsShownOf call) (sym all) (all_shown call told is)
+    → third ≡ second ++ lines_of false notes → IsRepresentedOf call third
+shown_so call told notes fresh first second third is same none e f g = subst (IsRepresentedOf call) (sym all) (all_shown call told is)
   where
     front : second ≡ served_line told ++ lines_of true call.session.notes
     front = f ∙ ap (λ (ns : List Noted). first ++ lines_of true ns) same ∙ ap (λ (text : List ℕ). text ++ lines_of true call.session.notes) (e ∙ ap (λ (text : List ℕ). text ++ served_line told) none)

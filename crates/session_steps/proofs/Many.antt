@@ -6,30 +6,30 @@ use Rattle.session_model.specs.Sessions.{Over, Said, Session}
 use Rattle.ivy_session.specs.declared.served.Served.{Served}
 use Rattle.ring_nodes.specs.NodesState.{NodesState, with_nodes}
 use Rattle.world_model.specs.World.{Participant, World, participant}
-use Rattle.world_model.specs.Steps.{RunsOut, Scene, Steps, StepsOn}
+use Rattle.world_model.specs.Steps.{RunsOut, Configuration, Steps, StepsOn}
 use Rattle.world_model.specs.Steps.StepsOn.{none as on_none, is_over as on_over, more as on_more}
 use Rattle.world_model.specs.Steps.RunsOut.{is_over as out_over, more as out_more}
 use Rattle.world_laws.proofs.Bringing.{found_named}
 use Rattle.world_laws.proofs.OneSteps.{over_steps}
-use Rattle.session_steps.proofs.SceneSteps.{twice_placed}
-use Rattle.session_steps.specs.Showing.{CallState, HasScene, IsOver, IsUnderWay, Leaves, ManyStepsFrom, RunsOutFrom, Shown, ShowsBy, StepsFrom, StepsTo, world_left}
+use Rattle.session_steps.proofs.ConfigurationSteps.{twice_placed}
+use Rattle.session_steps.specs.Representing.{CallState, HasConfiguration, IsOver, IsInProgress, Leaves, ManyStepsFrom, RunsOutFrom, Shown, RepresentsBy, StepsFrom, StepsTo, world_left}
 use Rattle.session_steps.specs.Within.{IsReached, Laws, Reaches, ReachesOn}
-use Rattle.session_steps.proofs.Scenes.{stays}
+use Rattle.session_steps.proofs.Configurations.{stays}
 
--- ---- a scene that is over
+-- ---- a configuration that is over
 
 module _ (r : ℕ) (name : List ℕ) where
   -- has no more steps
-  over_on : (count : ℕ) {c end : Scene} (said : Option Said) → c.session.stage ≡ Over said → StepsOn hss_judged r name count c end → StepsOn hss_judged r name (suc count) c end
+  over_on : (count : ℕ) {c end : Configuration} (said : Option Said) → c.session.stage ≡ Over said → StepsOn hss_judged r name count c end → StepsOn hss_judged r name (suc count) c end
   over_on zero said over on_none = on_over said over
   over_on (suc count) said over (on_over also at) = on_over said over
   over_on (suc count) said over (on_more step rest) = absurd (over_steps r step said over)
 
--- ---- one step behind many
+-- ---- one step after many
 
--- under way still
-module _ (laws : Laws) (c : Scene) (r : ℕ) (way : IsUnderWay c r) (s : Shown) (next : Scene) (leaves : Leaves c r s next) where
-  way_on : Steps hss_judged r c.session.by c next → IsUnderWay next r
+-- in progress still
+module _ (laws : Laws) (c : Configuration) (r : ℕ) (way : IsInProgress c r) (s : Shown) (next : Configuration) (leaves : Leaves c r s next) where
+  way_on : Steps hss_judged r c.session.by c next → IsInProgress next r
   way_on steps = ⊎_elim
       (λ hand. let k = laws.keep c next r way.keeps hand way.ring steps in record { keeps = k.0; ring = ring; hand = inl k.1 })
       (λ only. let k = laws.publishing c next r way.keeps only way.ring steps in record { keeps = k.0; ring = ring; hand = inr k.1 })
@@ -46,17 +46,17 @@ its_name w name p is = (found_named w.participants name p is).1
 left_twice : (w : World) (first later : NodesState) (met more : List (List ℕ)) (p q : Participant) → p.name ≡ q.name → world_left (world_left w first met p) later more q ≡ world_left w later more q
 left_twice w first later met more p q named = ap (λ (u : World). record u { met = more }) (twice_placed (with_nodes w later) p q named)
 
-module _ (laws : Laws) (c : Scene) (r : ℕ) (old now new : Shown) (Rest All Less : List ℕ → Scene → Scene → Type 0)
-    (step : (mid next : Scene) → Steps hss_judged r c.session.by mid next → (end : Scene) → Less c.session.by next end → Rest c.session.by mid end)
-    (over : (mid : Scene) (said : Option Said) → mid.session.stage ≡ Over said → (end : Scene) → Less c.session.by mid end → Rest c.session.by mid end) where
+module _ (laws : Laws) (c : Configuration) (r : ℕ) (old now new : Shown) (Rest All Less : List ℕ → Configuration → Configuration → Type 0)
+    (step : (mid next : Configuration) → Steps hss_judged r c.session.by mid next → (end : Configuration) → Less c.session.by next end → Rest c.session.by mid end)
+    (over : (mid : Configuration) (said : Option Said) → mid.session.stage ≡ Over said → (end : Configuration) → Less c.session.by mid end → Rest c.session.by mid end) where
   goes_on : IsReached Rest All c r now → StepsFrom now new → IsReached Less All c r new
   goes_on reached steps = by to.next to.steps to.leaves
     where
       to : StepsTo reached.mid r new
       to = steps reached.mid r reached.way reached.leaves.shows
 
-      -- as it is left to the first scene
-      left : (next : Scene) → next.session.by ≡ reached.mid.session.by → Leaves reached.mid r new next → Leaves c r new next
+      -- as it is left to the first configuration
+      left : (next : Configuration) → next.session.by ≡ reached.mid.session.by → Leaves reached.mid r new next → Leaves c r new next
       left next same leaves = record {
         shows = leaves.shows;
         world = leaves.world
@@ -65,7 +65,7 @@ module _ (laws : Laws) (c : Scene) (r : ℕ) (old now new : Shown) (Rest All Les
             (its_name reached.mid.world reached.mid.session.by reached.leaves.shows.p reached.leaves.shows.is_by ∙ sym same ∙ sym (its_name next.world next.session.by leaves.shows.p leaves.shows.is_by));
       }
 
-      by : (next : Scene) → Steps hss_judged r reached.mid.session.by reached.mid next ⊎ IsOver reached.mid next → Leaves reached.mid r new next → IsReached Less All c r new
+      by : (next : Configuration) → Steps hss_judged r reached.mid.session.by reached.mid next ⊎ IsOver reached.mid next → Leaves reached.mid r new next → IsReached Less All c r new
       by next (inl stepped) leaves =
           let same = (laws.one_call r reached.mid.session.by reached.mid next stepped).0 in
           record {
@@ -77,10 +77,10 @@ module _ (laws : Laws) (c : Scene) (r : ℕ) (old now new : Shown) (Rest All Les
           }
       by next (inr stayed) leaves = record {
         mid = next;
-        way = subst (λ (s : Scene). IsUnderWay s r) (sym stayed.0) reached.way;
-        leaves = left next (ap (λ (s : Scene). s.session.by) stayed.0) leaves;
-        by = ap (λ (s : Scene). s.session.by) stayed.0 ∙ reached.by;
-        goes = λ end rest. reached.goes end (over reached.mid stayed.1 stayed.2 end (subst (λ (s : Scene). Less c.session.by s end) stayed.0 rest));
+        way = subst (λ (s : Configuration). IsInProgress s r) (sym stayed.0) reached.way;
+        leaves = left next (ap (λ (s : Configuration). s.session.by) stayed.0) leaves;
+        by = ap (λ (s : Configuration). s.session.by) stayed.0 ∙ reached.by;
+        goes = λ end rest. reached.goes end (over reached.mid stayed.1 stayed.2 end (subst (λ (s : Configuration). Less c.session.by s end) stayed.0 rest));
       }
 
 -- ---- a count of them
@@ -96,9 +96,9 @@ reaches_next laws left count old now new reached steps c r way shows =
 pub reaches_all : (count : ℕ) (old new : Shown) → Reaches 0 count old new → ManyStepsFrom count old new
 reaches_all count old new reached c r way shows = let here = reached c r way shows in (here.mid, here.goes here.mid on_none, here.leaves)
 
--- some scene under way is shown all along
-pub reached_scene : (left count : ℕ) (old now : Shown) → HasScene old → Reaches left count old now → HasScene now
-reached_scene left count old now scene reached = let here = reached scene.0 scene.1 scene.2 scene.3 in (here.mid, scene.1, here.way, here.leaves.shows)
+-- some configuration in progress is represented all along
+pub reached_configuration : (left count : ℕ) (old now : Shown) → HasConfiguration old → Reaches left count old now → HasConfiguration now
+reached_configuration left count old now configuration reached = let here = reached configuration.0 configuration.1 configuration.2 configuration.3 in (here.mid, configuration.1, here.way, here.leaves.shows)
 
 -- ---- up to the end
 
@@ -109,8 +109,8 @@ pub reaches_on_next : Laws → (old now new : Shown) → ReachesOn old now → S
 reaches_on_next laws old now new reached steps c r way shows =
     goes_on laws c r old now new (RunsOut hss_judged r) (RunsOut hss_judged r) (RunsOut hss_judged r) (λ mid next stepped end rest. out_more stepped rest) (λ mid said at end rest. rest) (reached c r way shows) steps
 
-pub reached_on_scene : (old now : Shown) → HasScene old → ReachesOn old now → HasScene now
-reached_on_scene old now scene reached = let here = reached scene.0 scene.1 scene.2 scene.3 in (here.mid, scene.1, here.way, here.leaves.shows)
+pub reached_on_configuration : (old now : Shown) → HasConfiguration old → ReachesOn old now → HasConfiguration now
+reached_on_configuration old now configuration reached = let here = reached configuration.0 configuration.1 configuration.2 configuration.3 in (here.mid, configuration.1, here.way, here.leaves.shows)
 
 -- where it was told to be over
 pub reaches_end : (old new : Shown) → IsTrue (is_some new.call.told) → ReachesOn old new → RunsOutFrom old new
@@ -119,7 +119,7 @@ reaches_end old new told reached c r way shows =
     let over = ended here.mid.session new.call.told told here.leaves.shows.session in
     (told, here.mid, here.goes here.mid (out_over over.0 over.1), here.leaves)
   where
-    ended : (s : Session) (o : Option Served) → IsTrue (is_some o) → ShowsBy s new.call o → (said : Option Said) × (s.stage ≡ Over said)
+    ended : (s : Session) (o : Option Served) → IsTrue (is_some o) → RepresentsBy s new.call o → (said : Option Said) × (s.stage ≡ Over said)
     ended s None told is = cc told
     ended s (Some served) told is = (is.said, is.is_over)
 

@@ -17,12 +17,12 @@ use Rattle.session_model.specs.Sessions.{Cache}
 use Rattle.ivy_session.specs.declared.session.Next.{Next}
 use Rattle.ivy_session.specs.Left.{LeavesNoMore, session_left}
 use Rattle.ivy_session.specs.States.{SessionState, asked_at, is_turning, session_awaited}
-use Rattle.ivy_session.specs.Stepping.{IsAnewFor, IsHeard, IsNext, IsTurned}
+use Rattle.ivy_session.specs.Stepping.{IsAgainFor, IsHeard, IsNext, IsTurned}
 use Rattle.session_steps.specs.MetState.{MetState}
 use Rattle.script_participants.specs.ParticipantState.{ParticipantState}
 use Rattle.script_participants.specs.Turning.{TakesTurn}
-use Rattle.session_steps.specs.Showing.{CallState, judges}
-use Rattle.session_steps.specs.Within.{BeginsAnew, CountsAsMade, HasHeard, HasNext, IsToldOf, LeftBy, TookTurn}
+use Rattle.session_steps.specs.Representing.{CallState, judges}
+use Rattle.session_steps.specs.Within.{BeginsAgain, CountsAsMade, HasHeard, HasNext, IsToldOf, LeftBy, TookTurn}
 
 module _ (inside old : CallState) (st : SessionState HssJudge) (before : ParticipantState) (cache after : Cache) (is : inside ≡ old) (lent : cache ≡ before.cache) where
   abbrev with_session : CallState
@@ -64,18 +64,18 @@ module _ (refresh : Refresh) (now : Moment) (turned : Result Turned TurnFault) (
       subst (λ (a : Asked). IfSome before.agent.view (λ view. TakesTurn view (refresh_of refresh) (asked_of a) now before turned after))
       (same_asked (is ∙ ap (λ (s : SessionState HssJudge). asked_at s.stage) same ∙ at)) took
 
-  anew_of : (turned : Result Turned TurnFault) (view : View) (asked : Asked) → TakesTurn view (refresh_of refresh) (asked_of asked) now before turned after → IfErr turned IsAnewFor
+  anew_of : (turned : Result Turned TurnFault) (view : View) (asked : Asked) → TakesTurn view (refresh_of refresh) (asked_of asked) now before turned after → IfErr turned IsAgainFor
   anew_of (Ok done) view asked took = tt
   anew_of (Err fault.Memory) view asked took = tt
   anew_of (Err (fault.Behind standing)) view asked took = ap (λ (s : ModelStanding). s.to_load) took.anew
   anew_of (Err (fault.BelowTide standing)) view asked took = ap (λ (s : ModelStanding). s.to_load) took.anew
 
-  -- after a refusal it may begin anew
+  -- after a refusal it may begin again
   pub anew_so : (asked : Asked) → IsSomeAnd before.agent.view (λ view. IsFetchedIn view refresh.batch) → IfSome before.agent.view (λ view. TakesTurn view (refresh_of refresh) (asked_of asked) now before turned after)
-      → IfErr turned IsAnewFor
+      → IfErr turned IsAgainFor
   anew_so asked some took = by before.agent.view some took
     where
-      by : (o : Option View) → IsSomeAnd o (λ view. IsFetchedIn view refresh.batch) → IfSome o (λ view. TakesTurn view (refresh_of refresh) (asked_of asked) now before turned after) → IfErr turned IsAnewFor
+      by : (o : Option View) → IsSomeAnd o (λ view. IsFetchedIn view refresh.batch) → IfSome o (λ view. TakesTurn view (refresh_of refresh) (asked_of asked) now before turned after) → IfErr turned IsAgainFor
       by None some took = absurd some
       by (Some view) some took = anew_of turned view asked took
 
@@ -93,7 +93,7 @@ told_so turned old new before after met later mid same is free no_turn less told
 }
 
 -- after a refusal
-pub refused_so : (why : TurnFault) (old new : CallState) (before after : ParticipantState) (met later : MetState) → why ≢ fault.Memory → CountsAsMade before after met later → BeginsAnew old new
+pub refused_so : (why : TurnFault) (old new : CallState) (before after : ParticipantState) (met later : MetState) → why ≢ fault.Memory → CountsAsMade before after met later → BeginsAgain old new
     → LeftBy old new before after met later (Err why)
 refused_so fault.Memory old new before after met later not made anew = absurd (not refl)
 refused_so (fault.Behind standing) old new before after met later not made anew = (made, anew)

@@ -1,9 +1,9 @@
--- Whatever comes of the turn of a session in code, and whatever the session makes of it, is a step of the scene.
+-- Whatever comes of the turn of a session in code, and whatever the session makes of it, is a step of the configuration.
 use Rattle.std.proofs.Common.{◌≡◌, ⊎_elim, ℕ, ◌<◌, Bool, true, false, List, [], Option, Some, None, Result, Ok, Err, refl, sym, ap, ◌∙◌, subst, Contains}
 use Rattle.std.specs.Prelude.{IfErr, IfSome, IsSomeAnd, IsTrue, option_map}
 use Rattle.std.specs.List.{AllByRecursion}
 use Rattle.ivy_base.specs.declared.operation.Moment.{Moment}
-use Rattle.ivy_base.specs.Naming.{HasClash, NamesTellApart}
+use Rattle.ivy_base.specs.Naming.{HasClash, IsCollisionFree}
 use Rattle.hash_signature_model.specs.Saved.{IsSigner}
 use Rattle.hash_signature_model.specs.Signer.{Signer}
 use Rattle.dhash_model.specs.Signed.{hss_judged}
@@ -19,11 +19,11 @@ use Rattle.turn_model.specs.Turn.{Asked as ModelAsked, Turned as ModelTurned}
 use Rattle.dht_ids.specs.declared.post.Post.{Post}
 use Rattle.dhash_client.specs.GetHead.{Judges}
 use Rattle.agent_model.specs.Agent.{kept_of}
-use Rattle.agent_model.specs.Standing.{Refresh as ModelRefresh, Standing as ModelStanding, anew_in}
+use Rattle.agent_model.specs.Standing.{Refresh as ModelRefresh, Standing as ModelStanding, begun_again_in}
 use Rattle.agent_model.specs.Turning.{Answered, Behind, BelowTide, IsByDefinition, TurnEnd, Turns}
 use Rattle.agent_model.specs.Turning.Turns.{behind, below, answers as answers_it}
-use Rattle.session_model.specs.Courses.{grounds_of, HasRefreshed, IsRefusal, LacksMemory, anew, answered, ended}
-use Rattle.session_model.specs.Courses.TakesTurn.{answers, begins_anew, gives_up}
+use Rattle.session_model.specs.Executions.{grounds_of, HasRefreshed, IsRefusal, LacksMemory, anew, answered_by_turn, ended}
+use Rattle.session_model.specs.Executions.TakesTurn.{answers, begins_again, gives_up}
 use Rattle.session_model.specs.Refreshing.{Note}
 use Rattle.session_model.specs.Replies.{Asks, said_no_memory, said_of}
 use Rattle.session_model.specs.Sessions.{Cache, Session}
@@ -41,42 +41,42 @@ use Rattle.ivy_agent.specs.Holders.{Holder}
 use Rattle.ivy_agent.specs.Saves.{Saves}
 use Rattle.ivy_agent.specs.Turns.{IsFetchedIn, TurnsAs}
 use Rattle.ivy_session.specs.States.{IsSession, SessionState, asked_at, is_turning, session_awaited}
-use Rattle.ivy_session.specs.Stepping.{IsAnewFor, TurnedIs}
+use Rattle.ivy_session.specs.Stepping.{IsAgainFor, TurnedIs}
 use Rattle.ivy_session.specs.Stepping as code
-use Rattle.ivy_session.specs.Stepping.IsRefused.{begins_anew as code_begins, lacks_memory as code_lacks, gives_up as code_gives_up}
+use Rattle.ivy_session.specs.Stepping.IsRefused.{begins_again as code_begins, lacks_memory as code_lacks, gives_up as code_gives_up}
 use Rattle.log_model.specs.ViewKeys.{HasKeys}
 use Rattle.ivy_session.proofs.Called.{IsAskedOf, asks_as, batch_of_members, refreshed_as, turn_is_asked}
 use Rattle.ivy_session.proofs.Staying.{all_some, taken_same}
 use Rattle.ivy_session.proofs.Wanted.{TurnsThen, turns_then}
 use Rattle.script_model.specs.Messages.{Given}
-use Rattle.world_model.specs.Agents.{Agent, Kept, IsKept, IsTurnIn, TakesTurn, hss, kept_bytes, own}
+use Rattle.world_model.specs.Agents.{HssAgent, HssKept, IsHssKept, IsHssTurnIn, TakesHssTurn, hss_signing, hss_kept_bytes, own_hss_key}
 use Rattle.world_model.specs.Keepers.{Keeper, asked_to_save, fails_next}
-use Rattle.world_model.specs.Story.{known_of}
+use Rattle.world_model.specs.GhostState.{known_of}
 use Rattle.world_model.specs.World.{World, Participant, named_bytes, participant, with_participant}
-use Rattle.world_model.specs.Steps.{Scene, after_turn, having_made, met_by, turn_told, turning_of, with_cache, world_after}
+use Rattle.world_model.specs.Steps.{Configuration, after_turn, having_made, met_by, turn_told, turning_of, with_cache, world_after}
 use Rattle.world_model.specs.Steps.Acts.{turns as acts_turns, is_refused}
 use Rattle.world_model.specs.Steps.Steps.{acts, lacks_memory}
-use Rattle.world_laws.specs.Keeps.{IsInHand, IsKeptSo, IsSavedWell, Keeps}
+use Rattle.world_laws.specs.Invariant.{IsInHand, IsKeptSo, IsSavedWell, Invariant}
 use Rattle.world_laws.proofs.Apart.{clash_is_decided}
 use Rattle.world_laws.proofs.Bringing.{found_named, its_view, refresh_may_turn}
 use Rattle.session_steps.specs.Laws.{AgentsGiveTurns, BatchesAreFetched, GivesNothing, RefusalsAreFresh, RepliesAreRead, TurnsAreSteps, TurnsMayBe}
-use Rattle.session_steps.specs.Scenes.{GivesTurn, HadTurn, IsLeft, IsSceneOf, IsStep, MayLack, given_at, given_by, given_of, holder_of, memory_saves, turned_participant, turned_world}
-use Rattle.session_steps.specs.Scenes.IsLeft.{goes_on as left_on, lacks_memory as left_lacking, is_cut as left_cut}
+use Rattle.session_steps.specs.Configurations.{GivesTurn, HadTurn, IsLeft, IsConfigurationOf, IsStep, MayLack, given_at, given_by, given_of, holder_of, memory_saves, turned_participant, turned_world}
+use Rattle.session_steps.specs.Configurations.IsLeft.{goes_on as left_on, lacks_memory as left_lacking, is_cut as left_cut}
 use Rattle.ivy_agent.proofs.Bounds.{bounds_in}
 use Rattle.session_steps.proofs.Read.{reply_of}
-use Rattle.session_steps.proofs.SceneSteps.{found_then, keeps_then, lacking_gives, twice_placed}
+use Rattle.session_steps.proofs.ConfigurationSteps.{found_then, keeps_then, lacking_gives, twice_placed}
 
 -- ---- what the agent's turn is
 
 -- by the keeper's next save, and the keeper as it was asked then
-module _ (brought : ModelRefresh) (a : Agent) (view : View) (asked : ModelAsked) (now : Moment) (k new : Keeper) (end : TurnEnd) (after : Agent) where
-  by_keeper : (saving : Option Kept) (fails : Bool) → Turns hss brought (record { agent = a; view = view; now = now; fails = fails }) asked end after saving → (saving ≡ None → (other : Bool) → Turns hss brought (record { agent = a; view = view; now = now; fails = other }) asked end after saving)
-      → Saves memory_saves k (option_map kept_bytes saving) fails new → Turns hss brought (record { agent = a; view = view; now = now; fails = fails_next k }) asked end after saving × (new ≡ asked_to_save k saving)
+module _ (brought : ModelRefresh) (a : HssAgent) (view : View) (asked : ModelAsked) (now : Moment) (k new : Keeper) (end : TurnEnd) (after : HssAgent) where
+  by_keeper : (saving : Option HssKept) (fails : Bool) → Turns hss_signing brought (record { agent = a; view = view; now = now; fails = fails }) asked end after saving → (saving ≡ None → (other : Bool) → Turns hss_signing brought (record { agent = a; view = view; now = now; fails = other }) asked end after saving)
+      → Saves memory_saves k (option_map hss_kept_bytes saving) fails new → Turns hss_signing brought (record { agent = a; view = view; now = now; fails = fails_next k }) asked end after saving × (new ≡ asked_to_save k saving)
   by_keeper None fails turns either saved = (either refl (fails_next k), saved)
-  by_keeper (Some kept) fails turns either saved = (subst (λ (b : Bool). Turns hss brought (record { agent = a; view = view; now = now; fails = b }) asked end after (Some kept)) saved.0 turns, saved.1)
+  by_keeper (Some kept) fails turns either saved = (subst (λ (b : Bool). Turns hss_signing brought (record { agent = a; view = view; now = now; fails = b }) asked end after (Some kept)) saved.0 turns, saved.1)
 
 had_so : (p : Participant) (view : View) (refresh : Refresh) (asked : Asked) (now : Moment) (fails : Bool) (end : TurnEnd) (after : Holder Keeper Signer)
-    → TurnsAs hss IsSigner memory_saves view (refresh_of refresh) (asked_of asked) now (holder_of p) fails end after → HadTurn p view refresh asked now end after
+    → TurnsAs hss_signing IsSigner memory_saves view (refresh_of refresh) (asked_of asked) now (holder_of p) fails end after → HadTurn p view refresh asked now end after
 had_so p view refresh asked now fails end after t =
     let k = by_keeper (refresh_of refresh) p.agent view (asked_of asked) now p.keeper after.keeper end after.agent t.saving fails t.turns t.either t.keeper in
     record { saving = t.saving; turns = k.0; keeper = k.1 }
@@ -97,13 +97,13 @@ below_end reply applied e = cc e
 same_reply : (reply other : Reply) (applied count : ℕ) → Answered reply applied ≡ Answered other count → reply ≡ other
 same_reply reply other applied count e = cc e
 
-by_definition : {given : ModelRefresh} {a : Agent} {view : View} {fails : Bool} {asked : ModelAsked} {now : Moment} {end : TurnEnd} {after : Agent} {saving : Option Kept} (reply : Reply) (applied : ℕ)
-    → Turns hss given (record { agent = a; view = view; now = now; fails = fails }) asked end after saving → end ≡ Answered reply applied
-    → (h : Holding) × (written : List Record) × IsByDefinition hss given (record { agent = a; view = view; now = now; fails = fails }) asked h written reply
+by_definition : {given : ModelRefresh} {a : HssAgent} {view : View} {fails : Bool} {asked : ModelAsked} {now : Moment} {end : TurnEnd} {after : HssAgent} {saving : Option HssKept} (reply : Reply) (applied : ℕ)
+    → Turns hss_signing given (record { agent = a; view = view; now = now; fails = fails }) asked end after saving → end ≡ Answered reply applied
+    → (h : Holding) × (written : List Record) × IsByDefinition hss_signing given (record { agent = a; view = view; now = now; fails = fails }) asked h written reply
 by_definition reply applied (behind is) e = absurd (other_end reply applied e)
 by_definition reply applied (below near is) e = absurd (below_end reply applied e)
 by_definition {given = given} {a = a} {view = view} {fails = fails} {asked = asked} {now = now} reply applied (answers_it h written other after saving near over basis takes becomes by) e =
-    (h, written, subst (IsByDefinition hss given (record { agent = a; view = view; now = now; fails = fails }) asked h written) (same_reply other reply _ applied e) by)
+    (h, written, subst (IsByDefinition hss_signing given (record { agent = a; view = view; now = now; fails = fails }) asked h written) (same_reply other reply _ applied e) by)
 
 -- ---- the world then
 
@@ -111,7 +111,7 @@ by_definition {given = given} {a = a} {view = view} {fails = fails} {asked = ask
 same_after : (w : World) (p q : Participant) → p.name ≡ q.name → world_after (with_participant w p) q ≡ world_after w q
 same_after w p q named = ap (λ (v : World). record v { met = met_by w.met q.agent.pending }) (twice_placed w p q named)
 
-same_turned : (p : Participant) (after : Holder Keeper Signer) (saving : Option Kept) → after.keeper ≡ asked_to_save p.keeper saving → after_turn p after.agent saving ≡ turned_participant p after
+same_turned : (p : Participant) (after : Holder Keeper Signer) (saving : Option HssKept) → after.keeper ≡ asked_to_save p.keeper saving → after_turn p after.agent saving ≡ turned_participant p after
 same_turned p after saving kept = ap (λ (k : Keeper). having_made (record p { agent = after.agent; keeper = k }) after.agent.pending) (sym kept)
 
 same_view : (v w : View) → Some v ≡ Some w → v ≡ w
@@ -122,8 +122,8 @@ same_view v w e = cc e
 pub batches_are_fetched : BatchesAreFetched
 batches_are_fetched s b h = record { under = (edge_in s.edges, h.under); members = batch_of_members s b h }
 
-module _ {J : Type 0} (judges : Judges J) (c : Scene) (r : ℕ) (p : Participant) (old : SessionState J) (is : IsSceneOf judges c r p old) (keeps : Keeps (c.world, c.story)) (hand : IsInHand c r) where
-  -- what was at hand is taken, and the refresh is done
+module _ {J : Type 0} (judges : Judges J) (c : Configuration) (r : ℕ) (p : Participant) (old : SessionState J) (is : IsConfigurationOf judges c r p old) (keeps : Invariant (c.world, c.ghost_state)) (hand : IsInHand c r) where
+  -- what was available is taken, and the refresh is done
   abbrev pub Turning : SessionState J → Cache → Refresh → Type 0
   Turning = TurnsThen judges hss_judged r c.session p.cache
 
@@ -141,7 +141,7 @@ module _ {J : Type 0} (judges : Judges J) (c : Scene) (r : ℕ) (p : Participant
 
   module _ (mid new : SessionState J) (cache : Cache) (refresh : Refresh) (asked : Asked) (h : Turning mid cache refresh) (is_asked : asked_at mid.stage ≡ Some asked) (after : Holder Keeper Signer)
       (free : session_awaited new ≡ None) (past : is_turning new.stage ≡ false) where
-    abbrev here : Scene
+    abbrev here : Configuration
     here = with_cache hss_judged r c p h.taken cache
 
     abbrev mine : Participant
@@ -150,9 +150,9 @@ module _ {J : Type 0} (judges : Judges J) (c : Scene) (r : ℕ) (p : Participant
     abbrev view : View
     view = h.taken.standing.view
 
-    -- ---- of the scene once what was at hand is taken
+    -- ---- of the configuration once what was available is taken
 
-    kept_now : Keeps (here.world, here.story) × IsInHand here r
+    kept_now : Invariant (here.world, here.ghost_state) × IsInHand here r
     kept_now = keeps_then judges c r p old is keeps h.taken cache h.takes hand
 
     found_now : participant here.world h.taken.by ≡ Some mine
@@ -174,17 +174,17 @@ module _ {J : Type 0} (judges : Judges J) (c : Scene) (r : ℕ) (p : Participant
     starts_are = ap (λ (s : Session). s.starts) (taken_same h.takes)
 
     -- the turn, and what it leaves
-    abbrev IsTurn : TurnEnd → Option Kept → Type 0
-    IsTurn end saving = Turns hss (refresh_of refresh) (turning_of c.world p view) (asked_of asked) end after.agent saving × (after.keeper ≡ asked_to_save p.keeper saving)
+    abbrev IsTurn : TurnEnd → Option HssKept → Type 0
+    IsTurn end saving = Turns hss_signing (refresh_of refresh) (turning_of c.world p view) (asked_of asked) end after.agent saving × (after.keeper ≡ asked_to_save p.keeper saving)
 
     -- ---- it was answered
 
     record IsTurnTold (notes : List Note) (xid : ℕ) (reply : Reply) : Type 0 where
       told : ModelTurned
       replies : told.reply ≡ reply
-      is_turn : NamesTellApart (named_bytes here.world) → IsTurnIn (named_bytes here.world) (turning_of here.world mine view) h.taken c.began.knew (known_of c.story p.name) told
+      is_turn : IsCollisionFree (named_bytes here.world) → IsHssTurnIn (named_bytes here.world) (turning_of here.world mine view) h.taken c.began.knew (known_of c.ghost_state p.name) told
 
-    turn_told_so : (notes : List Note) (xid : ℕ) (reply : Reply) (applied : ℕ) (saving : Option Kept) → HasRefreshed h.taken notes (refresh_of refresh) → Asks view h.taken.message xid (asked_of asked) → IsTurn (Answered reply applied) saving
+    turn_told_so : (notes : List Note) (xid : ℕ) (reply : Reply) (applied : ℕ) (saving : Option HssKept) → HasRefreshed h.taken notes (refresh_of refresh) → Asks view h.taken.message xid (asked_of asked) → IsTurn (Answered reply applied) saving
         → IsTurnTold notes xid reply
     turn_told_so notes xid reply applied saving done asks turn = ⊎_elim by_apart by_clash (clash_is_decided (named_bytes here.world))
       where
@@ -195,11 +195,11 @@ module _ {J : Type 0} (judges : Judges J) (c : Scene) (r : ℕ) (p : Participant
           is_turn = λ apart. absurd (clash.4 (apart clash.0 clash.1 clash.2 clash.3 clash.5));
         }
 
-        by_apart : NamesTellApart (named_bytes here.world) → IsTurnTold notes xid reply
+        by_apart : IsCollisionFree (named_bytes here.world) → IsTurnTold notes xid reply
         by_apart apart =
             let may = refresh_may_turn here mine r notes (refresh_of refresh) kept_now.0 apart kept_now.1 found_now done in
             let definition = by_definition reply applied turn.0 refl in
-            let of = definition.2 (grounds_of (named_bytes here.world) h.taken c.began.knew) (known_of c.story p.name) apart may.0 may.1 in
+            let of = definition.2 (grounds_of (named_bytes here.world) h.taken c.began.knew) (known_of c.ghost_state p.name) apart may.0 may.1 in
             record {
               told = of.turned;
               replies = sym of.replies;
@@ -211,15 +211,15 @@ module _ {J : Type 0} (judges : Judges J) (c : Scene) (r : ℕ) (p : Participant
       abbrev SaysThen : Reply → Type 0
       SaysThen reply = IsStep judges c r new ⊥ (turned_world c.world mine (Ok turned) after) (given_by reply)
 
-      answered_step : (reply : Reply) (saving : Option Kept) (notes : List Note) (xid : ℕ) → HasRefreshed h.taken notes (refresh_of refresh) → Asks view h.taken.message xid (asked_of asked) → IsTurn (Answered reply turned.applied) saving
-          → IsLeft judges ⊥ (answered h.taken (said_of xid reply) notes after.agent.pending) new → SaysThen reply
+      answered_step : (reply : Reply) (saving : Option HssKept) (notes : List Note) (xid : ℕ) → HasRefreshed h.taken notes (refresh_of refresh) → Asks view h.taken.message xid (asked_of asked) → IsTurn (Answered reply turned.applied) saving
+          → IsLeft judges ⊥ (answered_by_turn h.taken (said_of xid reply) notes after.agent.pending) new → SaysThen reply
       answered_step reply saving notes xid done asks turn left =
           let t = turn_told_so notes xid reply turned.applied saving done asks turn in
           record {
             next = record {
               world = world_after here.world (record (after_turn mine after.agent saving) { work = turned.applied });
-              story = turn_told here mine view after.agent t.told;
-              session = answered h.taken (said_of xid reply) notes after.agent.pending;
+              ghost_state = turn_told here mine view after.agent t.told;
+              session = answered_by_turn h.taken (said_of xid reply) notes after.agent.pending;
               began = c.began;
             };
             steps = acts p h.taken cache _ is.is_by h.takes
@@ -230,10 +230,10 @@ module _ {J : Type 0} (judges : Judges J) (c : Scene) (r : ℕ) (p : Participant
             gives = refl;
           }
 
-      by_reply : (reply : Reply) (saving : Option Kept) → turned.posts ≡ after.agent.pending → IsTurn (Answered reply turned.applied) saving → code.IsAnswered judges mid new h.taken turned reply → SaysThen reply
+      by_reply : (reply : Reply) (saving : Option HssKept) → turned.posts ≡ after.agent.pending → IsTurn (Answered reply turned.applied) saving → code.IsAnswered judges mid new h.taken turned reply → SaysThen reply
       by_reply reply saving posts turn a =
           answered_step reply saving a.notes a.xid (done_so a.notes a.given a.refreshed) (asks_so a.xid a.asked a.asks) turn
-          (⊎_elim (λ session. left_on (subst (λ (pending : List Post). IsSession judges (answered h.taken (said_of a.xid reply) a.notes pending) new) posts session) (λ waits. absurd (waits free)) past) (λ cut. left_cut cut.0) a.publishes)
+          (⊎_elim (λ session. left_on (subst (λ (pending : List Post). IsSession judges (answered_by_turn h.taken (said_of a.xid reply) a.notes pending) new) posts session) (λ waits. absurd (waits free)) past) (λ cut. left_cut cut.0) a.publishes)
 
       abbrev Gave : Type 0
       Gave = GivesTurn p view refresh asked c.world.now (Ok turned) after
@@ -243,19 +243,19 @@ module _ {J : Type 0} (judges : Judges J) (c : Scene) (r : ℕ) (p : Participant
 
       -- the reply is the one that its bytes are
       module _ (answers_are : AnswersAreReplies) (plans_are : PlansAreReplies) (finishes_are : FinishesAreReplies) (sets_make : SetsMakeTrees) (read : Reply) (fits : IsFittingReply asked.args read) (same : turned.reply ≡ bytes_of read) where
-        saved_agent : IsKept (kept_of p.agent)
+        saved_agent : IsHssKept (kept_of p.agent)
         saved_agent = (each (IsKeptSo IsSavedWell) c.world.participants p keeps.saved (found_named c.world.participants c.session.by p is.is_by).0).3.agent
 
-        well : IsView view × Contains view.members (own p.agent)
+        well : IsView view × Contains view.members (own_hss_key p.agent)
         well = by p.agent.view in_view saved_agent.view
           where
-            by : (o : Option View) → o ≡ Some view → IfSome o (λ v. IsView v × HasKeys v × Contains v.members (own p.agent) × AllByRecursion (λ e. IsTrue (is_named v e.0)) p.agent.floor) → IsView view × Contains view.members (own p.agent)
+            by : (o : Option View) → o ≡ Some view → IfSome o (λ v. IsView v × HasKeys v × Contains v.members (own_hss_key p.agent) × AllByRecursion (λ e. IsTrue (is_named v e.0)) p.agent.floor) → IsView view × Contains view.members (own_hss_key p.agent)
             by None none g = cc none
-            by (Some v) e g = subst (λ (x : View). IsView x × Contains x.members (own p.agent)) (same_view v view e) (g.0, g.2)
+            by (Some v) e g = subst (λ (x : View). IsView x × Contains x.members (own_hss_key p.agent)) (same_view v view e) (g.0, g.2)
 
-        read_turn : (reply : Reply) (saving : Option Kept) → turned.reply ≡ bytes_of reply → IsTurn (Answered reply turned.applied) saving → IsTurn (Answered read turned.applied) saving
+        read_turn : (reply : Reply) (saving : Option HssKept) → turned.reply ≡ bytes_of reply → IsTurn (Answered reply turned.applied) saving → IsTurn (Answered read turned.applied) saving
         read_turn reply saving bytes turn = (
-          reply_of answers_are plans_are finishes_are sets_make hss IsSigner (refresh_of refresh) p.agent view (fails_next p.keeper) (asked_of asked) c.world.now saved_agent well call.caller call.args
+          reply_of answers_are plans_are finishes_are sets_make hss_signing IsSigner (refresh_of refresh) p.agent view (fails_next p.keeper) (asked_of asked) c.world.now saved_agent well call.caller call.args
               keeps.moment call.asks.not_alone reply read fits (sym same ∙ bytes) turned.applied refl turn.0,
           turn.1,
         )
@@ -265,21 +265,21 @@ module _ {J : Type 0} (judges : Judges J) (c : Scene) (r : ℕ) (p : Participant
 
     -- ---- it was refused
 
-    module _ (end : TurnEnd) (refusal : IsRefusal end) (saving : Option Kept) (turn : IsTurn end saving) where
-      refused_step : (t : Session) → TakesTurn (turning_of c.world p view) h.taken end after.agent saving t → IsLeft judges (c.session.starts < 2) t new → given_at t.stage ≡ given_of None → IsStep judges c r new (c.session.starts < 2) (world_after c.world (turned_participant mine after)) (given_of None)
+    module _ (end : TurnEnd) (refusal : IsRefusal end) (saving : Option HssKept) (turn : IsTurn end saving) where
+      refused_step : (t : Session) → TakesHssTurn (turning_of c.world p view) h.taken end after.agent saving t → IsLeft judges (c.session.starts < 2) t new → given_at t.stage ≡ given_of None → IsStep judges c r new (c.session.starts < 2) (world_after c.world (turned_participant mine after)) (given_of None)
       refused_step t takes left gives = record {
-        next = record here { world = world_after here.world (after_turn mine after.agent saving); session = t; began = record c.began { knew = known_of c.story p.name } };
+        next = record here { world = world_after here.world (after_turn mine after.agent saving); session = t; began = record c.began { knew = known_of c.ghost_state p.name } };
         steps = acts p h.taken cache _ is.is_by h.takes (is_refused view end after.agent saving t in_view refusal takes);
         left = left;
         world = same_after c.world mine (after_turn mine after.agent saving) refl ∙ ap (λ (q : Participant). world_after c.world q) (same_turned mine after saving turn.1);
         gives = gives;
       }
 
-      anew_step : h.taken.starts < 2 → IsLeft judges (c.session.starts < 2) (anew h.taken (anew_in hss after.agent view)) new → IsStep judges c r new (c.session.starts < 2) (world_after c.world (turned_participant mine after)) (given_of None)
-      anew_step few left = refused_step (anew h.taken (anew_in hss after.agent view))
-          (begins_anew h.notes (refresh_of refresh) call.xid (asked_of asked) end after.agent saving h.done call.asks turn.0 refusal few) left (ap given_at h.done.0)
+      anew_step : h.taken.starts < 2 → IsLeft judges (c.session.starts < 2) (anew h.taken (begun_again_in hss_signing after.agent view)) new → IsStep judges c r new (c.session.starts < 2) (world_after c.world (turned_participant mine after)) (given_of None)
+      anew_step few left = refused_step (anew h.taken (begun_again_in hss_signing after.agent view))
+          (begins_again h.notes (refresh_of refresh) call.xid (asked_of asked) end after.agent saving h.done call.asks turn.0 refusal few) left (ap given_at h.done.0)
 
-      by_refusal : (standing : ModelStanding) → standing ≡ anew_in hss after.agent view → code.IsRefused judges mid new h.taken standing → IsStep judges c r new (c.session.starts < 2) (world_after c.world (turned_participant mine after)) (given_of None)
+      by_refusal : (standing : ModelStanding) → standing ≡ begun_again_in hss_signing after.agent view → code.IsRefused judges mid new h.taken standing → IsStep judges c r new (c.session.starts < 2) (world_after c.world (turned_participant mine after)) (given_of None)
       by_refusal standing same (code_begins few session) = anew_step few (left_on (subst (λ (s : ModelStanding). IsSession judges (anew h.taken s) new) same session) (λ waits. absurd (waits free)) past)
       by_refusal standing same (code_lacks t few lacking session) = anew_step few (left_lacking t (subst (λ (n : ℕ). n < 2) starts_are few) (subst (λ (s : ModelStanding). LacksMemory (anew h.taken s) t) same lacking) session)
       by_refusal standing same (code_gives_up xid notes given other many done asks session) =
@@ -327,18 +327,18 @@ replies_are_read answers_are plans_are finishes_are sets_make judges c r p old m
 -- ---- after a refusal
 
 -- the standing has no snapshot to load
-fresh_so : (v : View) (a : Agent) (standing : Standing) → standing_of standing ≡ anew_in hss a v → standing.basis ≡ None
+fresh_so : (v : View) (a : HssAgent) (standing : Standing) → standing_of standing ≡ begun_again_in hss_signing a v → standing.basis ≡ None
 fresh_so v a standing e = ap (λ (s : ModelStanding). s.to_load) e
 
 pub refusals_are_fresh : RefusalsAreFresh
 refusals_are_fresh p refresh asked now turned after some had = by p.agent.view some had
   where
-    of : (v : View) (t : Result Turned TurnFault) → GivesTurn p v refresh asked now t after → IfErr t IsAnewFor
+    of : (v : View) (t : Result Turned TurnFault) → GivesTurn p v refresh asked now t after → IfErr t IsAgainFor
     of v (Ok done) h = tt
     of v (Err fault.Memory) h = tt
     of v (Err (fault.Behind standing)) h = fresh_so v after.agent standing h.1
     of v (Err (fault.BelowTide standing)) h = fresh_so v after.agent standing h.1
 
-    by : (o : Option View) → IsSomeAnd o (λ view. Unit {0}) → IfSome o (λ view. GivesTurn p view refresh asked now turned after) → IfErr turned IsAnewFor
+    by : (o : Option View) → IsSomeAnd o (λ view. Unit {0}) → IfSome o (λ view. GivesTurn p view refresh asked now turned after) → IfErr turned IsAgainFor
     by None none h = absurd none
     by (Some v) is h = of v turned h

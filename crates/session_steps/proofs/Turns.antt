@@ -6,7 +6,7 @@ use Rattle.hash_signature_model.specs.Signer.{Signer}
 use Rattle.log_heads.specs.declared.judge.HssJudge.{HssJudge}
 use Rattle.log_model.specs.View.{View}
 use Rattle.agent_model.specs.Turning.{BelowTide, Behind, TurnEnd}
-use Rattle.session_model.specs.Courses.{LacksMemory}
+use Rattle.session_model.specs.Executions.{LacksMemory}
 use Rattle.session_model.specs.Sessions.{Cache, Refreshing, Session}
 use Rattle.log_fetch.specs.declared.asked.Asked.{Asked}
 use Rattle.log_fetch.specs.declared.refresh.Refresh.{Refresh}
@@ -30,18 +30,18 @@ use Rattle.script_model.specs.Messages.{Given}
 use Rattle.script_participants.specs.ParticipantState.{ParticipantState, counting, state_of}
 use Rattle.script_participants.specs.Turning.{HasTurn, TakesTurn, work_after}
 use Rattle.world_model.specs.Keepers.{Keeper}
-use Rattle.world_model.specs.Steps.{Scene, met_by, world_after}
+use Rattle.world_model.specs.Steps.{Configuration, met_by, world_after}
 use Rattle.world_model.specs.World.{Participant, World, with_participant}
-use Rattle.world_laws.specs.Keeps.{IsAtPuts, IsInHand}
-use Rattle.session_steps.specs.Scenes.{GivesTurn, GivesTurnThere, HadTurn, IsSceneOf, IsStep, given_at, given_by, given_of, turned_participant}
-use Rattle.session_steps.specs.Showing.{CallState, HasScene, IsUnderWay, IsUntold, Shown, Shows, StepsTo, judges, shown}
-use Rattle.session_steps.specs.Within.{BeginsAnew, CountsAsMade, HasNext, HasTurned, Laws, LeftBy, MayTurn}
-use Rattle.session_steps.proofs.Scenes.{IsLeftSo, by_step, left_is, same_nodes, scene_of, untold}
+use Rattle.world_laws.specs.Invariant.{IsAtPuts, IsInHand}
+use Rattle.session_steps.specs.Configurations.{GivesTurn, GivesTurnThere, HadTurn, IsConfigurationOf, IsStep, given_at, given_by, given_of, turned_participant}
+use Rattle.session_steps.specs.Representing.{CallState, HasConfiguration, IsInProgress, IsUntold, Shown, Represents, StepsTo, judges, shown}
+use Rattle.session_steps.specs.Within.{BeginsAgain, CountsAsMade, HasNext, HasTurned, Laws, LeftBy, MayTurn}
+use Rattle.session_steps.proofs.Configurations.{IsLeftSo, by_step, left_is, same_nodes, configuration_of, untold}
 use Rattle.session_steps.proofs.Asks.{wants_there, with_cache}
 
 -- ---- where a turn is wanted, the session refreshes
 
--- and in code too it began anew so often
+-- and in code too it began again so often
 turn_at : {old new : SessionState HssJudge} {s : Session} {before after : Cache} {refresh : Refresh} → NextIs judges old new s before after (next.Turn refresh) → (s.stage ≡ Refreshing) × (new.starts ≡ s.starts)
 turn_at (turns t notes refresh takes session turning refreshed batch) = (
   sym (ap (λ (u : Session). u.stage) (taken_same takes)) ∙ refreshed.0,
@@ -85,15 +85,15 @@ module _ (p : Participant) (cache : Cache) (view : View) (refresh : Refresh) (as
   gives (Err (fault.Behind standing)) after t = (had t.has_turn, t.anew)
   gives (Err (fault.BelowTide standing)) after t = (had t.has_turn, t.anew)
 
--- ---- of a scene that is shown
+-- ---- of a configuration that is represented
 
-module _ (c : Scene) (r : ℕ) (old : Shown) (way : IsUnderWay c r) (shows : Shows c r old) (none : old.call.told ≡ None) (mid : CallState) (between : ParticipantState) (laws : Laws) (refresh : Refresh)
+module _ (c : Configuration) (r : ℕ) (old : Shown) (way : IsInProgress c r) (shows : Represents c r old) (none : old.call.told ≡ None) (mid : CallState) (between : ParticipantState) (laws : Laws) (refresh : Refresh)
     (h : HasNext old.call mid old.who between (next.Turn refresh)) where
   is_untold : IsUntold c.session old.call
   is_untold = untold c.session old.call none shows.session
 
-  scene : IsSceneOf judges c r shows.p old.call.session
-  scene = scene_of c r old way shows is_untold
+  configuration : IsConfigurationOf judges c r shows.p old.call.session
+  configuration = configuration_of c r old way shows is_untold
 
   wants : IsNext judges old.call.session mid.session shows.p.cache between.cache (next.Turn refresh)
   wants = wants_there c r old way shows none mid between h
@@ -113,7 +113,7 @@ module _ (c : Scene) (r : ℕ) (old : Shown) (way : IsUnderWay c r) (shows : Sho
 
   pub turn_may_be : MayTurn mid between refresh old.now
   turn_may_be =
-      let may = laws.may_turn judges c r shows.p old.call.session mid.session between.cache refresh way.keeps hand scene wants in
+      let may = laws.may_turn judges c r shows.p old.call.session mid.session between.cache refresh way.keeps hand configuration wants in
       record {
         waits = may.0;
         batch = subst (λ (who : ParticipantState). IsSomeAnd who.agent.view (λ view. IsFetchedIn view refresh.batch)) is_mine may.1;
@@ -193,17 +193,17 @@ module _ (c : Scene) (r : ℕ) (old : Shown) (way : IsUnderWay c r) (shows : Sho
       untold = told_none;
     }
 
-    -- after a refusal it may have begun anew, and has done so
-    begun_anew : BeginsAnew mid new → (s u : Session) → c.session.starts < 2 → LacksMemory s u → IsSession judges u new.session → ⊥
-    begun_anew anew s u few lacking session =
+    -- after a refusal it may have begun again, and has done so
+    begun_again : BeginsAgain mid new → (s u : Session) → c.session.starts < 2 → LacksMemory s u → IsSession judges u new.session → ⊥
+    begun_again anew s u few lacking session =
         let over = lacking_is_over lacking in
         anew.begins (subst (λ (n : ℕ). n < 2) (sym at.1) few) (over_asks_nothing judges u new.session over.0 over.1 session)
 
     refused_so : (end : TurnEnd) (given : Given) → state_of (turned_with (work_after end mine.work)) ≡ counting t.mid → work_after end mine.work ≡ mine.work → IsStep judges c r new.session (c.session.starts < 2) (world_after c.world (turned_participant mine (holder t.mid))) given
-        → given ≡ given_of None → CountsAsMade t.mid after old.met later → BeginsAnew mid new → StepsTo c r then_shown
+        → given ≡ given_of None → CountsAsMade t.mid after old.met later → BeginsAgain mid new → StepsTo c r then_shown
     refused_so end given is same step nothing made anew =
         by_step c r old way shows laws then_shown (turned_with mine.work) (met_by c.world.met t.mid.agent.pending) is_untold step
-        (left_is step.left whole (λ u few lacking session. begun_anew anew step.next.session u few lacking session))
+        (left_is step.left whole (λ u few lacking session. begun_again anew step.next.session u few lacking session))
         (made_so mine.work given (subst (λ (work : ℕ). state_of (turned_with work) ≡ counting t.mid) same is) made (anew.given ∙ given_before ∙ sym nothing))
 
     -- ---- whatever it was
@@ -212,25 +212,25 @@ module _ (c : Scene) (r : ℕ) (old : Shown) (way : IsUnderWay c r) (shows : Sho
         → LeftBy mid new t.mid after old.met later turned → StepsTo c r then_shown
     by (Ok turned) took gave told left =
         let parts = left.1 asked.0 asked.1 in
-        let step = laws.read judges c r shows.p old.call.session mid.session new.session between.cache refresh asked.0 turned (holder t.mid) parts.reply way.keeps hand scene wants asked.1 gave told t.is_told.free t.is_told.no_turn
+        let step = laws.read judges c r shows.p old.call.session mid.session new.session between.cache refresh asked.0 turned (holder t.mid) parts.reply way.keeps hand configuration wants asked.1 gave told t.is_told.free t.is_told.no_turn
         parts.read.fits parts.read.spelled in
         by_step c r old way shows laws then_shown (turned_with turned.applied) (met_by c.world.met t.mid.agent.pending) is_untold step
         (left_is step.left whole (λ u may lacking session. may))
         (made_so turned.applied (given_by parts.reply) (counted shows.p between.cache took.0 refresh asked.0 old.now took.1.has_turn) left.0 (λ i. record { handle = parts.handle i; verifier = parts.verifier i }))
     by (Err fault.Memory) took gave told left =
-        let step = laws.turns judges c r shows.p old.call.session mid.session new.session between.cache refresh asked.0 (Err fault.Memory) (holder t.mid) way.keeps hand scene wants asked.1 gave told t.is_told.free t.is_told.no_turn in
+        let step = laws.turns judges c r shows.p old.call.session mid.session new.session between.cache refresh asked.0 (Err fault.Memory) (holder t.mid) way.keeps hand configuration wants asked.1 gave told t.is_told.free t.is_told.no_turn in
         by_step c r old way shows laws then_shown mine c.world.met is_untold step.1 (left_is step.1.left whole (λ u may lacking session. may)) (as_it_was step.0 (left.who ∙ took.1) left.blocks (left.given ∙ given_before ∙ sym step.2))
     by (Err (fault.Behind standing)) took gave told left =
-        let step = laws.turns judges c r shows.p old.call.session mid.session new.session between.cache refresh asked.0 (Err (fault.Behind standing)) (holder t.mid) way.keeps hand scene wants asked.1 gave told t.is_told.free t.is_told.no_turn in
+        let step = laws.turns judges c r shows.p old.call.session mid.session new.session between.cache refresh asked.0 (Err (fault.Behind standing)) (holder t.mid) way.keeps hand configuration wants asked.1 gave told t.is_told.free t.is_told.no_turn in
         refused_so Behind step.0 (counted shows.p between.cache took.0 refresh asked.0 old.now took.1.has_turn) refl step.1 step.2 left.0 left.1
     by (Err (fault.BelowTide standing)) took gave told left =
-        let step = laws.turns judges c r shows.p old.call.session mid.session new.session between.cache refresh asked.0 (Err (fault.BelowTide standing)) (holder t.mid) way.keeps hand scene wants asked.1 gave told t.is_told.free t.is_told.no_turn in
+        let step = laws.turns judges c r shows.p old.call.session mid.session new.session between.cache refresh asked.0 (Err (fault.BelowTide standing)) (holder t.mid) way.keeps hand configuration wants asked.1 gave told t.is_told.free t.is_told.no_turn in
         refused_so BelowTide step.0 (counted shows.p between.cache took.0 refresh asked.0 old.now took.1.has_turn) refl step.1 step.2 left.0 left.1
 
     -- the turn is a step
     pub turns_step : StepsTo c r then_shown
     turns_step = by t.turned took gave t.is_told.is_turned t.is_told.left
 
--- some scene is shown
-pub may_turn : Laws → (old : Shown) → HasScene old → old.call.told ≡ None → (mid : CallState) (between : ParticipantState) (refresh : Refresh) → HasNext old.call mid old.who between (next.Turn refresh) → MayTurn mid between refresh old.now
-may_turn laws old scene none mid between refresh h = turn_may_be scene.0 scene.1 old scene.2 scene.3 none mid between laws refresh h
+-- some configuration is represented
+pub may_turn : Laws → (old : Shown) → HasConfiguration old → old.call.told ≡ None → (mid : CallState) (between : ParticipantState) (refresh : Refresh) → HasNext old.call mid old.who between (next.Turn refresh) → MayTurn mid between refresh old.now
+may_turn laws old configuration none mid between refresh h = turn_may_be configuration.0 configuration.1 old configuration.2 configuration.3 none mid between laws refresh h

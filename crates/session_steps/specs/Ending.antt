@@ -8,13 +8,13 @@ use Rattle.ivy_session.specs.declared.served.Served.TheVariants as served
 use Rattle.script_model.specs.Messages.{Given}
 use Rattle.session_model.specs.Sessions.{Over, Said, Session}
 use Rattle.world_model.specs.Calls.{key_line, reply_line, shown_end}
-use Rattle.session_steps.specs.Showing.{CallState, ShowsSession}
+use Rattle.session_steps.specs.Representing.{CallState, RepresentsSession}
 
 -- ---- what is shown
 
 -- whichever session of a call it is, that is shown of its end
-abbrev pub IsShownOf : CallState → List ℕ → Type 0
-IsShownOf call text = (s : Session) (said : Said) → ShowsSession s call → s.stage ≡ Over (Some said) → text ≡ shown_end s said
+abbrev pub IsRepresentedOf : CallState → List ℕ → Type 0
+IsRepresentedOf call text = (s : Session) (said : Said) → RepresentsSession s call → s.stage ≡ Over (Some said) → text ≡ shown_end s said
 
 -- the line of how it ended
 abbrev pub served_line : Served → List ℕ
@@ -59,4 +59,4 @@ abbrev pub left_by : Said → Option Given
 left_by said = if is_some said.message then Some (record { handle = said.handle; verifier = said.verifier }) else None
 
 abbrev pub LeavesGiven : CallState → Option Given → Type 0
-LeavesGiven call given = (s : Session) (said : Said) → ShowsSession s call → s.stage ≡ Over (Some said) → given ≡ left_by said
+LeavesGiven call given = (s : Session) (said : Said) → RepresentsSession s call → s.stage ≡ Over (Some said) → given ≡ left_by said

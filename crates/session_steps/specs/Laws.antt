@@ -30,31 +30,33 @@ use Rattle.ivy_agent.specs.Turns.{IsFetchedIn, TakesTurn}
 use Rattle.ivy_session.specs.declared.served.Served.{Served}
 use Rattle.ivy_session.specs.declared.session.Next.TheVariants as next
 use Rattle.ivy_session.specs.States.{HasAsked, IsSession, SessionState, asked_at, is_turning, session_awaited}
-use Rattle.ivy_session.specs.Stepping.{AsksOf, IsAnewFor, IsBatchOf, IsHeard, IsNext, IsSameSession, IsTurned}
+use Rattle.ivy_session.specs.Stepping.{AsksOf, IsAgainFor, IsBatchOf, IsHeard, IsNext, IsSameSession, IsTurned}
 use Rattle.ring_nodes.specs.NodesState.{NodesState, IsNodesOf, with_nodes}
 use Rattle.script_model.specs.Messages.{Given}
-use Rattle.world_model.specs.Agents.{hss}
+use Rattle.world_model.specs.Agents.{hss_signing}
 use Rattle.world_model.specs.Fates.{FateOf}
 use Rattle.world_model.specs.Keepers.{Keeper}
 use Rattle.world_model.specs.World.{World, Participant, participant, peer_of, with_participant}
-use Rattle.world_model.specs.Steps.{Scene, Steps}
-use Rattle.world_laws.specs.Keeps.{GoesOn, IsInHand, Keeps, OnlyPublishes}
-use Rattle.session_steps.specs.Scenes.{GivesTurn, GivesTurnThere, IsDone, IsSceneOf, IsStep, MayLack, given_at, given_by, given_of}
-use Rattle.session_steps.specs.Scenes.{holder_of, memory_saves, turned_world}
+use Rattle.world_model.specs.Steps.{Configuration, Steps}
+use Rattle.world_laws.specs.Invariant.{GoesOn, IsInHand, Invariant, OnlyPublishes}
+use Rattle.session_steps.specs.Configurations.{GivesTurn, GivesTurnThere, IsDone, IsConfigurationOf, IsStep, MayLack, given_at, given_by}
+use Rattle.session_steps.specs.Configurations.{given_of}
+use Rattle.session_steps.specs.Configurations.{holder_of, memory_saves, turned_world}
 
--- ---- scenes
+-- ---- configurations
 
 -- A step is of one call: whose it is, its message, the nodes that it knows and its number stay.
 abbrev pub StepsAreOfOneCall : Type 0
-StepsAreOfOneCall = (r : ℕ) (name : List ℕ) (c next : Scene) → Steps hss_judged r name c next
+StepsAreOfOneCall = (r : ℕ) (name : List ℕ) (c next : Configuration) → Steps hss_judged r name c next
     → (next.session.by ≡ c.session.by) × (next.session.message ≡ c.session.message) × (next.session.entries ≡ c.session.entries)
     × (next.began.number ≡ c.began.number)
 
--- so the scene after it is one of the session in code again
-abbrev pub ScenesGoOn : Type 0 → Type 0
-ScenesGoOn J = (judges : Judges J) (c next : Scene) (r : ℕ) (p q : Participant) (old new : SessionState J) → IsSceneOf judges c r p old
+-- so the configuration after it is one of the session in code again
+abbrev pub ConfigurationsGoOn : Type 0 → Type 0
+ConfigurationsGoOn J = (judges : Judges J) (c next : Configuration) (r : ℕ) (p q : Participant) (old new : SessionState J)
+    → IsConfigurationOf judges c r p old
     → IsSameSession old new → Steps hss_judged r c.session.by c next
-    → participant next.world c.session.by ≡ Some q → IsSession judges next.session new → IsSceneOf judges next r q new
+    → participant next.world c.session.by ≡ Some q → IsSession judges next.session new → IsConfigurationOf judges next r q new
 
 -- ---- asks
 
@@ -65,16 +67,17 @@ AskedAreMade = (w : World) (r : ℕ) (s : Session) (node : Peer) (question : Ask
 
 -- so does a session in code
 abbrev pub NextAskedAreMade : Type 0 → Type 0
-NextAskedAreMade J = (judges : Judges J) (c : Scene) (r : ℕ) (p : Participant) (old new : SessionState J) (after : Cache) (node : Peer)
+NextAskedAreMade J = (judges : Judges J) (c : Configuration) (r : ℕ) (p : Participant) (old new : SessionState J) (after : Cache)
+    (node : Peer)
     (question : Ask)
-    → IsSceneOf judges c r p old → GoesOn c.world r c.session ⊎ OnlyPublishes c.world r c.session
+    → IsConfigurationOf judges c r p old → GoesOn c.world r c.session ⊎ OnlyPublishes c.world r c.session
     → IsNext judges old new p.cache after (next.Ask node question) → IsAmong node (map peer_of c.world.nodes)
 
 -- An ask, whose answer or silence it hears, is a step.
 abbrev pub AsksAreSteps : Type 0 → Type 0
-AsksAreSteps J = (judges : Judges J) (c : Scene) (r : ℕ) (p : Participant) (old mid new : SessionState J) (between after : Cache)
+AsksAreSteps J = (judges : Judges J) (c : Configuration) (r : ℕ) (p : Participant) (old mid new : SessionState J) (between after : Cache)
     (node : Peer) (question : Ask) (answer : Answer) (before later : NodesState)
-    → IsSceneOf judges c r p old → HasAsked old c.session → IsNext judges old mid p.cache between (next.Ask node question)
+    → IsConfigurationOf judges c r p old → HasAsked old c.session → IsNext judges old mid p.cache between (next.Ask node question)
     → IsNodesOf c.world before → ((w : World) → IsNodesOf w before → FateOf hss_judged w node question answer (with_nodes w later))
     → IsHeard judges mid new between after (Ok answer) → is_turning new.stage ≡ false
     → IsStep judges c r new ⊥ (with_participant (with_nodes c.world later) (record p { cache = after })) (given_at c.session.stage)
@@ -87,8 +90,10 @@ BatchesAreFetched = (s : ModelStanding) (b : Batch) → IsBatchOf s b → IsFetc
 
 -- Where a turn is wanted, the session waits for it, and its agent may have it on what the session is asked.
 abbrev pub TurnsMayBe : Type 0 → Type 0
-TurnsMayBe J = (judges : Judges J) (c : Scene) (r : ℕ) (p : Participant) (old mid : SessionState J) (after : Cache) (refresh : Refresh)
-    → Keeps (c.world, c.story) → IsInHand c r → IsSceneOf judges c r p old → IsNext judges old mid p.cache after (next.Turn refresh)
+TurnsMayBe J = (judges : Judges J) (c : Configuration) (r : ℕ) (p : Participant) (old mid : SessionState J) (after : Cache)
+    (refresh : Refresh)
+    → Invariant (c.world, c.ghost_state) → IsInHand c r → IsConfigurationOf judges c r p old
+    → IsNext judges old mid p.cache after (next.Turn refresh)
     → (is_turning mid.stage ≡ true) × IsSomeAnd p.agent.view (λ view. IsFetchedIn view refresh.batch)
     × IfSome refresh.basis (λ basis. HasBounds basis.tree)
     × ((asked : Asked) → asked_at mid.stage ≡ Some asked → IsCall (asked_of asked) c.world.now)
@@ -97,14 +102,14 @@ TurnsMayBe J = (judges : Judges J) (c : Scene) (r : ℕ) (p : Participant) (old 
 abbrev pub AgentsGiveTurns : Type 0
 AgentsGiveTurns = (p : Participant) (view : View) (refresh : Refresh) (asked : Asked) (now : Moment) (turned : Result Turned TurnFault)
     (after : Holder Keeper Signer)
-    → TakesTurn hss IsSigner memory_saves view (refresh_of refresh) (asked_of asked) now (holder_of p) turned after
+    → TakesTurn hss_signing IsSigner memory_saves view (refresh_of refresh) (asked_of asked) now (holder_of p) turned after
     → GivesTurn p view refresh asked now turned after
 
--- after a turn that is refused a session begins anew without a snapshot to load
+-- after a turn that is refused a session begins again without a snapshot to load
 abbrev pub RefusalsAreFresh : Type 0
 RefusalsAreFresh = (p : Participant) (refresh : Refresh) (asked : Asked) (now : Moment) (turned : Result Turned TurnFault)
     (after : Holder Keeper Signer)
-    → IsSomeAnd p.agent.view (λ view. Unit {0}) → GivesTurnThere p refresh asked now turned after → IfErr turned IsAnewFor
+    → IsSomeAnd p.agent.view (λ view. Unit {0}) → GivesTurnThere p refresh asked now turned after → IfErr turned IsAgainFor
 
 -- where there was no turn nothing is given
 abbrev pub GivesNothing : Result Turned TurnFault → Given → Type 0
@@ -113,9 +118,10 @@ GivesNothing (Err fault) given = given ≡ given_of None
 
 -- Whatever comes of the turn, and whatever the session makes of it, is a step.
 abbrev pub TurnsAreSteps : Type 0 → Type 0
-TurnsAreSteps J = (judges : Judges J) (c : Scene) (r : ℕ) (p : Participant) (old mid new : SessionState J) (cache : Cache)
+TurnsAreSteps J = (judges : Judges J) (c : Configuration) (r : ℕ) (p : Participant) (old mid new : SessionState J) (cache : Cache)
     (refresh : Refresh) (asked : Asked) (turned : Result Turned TurnFault) (after : Holder Keeper Signer)
-    → Keeps (c.world, c.story) → IsInHand c r → IsSceneOf judges c r p old → IsNext judges old mid p.cache cache (next.Turn refresh)
+    → Invariant (c.world, c.ghost_state) → IsInHand c r → IsConfigurationOf judges c r p old
+    → IsNext judges old mid p.cache cache (next.Turn refresh)
     → asked_at mid.stage ≡ Some asked → GivesTurnThere p refresh asked c.world.now turned after → IsTurned judges mid new turned
     → session_awaited new ≡ None → is_turning new.stage ≡ false
     → (given : Given) × IsStep judges c r new (MayLack c.session.starts turned)
@@ -123,9 +129,10 @@ TurnsAreSteps J = (judges : Judges J) (c : Scene) (r : ℕ) (p : Participant) (o
 
 -- Where the bytes of its turn are read as a reply of the call's procedure, that is what the session says then.
 abbrev pub RepliesAreRead : Type 0 → Type 0
-RepliesAreRead J = (judges : Judges J) (c : Scene) (r : ℕ) (p : Participant) (old mid new : SessionState J) (cache : Cache)
+RepliesAreRead J = (judges : Judges J) (c : Configuration) (r : ℕ) (p : Participant) (old mid new : SessionState J) (cache : Cache)
     (refresh : Refresh) (asked : Asked) (turned : Turned) (after : Holder Keeper Signer) (read : Reply)
-    → Keeps (c.world, c.story) → IsInHand c r → IsSceneOf judges c r p old → IsNext judges old mid p.cache cache (next.Turn refresh)
+    → Invariant (c.world, c.ghost_state) → IsInHand c r → IsConfigurationOf judges c r p old
+    → IsNext judges old mid p.cache cache (next.Turn refresh)
     → asked_at mid.stage ≡ Some asked → GivesTurnThere p refresh asked c.world.now (Ok turned) after → IsTurned judges mid new (Ok turned)
     → session_awaited new ≡ None → is_turning new.stage ≡ false
     → IsFittingReply asked.args read → turned.reply ≡ bytes_of read
@@ -135,12 +142,13 @@ RepliesAreRead J = (judges : Judges J) (c : Scene) (r : ℕ) (p : Participant) (
 
 -- That its agent drops what was acknowledged is a step.
 abbrev pub SettlingsAreSteps : Type 0 → Type 0
-SettlingsAreSteps J = (judges : Judges J) (c : Scene) (r : ℕ) (p : Participant) (old new : SessionState J) (after : Cache) (acks : List Ack)
-    → IsSceneOf judges c r p old → IsNext judges old new p.cache after (next.Settle acks)
+SettlingsAreSteps J = (judges : Judges J) (c : Configuration) (r : ℕ) (p : Participant) (old new : SessionState J) (after : Cache)
+    (acks : List Ack)
+    → IsConfigurationOf judges c r p old → IsNext judges old new p.cache after (next.Settle acks)
     → IsStep judges c r new ⊥ (with_participant c.world (record p { agent = settled p.agent acks; cache = after }))
     (given_at c.session.stage)
 
--- A session in code is done where it is over, or memory is wanting.
+-- A session in code is done where it is over, or memory runs out.
 abbrev pub DoneIsOver : Type 0 → Type 0
-DoneIsOver J = (judges : Judges J) (c : Scene) (r : ℕ) (p : Participant) (old new : SessionState J) (after : Cache) (told : Served)
-    → IsSceneOf judges c r p old → IsNext judges old new p.cache after (next.Done told) → IsDone c r p new after told
+DoneIsOver J = (judges : Judges J) (c : Configuration) (r : ℕ) (p : Participant) (old new : SessionState J) (after : Cache) (told : Served)
+    → IsConfigurationOf judges c r p old → IsNext judges old new p.cache after (next.Done told) → IsDone c r p new after told

@@ -1,6 +1,6 @@
-pub mod Scenes
+pub mod Configurations
 pub mod Laws
-pub mod Showing
+pub mod Representing
 pub mod Ending
 pub mod Within
 pub mod MetState

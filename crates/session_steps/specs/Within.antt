@@ -1,4 +1,4 @@
--- What the calls within a step of a call in code say, and the laws by which that is a step of each scene that is shown.
+-- What the calls within a step of a call in code say, and the laws by which that is a step of each configuration that is represented.
 use Rattle.std.specs.Prelude.{◌≡◌, ◌≢◌, ◌<◌, ◌+◌, ℕ, is_some, if◌then◌else◌, true, false, List, Some, None, Result, Ok, Err, IfSome}
 use Rattle.std.specs.Prelude.{IsSomeAnd}
 use Rattle.ivy_base.specs.declared.operation.Moment.{Moment}
@@ -27,12 +27,12 @@ use Rattle.command_messages.specs.Reading.{GivesParts}
 use Rattle.script_participants.specs.ParticipantState.{ParticipantState, counting}
 use Rattle.script_participants.specs.Turning.{TakesTurn}
 use Rattle.world_model.specs.Fates.{FateOf}
-use Rattle.world_model.specs.Steps.{RunsOut, Scene, StepsOn, met_by}
+use Rattle.world_model.specs.Steps.{RunsOut, Configuration, StepsOn, met_by}
 use Rattle.world_model.specs.World.{World}
 use Rattle.world_laws.specs.Laws.{PublishingKeeps, StepsKeep}
 use Rattle.session_steps.specs.Laws.{AsksAreSteps, DoneIsOver, NextAskedAreMade, RepliesAreRead, SettlingsAreSteps, StepsAreOfOneCall}
 use Rattle.session_steps.specs.Laws.{TurnsAreSteps, TurnsMayBe}
-use Rattle.session_steps.specs.Showing.{CallState, IsUnderWay, Leaves, Shown, Shows, StepsFrom, judges}
+use Rattle.session_steps.specs.Representing.{CallState, IsInProgress, Leaves, Shown, Represents, StepsFrom, judges}
 
 -- ---- the laws
 
@@ -108,8 +108,8 @@ pub record CountsAsMade (before after : ParticipantState) (met later : MetState)
   pub counts : after ≡ counting before
   pub is_met : (blocks : List (List ℕ)) → AreMet blocks met → AreMet (met_by blocks before.agent.pending) later
 
--- where it may begin anew it does
-pub record BeginsAnew (old new : CallState) : Type 0 where
+-- where it may begin again it does
+pub record BeginsAgain (old new : CallState) : Type 0 where
   pub given : new.given ≡ old.given
   pub begins : old.session.starts < 2 → asked_at new.session.stage ≢ None
 
@@ -123,8 +123,8 @@ module _ (old new : CallState) (before after : ParticipantState) (met later : Me
   abbrev pub LeftBy : Result Turned TurnFault → Type 0
   LeftBy (Ok turned) = CountsAsMade before after met later × GivesOf old turned new
   LeftBy (Err fault.Memory) = IsLeftAsIs
-  LeftBy (Err (fault.Behind standing)) = CountsAsMade before after met later × BeginsAnew old new
-  LeftBy (Err (fault.BelowTide standing)) = CountsAsMade before after met later × BeginsAnew old new
+  LeftBy (Err (fault.Behind standing)) = CountsAsMade before after met later × BeginsAgain old new
+  LeftBy (Err (fault.BelowTide standing)) = CountsAsMade before after met later × BeginsAgain old new
 
 -- the session is told what came of its turn, and no node is to be heard then
 pub record IsToldOf (turned : Result Turned TurnFault) (old new : CallState) (before after : ParticipantState)
@@ -146,27 +146,28 @@ pub record HasTurned (refresh : Refresh) (now : Moment) (old new : CallState) (b
 
 -- ---- one step
 
--- where memory is left for what is still to be put, it is a step of whichever scene was shown; and less is left
+-- where memory is left for what is still to be put, it is a step of whichever configuration was represented; and less is left
 pub record IsArm (old new : Shown) : Type 0 where
   pub steps : new.call.session.is_cut ≡ false → StepsFrom old new
   pub less : left_to new.call < left_to old.call
 
 -- ---- many steps
 
--- From each scene under way that was shown one is reached that is shown now; and whatever the rest leads to from there, all lead to from
--- the first.
-pub record IsReached (Rest All : List ℕ → Scene → Scene → Type 0) (c : Scene) (r : ℕ) (now : Shown) : Type 0 where
-  pub mid : Scene
-  pub way : IsUnderWay mid r
+-- From each configuration in progress that was represented one is reached that is represented now; and whatever the rest leads to from
+-- there, all lead to from the first.
+pub record IsReached (Rest All : List ℕ → Configuration → Configuration → Type 0) (c : Configuration) (r : ℕ) (now : Shown) : Type 0 where
+  pub mid : Configuration
+  pub way : IsInProgress mid r
   pub leaves : Leaves c r now mid
   pub by : mid.session.by ≡ c.session.by
-  pub goes : (end : Scene) → Rest c.session.by mid end → All c.session.by c end
+  pub goes : (end : Configuration) → Rest c.session.by mid end → All c.session.by c end
 
 -- so many steps are left of so many
 abbrev pub Reaches : ℕ → ℕ → Shown → Shown → Type 0
-Reaches left count old now = (c : Scene) (r : ℕ) → IsUnderWay c r → Shows c r old
+Reaches left count old now = (c : Configuration) (r : ℕ) → IsInProgress c r → Represents c r old
     → IsReached (λ name. StepsOn hss_judged r name left) (λ name. StepsOn hss_judged r name count) c r now
 
 -- all steps up to the end are left
 abbrev pub ReachesOn : Shown → Shown → Type 0
-ReachesOn old now = (c : Scene) (r : ℕ) → IsUnderWay c r → Shows c r old → IsReached (RunsOut hss_judged r) (RunsOut hss_judged r) c r now
+ReachesOn old now = (c : Configuration) (r : ℕ) → IsInProgress c r → Represents c r old
+    → IsReached (RunsOut hss_judged r) (RunsOut hss_judged r) c r now

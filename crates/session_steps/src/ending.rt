@@ -3,7 +3,7 @@
 ghost use Rattle.std.specs.Prelude.{◌≡◌, ◌≢◌, ◌++◌, ◌∷◌, [], None, codes, filter, IfOk, OnOk};
 ghost use Rattle.std.specs.List.{flat_map};
 ghost use Rattle.world_model.specs.Calls.{key_line, reply_line};
-ghost use Rattle.session_steps.specs.Ending.{IsShownOf, LeavesGiven, is_miss, is_shown, note_key, note_line, note_word, served_line};
+ghost use Rattle.session_steps.specs.Ending.{IsRepresentedOf, LeavesGiven, is_miss, is_shown, note_key, note_line, note_word, served_line};
 
 use crate::open::OpenCall;
 use command_messages::ReplyParts;
@@ -15,10 +15,10 @@ use std::mem;
 
 impl OpenCall {
     /// What a line shows of it, once it is over: its reply, or that it has none, why its refresh failed, where it did, and what
-    /// was noted of logs. The error is want of memory.
+    /// was noted of logs. The error is: out of memory.
     pub fn shown(&self, alloc: Global) -> Result<Vec<u8>, Memory>
         requires { self.now.told ≢ None }
-        ensures { IfOk result (λ text. IsShownOf self.now text.items) }
+        ensures { IfOk result (λ text. IsRepresentedOf self.now text.items) }
     {
         let Some(told) = &self.told else {
             unreachable!();
@@ -46,7 +46,7 @@ impl OpenCall {
     }
 }
 
-/// Adds the line of how a session ended; that of posts alone has none. The error is want of memory.
+/// Adds the line of how a session ended; that of posts alone has none. The error is: out of memory.
 fn put_served(alloc: Global, text: &mut Vec<u8>, told: &Served) -> Result<(), Memory>
     ensures { OnOk result (text.new.items ≡ text.old.items ++ served_line told.now) }
 {
@@ -57,7 +57,7 @@ fn put_served(alloc: Global, text: &mut Vec<u8>, told: &Served) -> Result<(), Me
     }
 }
 
-/// Adds the line of a reply. The error is want of memory.
+/// Adds the line of a reply. The error is: out of memory.
 fn put_reply(alloc: Global, text: &mut Vec<u8>, message: &[u8]) -> Result<(), Memory>
     ensures { OnOk result (text.new.items ≡ text.old.items ++ reply_line message.now) }
 {
@@ -68,7 +68,7 @@ fn put_reply(alloc: Global, text: &mut Vec<u8>, message: &[u8]) -> Result<(), Me
     Ok(())
 }
 
-/// Adds the lines of what was missed, or of the other notes. The error is want of memory.
+/// Adds the lines of what was missed, or of the other notes. The error is: out of memory.
 fn put_notes(alloc: Global, text: &mut Vec<u8>, notes: &[Note], misses: bool) -> Result<(), Memory>
     ensures { OnOk result (text.new.items ≡ text.old.items ++ flat_map note_line (filter (is_shown misses) notes.now)) }
 {
@@ -87,7 +87,7 @@ fn is_shown(note: &Note, misses: bool) -> bool
     is_miss(note) == misses
 }
 
-/// Adds the line of a word and a key. The error is want of memory.
+/// Adds the line of a word and a key. The error is: out of memory.
 fn put_key(alloc: Global, text: &mut Vec<u8>, word: &[u8], key: &Key) -> Result<(), Memory>
     ensures { OnOk result (text.new.items ≡ text.old.items ++ key_line word.now key.now) }
 {

@@ -6,9 +6,9 @@
 //! world.
 //!
 //! For the layer above: an [`OpenCall`] is a session of one participant, with what its reply gives to later
-//! lines and what it has answered. It may represent many sessions of the definitions (`ShowsSession` in
-//! `specs/Showing.antt`). Together with the nodes, the participant, the blocks met and the moment it
-//! represents configurations of the definitions (`Shows`).
+//! lines and what it has answered. It may represent many sessions of the definitions (`RepresentsSession` in
+//! `specs/Representing.antt`). Together with the nodes, the participant, the blocks met and the moment it
+//! represents configurations of the definitions (`Represents`).
 //! - [`OpenCall::begin`] begins one with a message, [`OpenCall::publish`] one that only publishes.
 //! - [`OpenCall::step`] makes one step of each represented configuration in progress, or none where the call
 //!   is over (`StepsFrom`). [`OpenCall::step_on`] makes a number of steps, [`OpenCall::run_out`] all up to
@@ -20,11 +20,12 @@
 //! each block with its place, and speak of the list of the definitions that has the same blocks in the order
 //! in which they were met (`AreMet` in `specs/MetState.antt`). [`MetBlocks::in_order`] copies that list.
 //!
-//! Definitions: `specs/Scenes.antt`, `specs/Showing.antt`, `specs/Ending.antt`. Within: `specs/Laws.antt`
-//! (the laws' statements) and `specs/Within.antt` (the contracts of the calls within a step).
+//! Definitions: `specs/Configurations.antt`, `specs/Representing.antt`, `specs/Ending.antt`. Within:
+//! `specs/Laws.antt` (the laws' statements) and `specs/Within.antt` (the contracts of the calls within a
+//! step).
 //!
 //! Lemmas:
-//! - `proofs/Scenes.antt`: what is represented after a step of a configuration;
+//! - `proofs/Configurations.antt`: what is represented after a step of a configuration;
 //! - `proofs/Asks.antt`, `proofs/Turns.antt`, `proofs/Ends.antt`: whatever the session wants next, it is a
 //!   step;
 //! - `proofs/Arms.antt` and `proofs/Many.antt`: less is left after a step, and many steps;

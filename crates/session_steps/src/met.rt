@@ -41,7 +41,7 @@ impl MetBlocks {
         }
     }
 
-    /// Meets a block, which is copied where it is new. The error is want of memory, or 2^64 bytes; nothing is changed then.
+    /// Meets a block, which is copied where it is new. The error is: out of memory, or 2^64 bytes; nothing is changed then.
     pub fn meet(&mut self, alloc: Global, block: &[u8]) -> Result<(), Memory>
         ensures met { OnOk result ((met : List (List ℕ)) → AreMet met self.old → AreMet (meets met block.now) self.new) }
         ensures unchanged { OnErr result (self.new ≡ self.old) }
@@ -58,7 +58,7 @@ impl MetBlocks {
         Ok(())
     }
 
-    /// Meets the blocks of these posts. The error is want of memory, or 2^64 bytes; then the blocks of some first posts are met.
+    /// Meets the blocks of these posts. The error is: out of memory, or 2^64 bytes; then the blocks of some first posts are met.
     pub fn meet_all(&mut self, alloc: Global, posts: &[Post]) -> Result<(), Memory>
         ensures met { OnOk result ((met : List (List ℕ)) → AreMet met self.old → AreMet (met_by met posts.now) self.new) }
         ensures some { OnErr result ((count : ℕ) × ((met : List (List ℕ)) → AreMet met self.old → AreMet (met_by met (take count posts.now)) self.new)) }
@@ -76,7 +76,7 @@ impl MetBlocks {
         self.bytes
     }
 
-    /// Copies of the blocks, in the order in which they were met. The error is want of memory.
+    /// Copies of the blocks, in the order in which they were met. The error is: out of memory.
     pub fn in_order(&self, alloc: Global) -> Result<Vec<Bytes>, Memory>
         ensures { IfOk result (λ blocks. (met : List (List ℕ)) → AreMet met self.now → blocks.items ≡ met) }
     {
@@ -92,7 +92,7 @@ impl MetBlocks {
     }
 }
 
-/// So many blocks of no bytes. The error is want of memory.
+/// So many blocks of no bytes. The error is: out of memory.
 fn empty_blocks(alloc: Global, count: usize) -> Result<Vec<Bytes>, Memory>
     ensures { IfOk result (λ blocks. length blocks.items ≡ count) }
 {

@@ -1,11 +1,11 @@
-//! Calls under way.
+//! Calls in progress.
 
 ghost use Rattle.std.specs.Prelude.{◌≡◌, ◌≢◌, [], None, is_some, IfOk, IsSomeAnd};
 ghost use Rattle.world_model.specs.Logs.{to_publish};
 ghost use Rattle.world_model.specs.World.{Participant as Writer, World};
 ghost use Rattle.ring_nodes.specs.NodesState.{IsNodesOf};
 ghost use Rattle.script_participants.specs.ParticipantState.{state_of};
-ghost use Rattle.session_steps.specs.Showing.{BeginsIn, ShowsSession};
+ghost use Rattle.session_steps.specs.Representing.{BeginsIn, RepresentsSession};
 
 use command_messages::ReplyParts;
 use ivy_base::Memory;
@@ -35,7 +35,7 @@ impl Drop for OpenCall {
 }
 
 impl Model for OpenCall {
-    ghost use Rattle.session_steps.specs.Showing.{CallState};
+    ghost use Rattle.session_steps.specs.Representing.{CallState};
 
     ghost Value = { CallState };
 
@@ -44,7 +44,7 @@ impl Model for OpenCall {
 
 impl OpenCall {
     /// A call of a participant in a view, without a snapshot to load, that sends this message to a world of these nodes, of which
-    /// so many own a key. The error is want of memory.
+    /// so many own a key. The error is: out of memory.
     pub fn begin(
         alloc: Global,
         nodes: &RingNodes,
@@ -64,7 +64,7 @@ impl OpenCall {
         Ok(OpenCall::of(session))
     }
 
-    /// The publishing of all that a participant's agent has pending, likewise. The error is want of memory.
+    /// The publishing of all that a participant's agent has pending, likewise. The error is: out of memory.
     pub fn publish(
         alloc: Global,
         nodes: &RingNodes,
@@ -73,7 +73,7 @@ impl OpenCall {
     ) -> Result<OpenCall, Memory>
         requires nodes { nodes.now.nodes ≢ [] }
         ensures replicas { IfOk result (λ call. call.session.replicas ≡ replicas) }
-        ensures begun { IfOk result (λ call. (w : World) (p : Writer) → IsNodesOf w nodes.now → state_of p ≡ who.now → ShowsSession (to_publish w p) call) }
+        ensures begun { IfOk result (λ call. (w : World) (p : Writer) → IsNodesOf w nodes.now → state_of p ≡ who.now → RepresentsSession (to_publish w p) call) }
     {
         let entries = nodes.entries(alloc)?;
         let session = Session::publish(alloc, HssJudge, replicas, entries, who.pending())?;

@@ -2,16 +2,16 @@
 
 ghost use Rattle.std.specs.Prelude.{◌≡◌, ◌≢◌, ◌≤◌, ◌<◌, true, false, None, length, Ok, Err, IfOk, IfErr, OnOk};
 ghost use Rattle.ivy_session.specs.States.{asked_at, is_told, is_turning, session_awaited};
-ghost use Rattle.ivy_session.specs.Stepping.{IsAnewFor};
+ghost use Rattle.ivy_session.specs.Stepping.{IsAgainFor};
 ghost use Rattle.session_steps.specs.MetState.{MetState};
 ghost use Rattle.script_participants.specs.ParticipantState.{ParticipantState};
-ghost use Rattle.session_steps.specs.Showing.{HasScene, ManyStepsFrom, RunsOutFrom, StepsFrom, shown};
+ghost use Rattle.session_steps.specs.Representing.{HasConfiguration, ManyStepsFrom, RunsOutFrom, StepsFrom, shown};
 ghost use Rattle.session_steps.specs.Within.{CountsAsMade, GivesOf, HasAskedOf, HasHeard, HasNext, HasTurned, IsArm, IsToldOf, Laws, MayAsk, MayTurn, TookTurn, left_to};
 ghost use Rattle.nfs_model.specs.Results.{longest_result};
 
 use crate::MetBlocks;
 use crate::laws::{
-    asked_nodes_are_made, asks_are_steps, done_is_over, replies_are_read, scenes_go_on,
+    asked_nodes_are_made, asks_are_steps, configurations_go_on, done_is_over, replies_are_read,
     settlings_are_steps, turns_are_steps, turns_may_be,
 };
 use crate::open::OpenCall;
@@ -33,8 +33,8 @@ impl OpenCall {
     ///
     /// # Errors
     ///
-    /// Want of memory, which ends all: what the call, the nodes, the participant and the blocks are then isn't told. It also comes
-    /// where names clash so that a turn's bytes are no reply of the call's procedure.
+    /// Running out of memory, which ends all: what the call, the nodes, the participant and the blocks are then isn't told. It
+    /// also comes where names clash so that a turn's bytes are no reply of the call's procedure.
     pub fn step<L: Ledger>(
         &mut self,
         alloc: Global,
@@ -44,7 +44,7 @@ impl OpenCall {
         now: Moment,
         steps: &mut Steps<L>,
     ) -> Result<(), Memory>
-        requires { HasScene (shown self.old nodes.old who.old met.old now) }
+        requires { HasConfiguration (shown self.old nodes.old who.old met.old now) }
         ensures steps { OnOk result (StepsFrom (shown self.old nodes.old who.old met.old now) (shown self.new nodes.new who.new met.new now)) }
         ensures less { OnOk result (self.old.told ≡ None → left_to self.new < left_to self.old) }
     {
@@ -66,7 +66,7 @@ impl OpenCall {
         count: u64,
         steps: &mut Steps<L>,
     ) -> Result<(), Memory>
-        requires { HasScene (shown self.old nodes.old who.old met.old now) }
+        requires { HasConfiguration (shown self.old nodes.old who.old met.old now) }
         ensures { OnOk result (ManyStepsFrom count (shown self.old nodes.old who.old met.old now) (shown self.new nodes.new who.new met.new now)) }
     {
         laws();
@@ -86,7 +86,7 @@ impl OpenCall {
         now: Moment,
         steps: &mut Steps<L>,
     ) -> Result<(), Memory>
-        requires { HasScene (shown self.old nodes.old who.old met.old now) }
+        requires { HasConfiguration (shown self.old nodes.old who.old met.old now) }
         ensures { OnOk result (RunsOutFrom (shown self.old nodes.old who.old met.old now) (shown self.new nodes.new who.new met.new now)) }
     {
         laws();
@@ -107,7 +107,7 @@ impl OpenCall {
         now: Moment,
         steps: &mut Steps<L>,
     ) -> Result<(), Memory>
-        requires scene { HasScene (shown self.old nodes.old who.old met.old now) }
+        requires configuration { HasConfiguration (shown self.old nodes.old who.old met.old now) }
         requires untold { self.old.told ≡ None }
         ensures { OnOk result (IsArm (shown self.old nodes.old who.old met.old now) (shown self.new nodes.new who.new met.new now)) }
     {
@@ -160,7 +160,7 @@ impl OpenCall {
         self.session.heard(who.cache(), Ok(answer));
     }
 
-    /// The turn of the session's agent, and what the session makes of it. The error is want of memory, or that what the turn gave
+    /// The turn of the session's agent, and what the session makes of it. The error is: out of memory, or that what the turn gave
     /// is no reply of the call.
     fn turn<L: Ledger>(
         &mut self,
@@ -196,7 +196,7 @@ impl OpenCall {
         requires { MayTurn self.now who.old refresh now }
         ensures took { TookTurn self.now refresh now result who.old who.new }
         ensures short { IfOk result (λ turned. length turned.reply ≤ longest_result) }
-        ensures anew { IfErr result IsAnewFor }
+        ensures anew { IfErr result IsAgainFor }
     {
         let Some(asked) = self.session.asked() else {
             unreachable!();
@@ -204,7 +204,7 @@ impl OpenCall {
         who.turn(alloc, refresh, asked, now, steps)
     }
 
-    /// The session is told that its turn was answered, by what; and what the agent has to publish then is met. The error is want
+    /// The session is told that its turn was answered, by what; and what the agent has to publish then is met. The error is: out
     /// of memory, or that the bytes are no reply of the call.
     fn answer(
         &mut self,
@@ -223,7 +223,7 @@ impl OpenCall {
         Ok(())
     }
 
-    /// Keeps what the turn's reply gives to later lines. The error is want of memory, or that the bytes are no reply of the call.
+    /// Keeps what the turn's reply gives to later lines. The error is: out of memory, or that the bytes are no reply of the call.
     fn read(&mut self, alloc: Global, turned: &Turned) -> Result<(), Memory>
         requires { is_turning self.old.session.stage ≡ true }
         ensures given { OnOk result (GivesOf self.old turned.now self.new) }
@@ -240,7 +240,7 @@ impl OpenCall {
         Ok(())
     }
 
-    /// The session is told that memory was wanting for its turn.
+    /// The session is told that memory ran out for its turn.
     fn lack(&mut self)
         requires { is_turning self.old.session.stage ≡ true }
         ensures { (who : ParticipantState) (met : MetState) → IsToldOf (Err TurnFault.Memory) self.old self.new who who met met }
@@ -248,8 +248,8 @@ impl OpenCall {
         self.session.turned(Err(TurnFault::Memory));
     }
 
-    /// The session is told that its turn was refused, and begins anew, or gives up where it did so twice; and what the agent has
-    /// to publish then is met. The error is want of memory.
+    /// The session is told that its turn was refused, and begins again, or gives up where it did so twice; and what the agent
+    /// has to publish then is met. The error is: out of memory.
     fn refuse(
         &mut self,
         alloc: Global,
@@ -258,27 +258,27 @@ impl OpenCall {
         fault: TurnFault,
     ) -> Result<(), Memory>
         requires turning { is_turning self.old.session.stage ≡ true }
-        requires anew { IsAnewFor fault }
+        requires anew { IsAgainFor fault }
         requires refused { fault ≢ TurnFault.Memory }
         ensures { OnOk result (IsToldOf (Err fault) self.old self.new who.old who.new met.old met.new) }
     {
         count_made(alloc, who, met)?;
-        let may_begin_anew = self.session.may_begin_anew();
+        let may_begin_again = self.session.may_begin_again();
         self.session.turned(Err(fault));
-        self.begun_anew(may_begin_anew)
+        self.begun_again(may_begin_again)
     }
 
-    /// The error is want of memory to begin anew, where the session might.
-    fn begun_anew(&self, may_begin_anew: bool) -> Result<(), Memory>
-        ensures { OnOk result (may_begin_anew ≡ true → asked_at self.now.session.stage ≢ None) }
+    /// The error is: no memory to begin again, where the session might.
+    fn begun_again(&self, may_begin_again: bool) -> Result<(), Memory>
+        ensures { OnOk result (may_begin_again ≡ true → asked_at self.now.session.stage ≢ None) }
     {
-        if may_begin_anew && self.session.asked().is_none() {
+        if may_begin_again && self.session.asked().is_none() {
             return Err(Memory);
         }
         Ok(())
     }
 
-    /// The error is want of memory for what was still to be put.
+    /// The error is: out of memory for what was still to be put.
     fn goes_on(&self) -> Result<(), Memory>
         ensures { OnOk result (self.now.session.is_cut ≡ false) }
     {
@@ -289,7 +289,7 @@ impl OpenCall {
     }
 }
 
-/// What a participant's agent has to publish is met from now on, and counts as made. The error is want of memory.
+/// What a participant's agent has to publish is met from now on, and counts as made. The error is: out of memory.
 fn count_made(alloc: Global, who: &mut Participant, met: &mut MetBlocks) -> Result<(), Memory>
     ensures { OnOk result (CountsAsMade who.old who.new met.old met.new) }
 {
@@ -297,11 +297,11 @@ fn count_made(alloc: Global, who: &mut Participant, met: &mut MetBlocks) -> Resu
     who.count_made()
 }
 
-/// The laws by which the calls within a step are a step of each scene that is shown. No code.
+/// The laws by which the calls within a step are a step of each configuration that is represented. No code.
 fn laws()
     ensures { Laws }
 {
-    scenes_go_on::<HssJudge>();
+    configurations_go_on::<HssJudge>();
     asked_nodes_are_made::<HssJudge>();
     asks_are_steps::<HssJudge>();
     turns_may_be::<HssJudge>();

@@ -27,7 +27,7 @@ three_bytes (x ∷ y ∷ z ∷ u ∷ xs) h = absurd (omega arith)
 pub same_three : {a b c x y z : List ℕ} → a ≡ x → b ≡ y → c ≡ z → a ++ b ++ c ≡ x ++ y ++ z
 same_three ea eb ec = rw (ea, eb, ec) refl
 
--- the word behind the first byte of a word and before the last three of the next
+-- the word after the first byte of a word and before the last three of the next
 pub joined_word : (x y : ℕ) → y < 2 ^ 32 → add32 (x * 2 ^ 8 % 2 ^ 32) (y / 2 ^ 24) ≡ x % 2 ^ 24 * 2 ^ 8 + y / 2 ^ 24 % 2 ^ 8
 joined_word x y fits = omega arith
 

@@ -170,7 +170,7 @@ impl Values {
     }
 }
 
-/// The words that stand one byte behind the border of two words: the last three bytes of the one and the first of the
+/// The words that stand one byte after the border of two words: the last three bytes of the one and the first of the
 /// other.
 #[inline(always)]
 fn across(left: u32x4, right: u32x4) -> u32x4

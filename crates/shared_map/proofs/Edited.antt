@@ -1,4 +1,4 @@
--- Entries of which one value was changed: that of the entry in the midst, or one before or behind it.
+-- Entries of which one value was changed: that of the entry in the midst, or one before or after it.
 use Rattle.std.proofs.Common.{◌≡◌, T, List, ◌∷◌, ◌++◌, Option, Some, None, Result, Ok, Err, sym, ap, ◌∙◌, subst}
 use Rattle.std.specs.Prelude.{OnOk, OnErr}
 use Rattle.std.specs.Cmp.{IsTotalOrder}

@@ -52,7 +52,7 @@ module _ {K V : Type 0} (f : Fork K V) (now : List (K × V) × ℕ) (is : seen (
   pub shorter_side : (on : Side) → length (side_on on f).0 < length now.0
   shorter_side on = omega (arith, side_lengths on)
 
-  -- one that was made anew
+  -- one that was copied
   pub near_side : {E : Type 0} (on : Side) (es goal : List (K × V)) (t : List (K × V) × ℕ) → IsNear es (side_on on f).1 t → in_order on es (f.key, f.value.value) (side_on (opposite on) f).0 ≡ goal → (r : Result (List (K × V) × ℕ) E)
       → IfOk r (IsNear (in_order on t.0 (f.key, f.value.value) (side_on (opposite on) f).0) f.height) → IfOk r (IsNear goal now.1)
   near_side on es goal t n e r = near_is r _ _ _ _ (ap (λ l. in_order on l (f.key, f.value.value) (side_on (opposite on) f).0) n.0 ∙ e) height_is
@@ -72,10 +72,10 @@ module _ {K V : Type 0} (f : Fork K V) (now : List (K × V) × ℕ) (is : seen (
   -- it is the node's own where the left side is empty
   pub first_gone : ([], 0) ≡ f.left → IsBalanced (Some f) → (t : List (K × V) × ℕ) → t ≡ f.right → IsNear (drop 1 now.0) now.1 t
   first_gone empty b t e =
-      let behind : f.right.0 ≡ drop 1 now.0 = ap (λ (l : List (K × V) × ℕ). drop 1 (l.0 ++ (f.key, f.value.value) ∷ f.right.0)) empty ∙ ap (drop 1) entries_are in
+      let after : f.right.0 ≡ drop 1 now.0 = ap (λ (l : List (K × V) × ℕ). drop 1 (l.0 ++ (f.key, f.value.value) ∷ f.right.0)) empty ∙ ap (drop 1) entries_are in
       let none : 0 ≡ f.left.1 = ap (λ (l : List (K × V) × ℕ). l.1) empty in
       let high : t.1 ≡ f.right.1 = ap (λ (l : List (K × V) × ℕ). l.1) e in
-      (ap (λ (l : List (K × V) × ℕ). l.0) e ∙ behind, (omega (arith, none, high, b.0, b.1.0, b.1.1, height_is), omega (arith, none, high, b.0, b.1.0, b.1.1, height_is)))
+      (ap (λ (l : List (K × V) × ℕ). l.0) e ∙ after, (omega (arith, none, high, b.0, b.1.0, b.1.1, height_is), omega (arith, none, high, b.0, b.1.0, b.1.1, height_is)))
 
   drop_front : (xs ys : List (K × V)) → 0 < length xs → drop 1 xs ++ ys ≡ drop 1 (xs ++ ys)
   drop_front [] ys h = absurd (omega (arith, h))

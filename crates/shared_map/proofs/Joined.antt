@@ -1,4 +1,4 @@
--- Nodes that are put together anew over the parts of a side that is too high.
+-- Nodes that are put together again over the parts of a side that is too high.
 use Rattle.std.proofs.Common.{◌≡◌, ℕ, suc, ◌+◌, ◌^◌, ◌<◌, ◌≤◌, List, ◌∷◌, ◌++◌, length, Some, Result, Ok, Err, inl, inr, refl, sym, ap, ◌∙◌, length-append, append_assoc, Global, arith}
 use Rattle.std.specs.Prelude.{max, IfOk}
 use Rattle.std.specs.declared.sync.Arc.{Arc}
@@ -145,21 +145,21 @@ module _ {K V : Type 0} (on : Side) (f : Fork K V) (e : K × V) (s : List (K × 
     pub twice_other : DifferByAtMost 2 (side_on on f).1 (side_on on i).1 × (length (side_on on f).0 + length (side_on on i).0 + 1 < 2 ^ 64)
     twice_other = (twice_level.0, omega (arith, lengths_on on f, twice_length, few))
 
-    module _ (m n : List (K × V) × ℕ) (behind : m ≡ (in_order on (side_on (opposite on) i).0 e s.0, max (side_on (opposite on) i).1 s.1 + 1)) (before : n ≡ (in_order on (side_on on f).0 (f.key, f.value.value) (side_on on i).0, max (side_on on f).1 (side_on on i).1 + 1)) where
+    module _ (m n : List (K × V) × ℕ) (after : m ≡ (in_order on (side_on (opposite on) i).0 e s.0, max (side_on (opposite on) i).1 s.1 + 1)) (before : n ≡ (in_order on (side_on on f).0 (f.key, f.value.value) (side_on on i).0, max (side_on on f).1 (side_on on i).1 + 1)) where
       pub twice_next : DifferByAtMost 2 n.1 m.1 × (length n.0 + length m.0 + 1 < 2 ^ 64)
       twice_next = (
-        twice_above (side_on on f).1 i.height (side_on on i).1 (side_on (opposite on) i).1 f.height s.1 twice_is twice_near.0 twice_near.1 (balanced_on on i bi).0 (balanced_on on i bi).1 high n.1 m.1 (joined_height on _ _ n _ before) (joined_height on _ _ m e behind),
-        omega (arith, lengths_on on f, twice_length, joined_length on _ _ n _ before, joined_length on _ _ m e behind, few),
+        twice_above (side_on on f).1 i.height (side_on on i).1 (side_on (opposite on) i).1 f.height s.1 twice_is twice_near.0 twice_near.1 (balanced_on on i bi).0 (balanced_on on i bi).1 high n.1 m.1 (joined_height on _ _ n _ before) (joined_height on _ _ m e after),
+        omega (arith, lengths_on on f, twice_length, joined_length on _ _ n _ before, joined_length on _ _ m e after, few),
       )
 
       pub twice_joined : {E : Type 0} (r : Result (List (K × V) × ℕ) E) → IfOk r (λ u. u ≡ (in_order on n.0 (i.key, i.value.value) m.0, max n.1 m.1 + 1))
           → IfOk r (λ u. (u.0 ≡ in_order on (seen (Some f)).0 e s.0) × (f.height ≤ u.1) × (u.1 ≤ f.height + 1))
       twice_joined r = if_ok r (λ u is.
-          let tall = twice_height (side_on on f).1 i.height (side_on on i).1 (side_on (opposite on) i).1 f.height s.1 twice_is twice_near.0 twice_near.1 (balanced_on on i bi).0 (balanced_on on i bi).1 high n.1 m.1 (joined_height on _ _ n _ before) (joined_height on _ _ m e behind) in
+          let tall = twice_height (side_on on f).1 i.height (side_on on i).1 (side_on (opposite on) i).1 f.height s.1 twice_is twice_near.0 twice_near.1 (balanced_on on i bi).0 (balanced_on on i bi).1 high n.1 m.1 (joined_height on _ _ n _ before) (joined_height on _ _ m e after) in
           let same : u.1 ≡ max n.1 m.1 + 1 = joined_height on _ _ u _ is in
           let middle : in_order on (side_on on i).0 (i.key, i.value.value) (side_on (opposite on) i).0 ≡ (side_on (opposite on) f).0 = seen_on on i ∙ ap (λ (x : List (K × V) × ℕ). x.0) top in (
             joined_entries on _ _ u _ is ∙ ap (λ (l : List (K × V)). in_order on l (i.key, i.value.value) m.0) (joined_entries on _ _ n _ before)
-                ∙ ap (in_order on (in_order on (side_on on f).0 (f.key, f.value.value) (side_on on i).0) (i.key, i.value.value)) (joined_entries on _ _ m e behind)
+                ∙ ap (in_order on (in_order on (side_on on f).0 (f.key, f.value.value) (side_on on i).0) (i.key, i.value.value)) (joined_entries on _ _ m e after)
                 ∙ assoc on (side_on on f).0 (side_on on i).0 (in_order on (side_on (opposite on) i).0 e s.0) (f.key, f.value.value) (i.key, i.value.value)
                 ∙ ap (in_order on (side_on on f).0 (f.key, f.value.value)) (sym (assoc on (side_on on i).0 (side_on (opposite on) i).0 s.0 (i.key, i.value.value) e))
                 ∙ sym (assoc on (side_on on f).0 (in_order on (side_on on i).0 (i.key, i.value.value) (side_on (opposite on) i).0) s.0 (f.key, f.value.value) e)

@@ -1,4 +1,4 @@
--- Rows that are cut at a length, and put behind one another.
+-- Rows that are cut at a length, and put after one another.
 use Rattle.std.proofs.Common.{◌≡◌, ℕ, zero, suc, ◌≤◌, List, [], ◌∷◌, ◌++◌, length, map, take, true, false, refl, ap, ◌∙◌, append_assoc, arith, Result, Ok, Err}
 use Rattle.std.specs.Prelude.{OnOk, OnErr}
 use Rattle.std.specs.Ordering.{is_gt, is_le}

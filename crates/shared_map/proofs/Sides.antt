@@ -34,7 +34,7 @@ module _ {K V : Type 0} (R : K → K → Ordering) where
   abbrev pub IsAfter : K → List (K × V) → Type 0
   IsAfter k es = AllByRecursion (λ e. R k e.0 ≡ Less) es
 
-  -- the key is behind each
+  -- the key is after each
   abbrev pub IsBefore : K → List (K × V) → Type 0
   IsBefore k es = AllByRecursion (λ e. R k e.0 ≡ Greater) es
 
@@ -66,7 +66,7 @@ module _ {K V : Type 0} (R : K → K → Ordering) where
   before_one [] ys e h = tt
   before_one (x ∷ xs) ys e h = (below_one x.0 xs ys e (left_of _ _ h), before_one xs ys e (right_of _ _ h))
 
-  -- ---- what a key that is before or behind all finds, and where it is put
+  -- ---- what a key that is before or after all finds, and where it is put
 
   pub none_after : (k : K) (es : List (K × V)) → IsAfter k es → value_at R k es ≡ None
   none_after k [] h = refl

@@ -9,7 +9,7 @@ use std::alloc::Global;
 pub trait Attempt {
     ghost makes: { Self → Self → Type 0 };
 
-    /// Does it. The error is want of memory, and then nothing has changed.
+    /// Does it. The error is: out of memory, and then nothing has changed.
     fn attempt(&mut self, alloc: Global) -> Result<(), Memory>
         ensures ok { OnOk result (makes self.old self.new) }
         ensures err { OnErr result (self.new ≡ self.old) };

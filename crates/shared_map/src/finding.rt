@@ -41,7 +41,7 @@ impl<K: MapKey + Drop, V: Drop> Tree<K, V> {
         }
     }
 
-    /// The entries with the value under the key, both of which are shared. The error is want of memory.
+    /// The entries with the value under the key, both of which are shared. The error is: out of memory.
     pub fn with(&self, alloc: Global, key: &K, value: &Arc<V>) -> Result<Tree<K, V>, Memory>
         requires ordered { T (is_sorted K.order self.now.0) }
         requires few { length self.now.0 + 1 < 2 ^ 64 }
@@ -57,7 +57,7 @@ impl<K: MapKey + Drop, V: Drop> Tree<K, V> {
         with_side(alloc, at, on, side, &at.key, &at.value)
     }
 
-    /// The entries but the one of that key. The error is want of memory.
+    /// The entries but the one of that key. The error is: out of memory.
     pub fn without<Q: Sought<K>>(&self, alloc: Global, key: &Q) -> Result<Tree<K, V>, Memory>
         requires ordered { T (is_sorted K.order self.now.0) }
         requires few { length self.now.0 < 2 ^ 64 }
@@ -89,7 +89,7 @@ impl<K: MapKey + Drop, V: Drop> Tree<K, V> {
         }
     }
 
-    /// The entries but the first. The error is want of memory.
+    /// The entries but the first. The error is: out of memory.
     pub fn without_first(&self, alloc: Global) -> Result<Tree<K, V>, Memory>
         requires few { length self.now.0 < 2 ^ 64 }
         ensures { IfOk result (IsNear (drop 1 self.now.0) self.now.1) }
@@ -105,7 +105,7 @@ impl<K: MapKey + Drop, V: Drop> Tree<K, V> {
     }
 }
 
-/// One entry, which is shared. The error is want of memory.
+/// One entry, which is shared. The error is: out of memory.
 pub fn alone<K: MapKey + Drop, V: Drop>(
     alloc: Global,
     key: &K,
@@ -116,7 +116,7 @@ pub fn alone<K: MapKey + Drop, V: Drop>(
     joined(alloc, Tree::new(), key, value, Tree::new())
 }
 
-// The node's entries but its own. The error is want of memory.
+// The node's entries but its own. The error is: out of memory.
 fn without_top<K: MapKey + Drop, V: Drop>(
     alloc: Global,
     at: &Fork<K, V>,

@@ -13,7 +13,7 @@ use std::alloc::Global;
 use std::sync::Arc;
 
 /// The entries of one tree on that side of a node, those on its other side, and one between them, which is shared. The
-/// error is want of memory.
+/// error is: out of memory.
 pub fn with_side<K: MapKey + Drop, V: Drop>(
     alloc: Global,
     at: &Fork<K, V>,
@@ -31,7 +31,7 @@ pub fn with_side<K: MapKey + Drop, V: Drop>(
     balanced(alloc, on, side, key, value, other)
 }
 
-/// The node's entries with another value under its key. The error is want of memory.
+/// The node's entries with another value under its key. The error is: out of memory.
 pub fn with_value<K: MapKey + Drop, V: Drop>(
     alloc: Global,
     at: &Fork<K, V>,
@@ -53,7 +53,7 @@ pub fn height_above<K: Drop, V: Drop>(left: &Tree<K, V>, right: &Tree<K, V>) -> 
     left.height().max(right.height()) + 1
 }
 
-/// The entries of two sides of about one height, with one between them, which is shared. The error is want of memory.
+/// The entries of two sides of about one height, with one between them, which is shared. The error is: out of memory.
 pub fn joined<K: MapKey + Drop, V: Drop>(
     alloc: Global,
     left: Tree<K, V>,
@@ -80,7 +80,7 @@ pub fn joined<K: MapKey + Drop, V: Drop>(
     Ok(Tree::over(fork))
 }
 
-// An equal key, and the value with one owner more. The error is want of memory.
+// An equal key, and the value with one owner more. The error is: out of memory.
 fn shared_entry<K: MapKey + Drop, V: Drop>(key: &K, value: &Arc<V>) -> Result<(K, Arc<V>), Memory>
     ensures { IfOk result (λ e. (e.0 ≡ key.now) × (e.1.value ≡ value.now.value)) }
 {
@@ -141,7 +141,7 @@ fn joined_anew<K: MapKey + Drop, V: Drop>(
 }
 
 /// The entries of a tree on that side and of another one, whose heights differ by three at most, with one between them,
-/// which is shared. The error is want of memory.
+/// which is shared. The error is: out of memory.
 pub fn balanced<K: MapKey + Drop, V: Drop>(
     alloc: Global,
     on: Side,

@@ -15,7 +15,7 @@ pub trait MapKey {
     fn compare(&self, other: &Self) -> Ordering
         ensures { result ≡ order self.now other.now };
 
-    /// An equal key, which costs no more than a few words. The error is want of memory.
+    /// An equal key, which costs no more than a few words. The error is: out of memory.
     fn share(&self) -> Result<Self, Memory>
         ensures { IfOk result (λ key. key ≡ self.now) };
 

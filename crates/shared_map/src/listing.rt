@@ -9,7 +9,7 @@ use crate::tree::{Fork, Tree};
 use ivy_base::Memory;
 
 impl<K: Drop, V: Drop> Tree<K, V> {
-    /// Puts the entries at the end of the list, as far as it then has so many at most. The error is want of memory.
+    /// Puts the entries at the end of the list, as far as it then has so many at most. The error is: out of memory.
     pub fn list<'a>(&'a self, most: usize, list: &mut Vec<(&'a K, &'a V)>) -> Result<(), Memory>
         requires { length list.old.items ≤ most }
         ensures { OnOk result (map {B = K × V} (λ e. (e.0.now, e.1.now)) list.new.items ≡ take most (map {B = K × V} (λ e. (e.0.now, e.1.now)) list.old.items ++ self.now.0)) }
@@ -27,7 +27,7 @@ impl<K: Drop, V: Drop> Tree<K, V> {
 }
 
 impl<K: MapKey + Drop, V: Drop> Tree<K, V> {
-    /// The same with the entries from a key on alone. The error is want of memory.
+    /// The same with the entries from a key on alone. The error is: out of memory.
     pub fn list_from<'a, Q: Sought<K>>(
         &'a self,
         key: &Q,
@@ -50,7 +50,7 @@ impl<K: MapKey + Drop, V: Drop> Tree<K, V> {
     }
 }
 
-// Puts the node's own entry at the end of the list, unless it has so many already. The error is want of memory.
+// Puts the node's own entry at the end of the list, unless it has so many already. The error is: out of memory.
 fn list_one<'a, K: Drop, V: Drop>(
     at: &'a Fork<K, V>,
     most: usize,

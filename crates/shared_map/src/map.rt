@@ -88,7 +88,7 @@ impl<K: MapKey + Drop, V: Drop> SharedMap<K, V> {
     }
 
     /// Lets the key stand for the value, and answers the value that it stood for. A key that is equal to one of the map
-    /// leaves that in its place. The error is want of memory, and then nothing has changed.
+    /// leaves that in its place. The error is: out of memory, and then nothing has changed.
     pub fn insert(&mut self, alloc: Global, key: K, value: V) -> Result<Option<Arc<V>>, Memory>
         ensures old { IfOk result (λ old. option_map (λ v. v.value) old ≡ value_at K.order key self.old) }
         ensures ok { OnOk result (self.new ≡ put K.order key value self.old) }
@@ -97,7 +97,7 @@ impl<K: MapKey + Drop, V: Drop> SharedMap<K, V> {
         self.insert_with(alloc, key, value, &mut Nothing)
     }
 
-    /// The same together with something else, which is done too. The error is want of memory, for the entry, for a node on
+    /// The same together with something else, which is done too. The error is: out of memory, for the entry, for a node on
     /// its way or for what is done with it, or that there are as many entries as can be counted. Then nothing has changed,
     /// neither in the map nor in what was to be done.
     pub fn insert_with<P: Attempt>(
@@ -122,7 +122,7 @@ impl<K: MapKey + Drop, V: Drop> SharedMap<K, V> {
         Ok(old)
     }
 
-    /// Takes the key out, and answers the value that it stood for. The error is want of memory, and then nothing has
+    /// Takes the key out, and answers the value that it stood for. The error is: out of memory, and then nothing has
     /// changed; a key that isn't there takes none.
     pub fn remove<Q: Sought<K>>(&mut self, alloc: Global, key: &Q) -> Result<Option<Arc<V>>, Memory>
         ensures old { IfOk result (λ old. option_map (λ v. v.value) old ≡ value_at K.order (Q.key key.now) self.old) }
@@ -144,7 +144,7 @@ impl<K: MapKey + Drop, V: Drop> SharedMap<K, V> {
         self.tree.any(test)
     }
 
-    /// All entries, in the keys' order. The error is want of memory.
+    /// All entries, in the keys' order. The error is: out of memory.
     pub fn entries(&self, alloc: Global) -> Result<Vec<(&K, &V)>, Memory>
         ensures { IfOk result (λ list. map {B = K × V} (λ e. (e.0.now, e.1.now)) list.items ≡ self.now) }
     {
@@ -154,7 +154,7 @@ impl<K: MapKey + Drop, V: Drop> SharedMap<K, V> {
     }
 
     /// The first entries, so many at most, of those whose keys are not below the one given, in the keys' order. The
-    /// error is want of memory.
+    /// error is: out of memory.
     pub fn entries_from<'a, Q: Sought<K>>(
         &'a self,
         alloc: Global,
@@ -171,7 +171,7 @@ impl<K: MapKey + Drop, V: Drop> SharedMap<K, V> {
 
 impl<K: MapKey + Drop, V: MapValue> SharedMap<K, V> {
     /// Changes the value that the key stands for where it stands, and answers whether there is one; a value that has
-    /// other owners is cloned first. The error is want of memory, and then nothing has changed.
+    /// other owners is cloned first. The error is: out of memory, and then nothing has changed.
     pub fn update<Q: Sought<K>, E: Edit<V>>(
         &mut self,
         alloc: Global,
@@ -186,7 +186,7 @@ impl<K: MapKey + Drop, V: MapValue> SharedMap<K, V> {
     }
 
     /// Changes the value that the first key stands for, and amends the one that the second stands for, each where it
-    /// stands and if there is one. The error is want of memory, and then nothing has changed.
+    /// stands and if there is one. The error is: out of memory, and then nothing has changed.
     pub fn update_two<Q: Sought<K>, E: Edit<V>, A: Amend<V>>(
         &mut self,
         alloc: Global,

@@ -45,7 +45,7 @@ impl<V, P: Attempt, A: Amend<V>> Edit<V> for After<'_, P, A> {
     }
 }
 
-// A value at hand is changed.
+// A value that is there is changed.
 #[derive(Drop)]
 struct Here<'a, 'b, V, E> {
     value: &'a mut V,
@@ -84,7 +84,7 @@ impl<K: MapKey + Drop, V: MapValue, Q: Sought<K>, E: Edit<V>> Attempt
     }
 }
 
-/// Changes the value under the first key and amends the one under the second, each if there is one. The error is want of
+/// Changes the value under the first key and amends the one under the second, each if there is one. The error is: out of
 /// memory, and then no entry has changed.
 #[cycle(pairing)]
 pub fn update_two<K: MapKey + Drop, V: MapValue, Q: Sought<K>, E: Edit<V>, A: Amend<V>>(
@@ -108,7 +108,7 @@ pub fn update_two<K: MapKey + Drop, V: MapValue, Q: Sought<K>, E: Edit<V>, A: Am
     done
 }
 
-// The same, where the node is made anew if it has other owners.
+// The same, where the node is copied if it has other owners.
 #[cycle(pairing)]
 fn update_two_over<K: MapKey + Drop, V: MapValue, Q: Sought<K>, E: Edit<V>, A: Amend<V>>(
     alloc: Global,
@@ -298,7 +298,7 @@ fn update_beside<K: MapKey + Drop, V: MapValue, Q: Sought<K>, E: Edit<V>, A: Ame
     amend_after(alloc, &mut within, other, second, amend)
 }
 
-// Does what is to be done first, and amends the value under the key, if there is one. The error is want of memory, and
+// Does what is to be done first, and amends the value under the key, if there is one. The error is: out of memory, and
 // then no entry has changed.
 fn amend_after<K: MapKey + Drop, V: MapValue, Q: Sought<K>, P: Attempt, A: Amend<V>>(
     alloc: Global,

@@ -1,4 +1,4 @@
-//! Entries that are put in place: only nodes that have other owners are made anew.
+//! Entries that are put in place: only nodes that have other owners are copied.
 
 ghost use Rattle.std.specs.Prelude.{◌≡◌, ◌+◌, ◌^◌, ◌<◌, ◌≤◌, max, T, length, MatchBool, IfOk, OnOk, OnErr, Some};
 ghost use Rattle.std.specs.Option.{option_map};
@@ -31,7 +31,7 @@ impl From<AllocError> for NotInPlace {
 }
 
 impl<K: MapKey + Drop, V: Drop> Tree<K, V> {
-    /// Puts the value under the key once the rest is done, and answers the value before. The error is want of memory; no
+    /// Puts the value under the key once the rest is done, and answers the value before. The error is: out of memory; no
     /// entry has changed then, and the rest isn't done.
     pub fn insert<P: Attempt>(
         &mut self,
@@ -52,7 +52,7 @@ impl<K: MapKey + Drop, V: Drop> Tree<K, V> {
         }
     }
 
-    // The same, where each node on the way is made anew.
+    // The same, where each node on the way is copied.
     fn insert_anew<P: Attempt>(
         &mut self,
         alloc: Global,
@@ -99,7 +99,7 @@ fn put<K: MapKey + Drop, V: Drop, P: Attempt>(
     before
 }
 
-// Puts the value under the key, where the node is made anew if it has other owners.
+// Puts the value under the key, where the node is copied if it has other owners.
 #[cycle(placing)]
 fn put_over<K: MapKey + Drop, V: Drop, P: Attempt>(
     alloc: Global,

@@ -1,4 +1,4 @@
-//! Nodes whose sides were changed: their heights are set anew, and one that leans is turned in place.
+//! Nodes whose sides were changed: their heights are set again, and one that leans is turned in place.
 //!
 //! No memory is taken. What a turn would change and has several owners stays as it is: the node then leans on, within what
 //! a tree may.

@@ -1,4 +1,4 @@
-//! Trees of entries in order, which share their parts: a node is changed where it has one owner, and else made anew.
+//! Trees of entries in order, which share their parts: a node is changed where it has one owner, and else copied.
 
 ghost use Rattle.std.specs.Prelude.{◌≡◌, [], length, IfOk, Some};
 ghost use Rattle.std.specs.Option.{option_copied};
@@ -19,7 +19,7 @@ pub struct Tree<K, V> {
     root: Option<Arc<Fork<K, V>>>,
 }
 
-/// A node: an entry, with the entries before it and those behind it.
+/// A node: an entry, with the entries before it and those after it.
 #[cycle(tree)]
 #[derive(Drop)]
 pub struct Fork<K, V> {
@@ -35,7 +35,7 @@ pub struct Fork<K, V> {
 pub enum Side {
     /// Where the entries before the node's own are.
     Left,
-    /// Where those behind it are.
+    /// Where those after it are.
     Right,
 }
 

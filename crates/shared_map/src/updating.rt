@@ -24,13 +24,13 @@ pub trait MapValue: Clone {
 pub trait Edit<V> {
     ghost makes: { Self → V → Self → V → Type 0 };
 
-    /// Makes the change. The error is want of memory, and then nothing has changed.
+    /// Makes the change. The error is: out of memory, and then nothing has changed.
     fn edit(&mut self, alloc: Global, value: &mut V) -> Result<(), Memory>
         ensures ok { OnOk result (makes self.old value.old self.new value.new) }
         ensures err { OnErr result ((self.new ≡ self.old) × (value.new ≡ value.old)) };
 }
 
-/// Changes the value under the key, if there is one, and answers whether there is. The error is want of memory, and then
+/// Changes the value under the key, if there is one, and answers whether there is. The error is: out of memory, and then
 /// no entry has changed. What a search finds in a tree whose keys don't ascend isn't said.
 #[cycle(updating)]
 pub fn update<K: MapKey + Drop, V: MapValue, Q: Sought<K>, E: Edit<V>>(
@@ -52,7 +52,7 @@ pub fn update<K: MapKey + Drop, V: MapValue, Q: Sought<K>, E: Edit<V>>(
     found
 }
 
-// Changes the value under the key, where the node is made anew if it has other owners.
+// Changes the value under the key, where the node is copied if it has other owners.
 #[cycle(updating)]
 fn update_over<K: MapKey + Drop, V: MapValue, Q: Sought<K>, E: Edit<V>>(
     alloc: Global,
@@ -96,7 +96,7 @@ fn update_at<K: MapKey + Drop, V: MapValue, Q: Sought<K>, E: Edit<V>>(
     }
 }
 
-// Changes the value, which is made anew first if it has other owners.
+// Changes the value, which is copied first if it has other owners.
 fn update_value<V: MapValue, E: Edit<V>>(
     alloc: Global,
     value: &mut Arc<V>,

@@ -42,7 +42,7 @@ pub so_many : {count : ℕ} {start rest : List ℕ} {xs : List Item} → IsFront
     → IsFront (AreSoMany IsEntry count) (flat_map entry_bytes) start xs rest
 so_many f size = record { fits = record { each = f.fits; size = size }; spelled = f.spelled }
 
--- ---- behind the tag
+-- ---- after the tag
 
 abbrev SomeParts : Type 0
 SomeParts = (Unit {0} × ℕ) × List Item

@@ -9,7 +9,7 @@ use Rattle.wire_model.proofs.OneReading.{◌▷◌, one_short_opaque}
 use Rattle.wire_model.proofs.Fronts.{both, no_first, no_second, front_of_parts}
 use Rattle.wire_model.proofs.Dependent.{PartsOf, none_of_some}
 use Rattle.log_model.specs.Spelling.{IsKey}
-use Rattle.snapshot_model.specs.Blocks.{Listed, InodeBlock, inode_block, attributes_bytes, listed_bytes, AreAttributes, IsListed, inode_tag}
+use Rattle.snapshot_model.specs.Blocks.{NamedList, InodeBlock, inode_block, attributes_bytes, listed_bytes, AreAttributes, IsListed, inode_tag}
 use Rattle.block_parts.specs.Parts.{constant_bytes, key_bytes, kind_word, IsAtMost}
 use Rattle.snapshot_model.specs.Parts.{HasInodeParts}
 use Rattle.block_parts.proofs.OneParts.{one_key, one_kind, one_size}
@@ -74,6 +74,6 @@ module _ {b0 b1 : List ℕ} {u : Unit {0}} (f : IsFront IsAny (constant_bytes in
             pub no_items : HasNoFront (IsListed 3) listed_bytes b6 → HasNoFront HasInodeParts inode_block b0
             no_items absent = none_of_some parts_of (no_second (one_three ▷ one_attributes ▷ one_size ▷ one_target) (both (both (both front_three i) j) k) absent)
 
-            pub inode_front : {b7 : List ℕ} {items : Listed} → IsFront (IsListed 3) listed_bytes b6 items b7
+            pub inode_front : {b7 : List ℕ} {items : NamedList} → IsFront (IsListed 3) listed_bytes b6 items b7
                 → IsFront HasInodeParts inode_block b0 (record { number = number; kind = kind; attributes = attributes; size = size; target = target; items = items }) b7
             inode_front l = front_of_parts (λ (p : InodeParts). of_inode_parts p) ((((((tt, g.fits), tt), i.fits), j.fits), k.fits), l.fits) refl (both (both (both (both front_three i) j) k) l)

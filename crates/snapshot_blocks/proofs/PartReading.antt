@@ -12,7 +12,7 @@ use Rattle.wire_model.proofs.OneReading.{◌▷◌, one_word}
 use Rattle.wire_model.proofs.Fronts.{both, no_first, no_second, front_of_parts}
 use Rattle.wire_model.proofs.Dependent.{PartsOf, none_of_some}
 use Rattle.log_model.specs.Spelling.{IsKey, IsMoment, no_name}
-use Rattle.snapshot_model.specs.Blocks.{Listed, IsListed, listed_bytes, AreAttributes, attributes_bytes}
+use Rattle.snapshot_model.specs.Blocks.{NamedList, IsListed, listed_bytes, AreAttributes, attributes_bytes}
 use Rattle.block_parts.specs.Parts.{key_bytes, IsAtMost}
 use Rattle.block_parts.proofs.OneParts.{one_at_most, one_key, one_time}
 use Rattle.block_parts.proofs.Tested.{same_key}
@@ -74,7 +74,7 @@ HasListed p = IsAtMost 3 p.0 × IsKey p.1
 abbrev listed_parts_bytes : ListedParts → List ℕ
 listed_parts_bytes p = word p.0 ++ key_bytes p.1
 
-listed_parts : (l : Listed) → IsListed 3 l → PartsOf HasListed listed_parts_bytes (listed_bytes l)
+listed_parts : (l : NamedList) → IsListed 3 l → PartsOf HasListed listed_parts_bytes (listed_bytes l)
 listed_parts l f = record { part = (l.level, l.top); fits = (f.few, f.top); spelled = refl }
 
 pub no_level : {b0 : List ℕ} → HasNoFront (IsAtMost 3) word b0 → HasNoFront (IsListed 3) listed_bytes b0

@@ -13,7 +13,7 @@ use Rattle.version_vectors.specs.Vectors.{VectorFits}
 use Rattle.block_parts.specs.declared.fault.BlockFault.{BlockFault}
 use Rattle.block_parts.specs.declared.fault.BlockFault.TheVariants as block
 use Rattle.version_vectors.specs.Reading.{ReadFault}
-use Rattle.snapshot_model.specs.Blocks.{Listed, RootBlock, root_block, rank_bytes, listed_bytes, IsRankSpelled, IsVectorSpelled, IsListed, IsRootBlock, root_tag}
+use Rattle.snapshot_model.specs.Blocks.{NamedList, RootBlock, root_block, rank_bytes, listed_bytes, IsRankSpelled, IsVectorSpelled, IsListed, IsRootBlock, root_tag}
 use Rattle.block_parts.specs.Parts.{constant_bytes, as_it_stands, key_bytes, IsOptional}
 use Rattle.block_parts.proofs.OneParts.{one_block, one_key}
 use Rattle.snapshot_model.proofs.OneBlock.{RootParts, root_parts, of_root_parts, one_front, one_tide}
@@ -88,6 +88,6 @@ module _ {b0 b1 : List ℕ} {u : Unit {0}} (f : IsFront IsAny (constant_bytes ro
         pub no_inodes : HasNoFront (IsListed 3) listed_bytes b4 → HasNoFront IsRootBlock root_block b0
         no_inodes absent = none_of_some parts_of (no_second (one_constant root_tag ▷ one_key ▷ one_front ▷ one_tide) (both (both (both f g) h) i) absent)
 
-        pub root_front : {b5 : List ℕ} {inodes : Listed} → IsFront (IsListed 3) listed_bytes b4 inodes b5
+        pub root_front : {b5 : List ℕ} {inodes : NamedList} → IsFront (IsListed 3) listed_bytes b4 inodes b5
             → IsFront IsRootBlock root_block b0 (record { view = view; front = front; tide = tide; inodes = inodes }) b5
         root_front j = front_of_parts (λ (p : RootParts). of_root_parts p) (record { view = g.fits; front = h.fits; tide = i.fits; inodes = j.fits }) refl (both (both (both (both f g) h) i) j)

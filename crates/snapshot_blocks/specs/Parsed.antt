@@ -15,7 +15,7 @@ use Rattle.snapshot_blocks.specs.declared.root.RootBlock.{RootBlock}
 abbrev pub keys_of : List (List ℕ) → List Key
 keys_of each = map (λ bytes. record { 0 = bytes }) each
 
-abbrev pub listed_of : Listed → said.Listed
+abbrev pub listed_of : Listed → said.NamedList
 listed_of l = record { level = l.level; top = l.top }
 
 abbrev pub entry_of : Entry → List ℕ × Key

@@ -33,7 +33,7 @@ pub struct Entry<'a> {
 
 /// The entries of a directory that a block has: 1 to 32, ascending by the bytes of their names.
 ///
-/// `Malformed` comes exactly where the block is no such one, and `Memory` is want of memory.
+/// `Malformed` comes exactly where the block is no such one, and `Memory` means out of memory.
 pub fn read_entries(alloc: Global, block: &[u8]) -> Result<Vec<Entry<'_>>, BlockFault>
     ensures ok { IfOk result (λ es. Says AreEntries entries_block block.now (entries_of es.items)) }
     ensures err { IfErr result (Refuses AreEntries entries_block block.now) }
@@ -47,7 +47,7 @@ pub fn read_entries(alloc: Global, block: &[u8]) -> Result<Vec<Entry<'_>>, Block
     Ok(entries)
 }
 
-/// 1 to 32 entries in any order, behind the tag and their count.
+/// 1 to 32 entries in any order, after the tag and their count.
 fn read_some<'a>(alloc: Global, reader: &mut XdrRead<'a>) -> Result<Vec<Entry<'a>>, BlockFault>
     ensures ok { IfOk result (λ es. IsFront AreSomeEntries entries_block reader.old (entries_of es.items) reader.new) }
     ensures err { IfErr result (RefusesFront AreSomeEntries entries_block reader.old) }
@@ -95,7 +95,7 @@ fn ascend(entries: &[Entry<'_>]) -> bool
     entries.is_sorted_by(|a, b| a.name.cmp(b.name).is_lt())
 }
 
-/// The block of these entries. The error is want of memory; it also comes where a name has 2^32 bytes or more.
+/// The block of these entries. The error is: out of memory; it also comes where a name has 2^32 bytes or more.
 pub fn write_entries(alloc: Global, entries: &[Entry<'_>]) -> Result<Bytes, Memory>
     requires { length entries.now ≤ most_entries }
     ensures { IfOk result (λ block. block ≡ entries_block (entries_of entries.now)) }

@@ -48,7 +48,7 @@ impl<'a> InodeBlock<'a> {
         read_whole(block).ok()
     }
 
-    /// The block. The error is want of memory; it also comes where the text has 2^32 bytes or more.
+    /// The block. The error is: out of memory; it also comes where the text has 2^32 bytes or more.
     pub fn write(&self, alloc: Global) -> Result<Bytes, Memory>
         ensures { IfOk result (λ block. block ≡ inode_block (inode_of self.now)) }
     {
@@ -68,7 +68,7 @@ impl<'a> InodeBlock<'a> {
     }
 }
 
-/// What the block says, where nothing is behind it.
+/// What the block says, where nothing is after it.
 fn read_whole<'a>(block: &'a [u8]) -> Result<InodeBlock<'a>, Malformed>
     ensures ok { IfOk result (λ inode. Says IsInodeBlock inode_block block.now (inode_of inode)) }
     ensures err { OnErr result (SaysNothing IsInodeBlock inode_block block.now) }

@@ -32,7 +32,7 @@ pub fn read_list(block: &[u8], level: u32) -> Option<&[[u8; NAME_LEN]]>
     read_whole(block, level).ok()
 }
 
-/// The names in a list block of that level, where nothing is behind them.
+/// The names in a list block of that level, where nothing is after them.
 fn read_whole(block: &[u8], level: u32) -> Result<&[[u8; NAME_LEN]], Malformed>
     ensures ok { IfOk result (λ keys. Says AreNamed (list_block level) block.now (keys_of keys.now)) }
     ensures err { OnErr result (SaysNothing AreNamed (list_block level) block.now) }
@@ -56,7 +56,7 @@ fn read_tag(reader: &mut XdrRead, level: u32) -> Result<(), Malformed>
     Ok(())
 }
 
-/// The names, behind their count.
+/// The names, after their count.
 fn read_names<'a>(reader: &mut XdrRead<'a>) -> Result<&'a [[u8; NAME_LEN]], Malformed>
     ensures ok { IfOk result (λ keys. IsFront AreNamed (array key_bytes) reader.old (keys_of keys.now) reader.new) }
     ensures err { OnErr result (HasNoFront AreNamed (array key_bytes) reader.old) }
@@ -69,7 +69,7 @@ fn read_names<'a>(reader: &mut XdrRead<'a>) -> Result<&'a [[u8; NAME_LEN]], Malf
     Ok(names)
 }
 
-/// The list block of that level over the blocks of these names. The error is want of memory.
+/// The list block of that level over the blocks of these names. The error is: out of memory.
 pub fn write_list(alloc: Global, level: u32, names: &[Key]) -> Result<Bytes, Memory>
     requires { length names.now ≤ 512 }
     ensures { IfOk result (λ block. block ≡ list_block level names.now) }

@@ -37,7 +37,7 @@ pub struct RootBlock {
 impl RootBlock {
     /// What this root block says.
     ///
-    /// `Malformed` comes exactly where the block is no such one, and `Memory` is want of memory.
+    /// `Malformed` comes exactly where the block is no such one, and `Memory` means out of memory.
     pub fn read(alloc: Global, block: &[u8]) -> Result<RootBlock, BlockFault>
         ensures ok { IfOk result (λ root. Says IsRootBlock root_block block.now (root_of root)) }
         ensures err { IfErr result (Refuses IsRootBlock root_block block.now) }
@@ -48,7 +48,7 @@ impl RootBlock {
         Ok(root)
     }
 
-    /// The block. The error is want of memory; it also comes where the front has 2^32 entries or more.
+    /// The block. The error is: out of memory; it also comes where the front has 2^32 entries or more.
     pub fn write(&self, alloc: Global) -> Result<Bytes, Memory>
         ensures { IfOk result (λ block. block ≡ root_block (root_of self.now)) }
     {

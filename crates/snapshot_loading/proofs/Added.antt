@@ -41,9 +41,9 @@ sorted_part done p rest parts is sorted =
 pub found_last : (parts : List InodeParts) (p : InodeParts) → is_sorted key_cmp (map numbered (parts ++ p ∷ [])) ≡ true → (k : Key)
     → inode_at (tree_of (parts ++ p ∷ [])) k ≡ cond (same_key k p.number) (Some (inode_of p)) (inode_at (tree_of parts) k)
 found_last parts p sorted k =
-    let behind : map numbered (parts ++ p ∷ []) ≡ map numbered parts ++ numbered p ∷ [] = map-append numbered parts (p ∷ []) in
-    ap (λ (es : List (Key × Inode)). value_at key_cmp k es) behind
-    ∙ find-append key_cmp keys_total (map numbered parts) p.number (inode_of p) k (absent_last key_cmp keys_total p.number (inode_of p) (map numbered parts) (subst (λ (es : List (Key × Inode)). is_sorted key_cmp es ≡ true) behind sorted))
+    let after : map numbered (parts ++ p ∷ []) ≡ map numbered parts ++ numbered p ∷ [] = map-append numbered parts (p ∷ []) in
+    ap (λ (es : List (Key × Inode)). value_at key_cmp k es) after
+    ∙ find-append key_cmp keys_total (map numbered parts) p.number (inode_of p) k (absent_last key_cmp keys_total p.number (inode_of p) (map numbered parts) (subst (λ (es : List (Key × Inode)). is_sorted key_cmp es ≡ true) after sorted))
 
 pub absent : (parts : List InodeParts) (p : InodeParts) → is_sorted key_cmp (map numbered (parts ++ p ∷ [])) ≡ true → inode_at (tree_of parts) p.number ≡ None
 absent parts p sorted = absent_last key_cmp keys_total p.number (inode_of p) (map numbered parts) (subst (λ (es : List (Key × Inode)). is_sorted key_cmp es ≡ true) (map-append numbered parts (p ∷ [])) sorted)

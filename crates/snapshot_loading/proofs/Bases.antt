@@ -6,9 +6,9 @@ use Rattle.log_model.specs.Rank.{Rank}
 use Rattle.log_model.specs.Vector.{Vector}
 use Rattle.turn_model.specs.Basis.{Basis}
 use Rattle.std.specs.Prelude.{Option}
-use Rattle.snapshot_model.specs.Blocks.{RootBlock, Listed, root_block}
+use Rattle.snapshot_model.specs.Blocks.{RootBlock, NamedList, root_block}
 use Rattle.snapshot_model.specs.Spelling.{Made, over, list_of, named_by, inode_made, root_over, snapshot_named}
-use Rattle.snapshot_model.specs.Reading.{Part, Root, AnInode, top_of, IsWholeTree, IsBasisSpelled, AreOf}
+use Rattle.snapshot_model.specs.Reading.{SnapshotPart, Root, AnInode, top_of, IsWholeTree, IsBasisSpelled, AreOf}
 use Rattle.snapshot_model.proofs.OneBlock.{one_root}
 use Rattle.snapshot_model.proofs.OneNames.{one_said}
 use Rattle.snapshot_loading.specs.Forests.{Forest, nothing, block, flat, named_in, mades, Fits, below_by}
@@ -25,11 +25,11 @@ inodes_made t nothing [] are fits shows = refl
 inodes_made t nothing (i ∷ inodes) are fits shows = absurd shows
 inodes_made t (block part bytes below beside) [] are fits shows = absurd shows
 inodes_made t (block part bytes below beside) (i ∷ inodes) are fits shows =
-    let one : over bytes (mades below) ∷ [] ≡ inode_made t i ∷ [] = shown_inodes_are_made i.0 i.1 (listing t i.0) bytes below (subst (λ (p : Part). Fits (block p bytes below nothing)) are.0 (fits.0, fits.1, tt)) shows.0 in
+    let one : over bytes (mades below) ∷ [] ≡ inode_made t i ∷ [] = shown_inodes_are_made i.0 i.1 (listing t i.0) bytes below (subst (λ (p : SnapshotPart). Fits (block p bytes below nothing)) are.0 (fits.0, fits.1, tt)) shows.0 in
     first_made (over bytes (mades below)) (mades beside) (inode_made t i) one ∙ ap (λ (ms : List Made). inode_made t i ∷ ms) (inodes_made t beside inodes are.1 fits.2 shows.1)
 
 abbrev RootParts : Type 0
-RootParts = (Vector × Option Rank) × Listed
+RootParts = (Vector × Option Rank) × NamedList
 
 abbrev root_with : Key → RootParts → RootBlock
 root_with view p = record { view = view; front = p.0.0; tide = p.0.1; inodes = p.1 }

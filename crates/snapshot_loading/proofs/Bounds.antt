@@ -9,8 +9,8 @@ use Rattle.ivy_base.specs.declared.operation.Kind.TheVariants.{Reg, Dir, Lnk}
 use Rattle.ivy_base.specs.Naming.{IsFileName}
 use Rattle.tree_model.specs.Tree.{Tree, Inode, Place, inode_at, is_directory, listing}
 use Rattle.log_model.specs.Spelling.{IsKey, IsTarget}
-use Rattle.snapshot_model.specs.Blocks.{AreAttributes, AreEntries, InodeBlock, IsEntry, most_bytes, most_levels, most_entries}
-use Rattle.snapshot_model.specs.Reading.{Part, AnInode, Listing, HasBounds, IsBodyOf, IsWholeTree, item_of, top_of}
+use Rattle.snapshot_model.specs.Blocks.{AreAttributes, AreEntries, InodeBlock, IsEntry, most_content_bytes, most_levels, most_entries}
+use Rattle.snapshot_model.specs.Reading.{SnapshotPart, AnInode, Listing, HasBounds, IsBodyOf, IsWholeTree, item_of, top_of}
 use Rattle.snapshot_model.proofs.OneBlock.{one_inode}
 use Rattle.snapshot_model.proofs.OneNames.{one_said}
 use Rattle.snapshot_model.proofs.SameNames.{Has, has_each, has_listed, directory_of}
@@ -32,7 +32,7 @@ Directory = List (List ℕ × Key)
 
 -- ---- how many are at the bottom of a list
 
-children_few : (level : ℕ) (item : Part) (f : Forest) → AllAre (Listing level item) f → Fits f → length (mades (children f)) ≤ 512 * length (mades f)
+children_few : (level : ℕ) (item : SnapshotPart) (f : Forest) → AllAre (Listing level item) f → Fits f → length (mades (children f)) ≤ 512 * length (mades f)
 children_few level item nothing are fits = omega arith
 children_few level item (block part bytes below beside) are fits =
     let s = sized level item part bytes below are.0 fits.0 in
@@ -45,7 +45,7 @@ count_bytes : (f : Forest) → length (bytes_in f) ≡ length (mades f)
 count_bytes nothing = refl
 count_bytes (block part bytes below beside) = ap suc (count_bytes beside)
 
-module _ (inodes : Bool) (item : Part) (bottom : IsBottom inodes item) where
+module _ (inodes : Bool) (item : SnapshotPart) (bottom : IsBottom inodes item) where
   pub bottom_few : (level : ℕ) (top : Key) (below : Forest) → level ≤ 3 → named_in below ≡ top_of item level top → Fits below → length (bytes_in (below_by level below)) ≤ 134217728
   bottom_few zero top below three e fits =
       let none : length (bytes_in below) ≡ 0 = ap (λ (f : Forest). length (bytes_in f)) (is_nothing below e) in
@@ -90,7 +90,7 @@ pub record AreBounded (kind : Kind) (blocks : List (List ℕ)) (body : List ℕ)
   pub good : AllByRecursion IsEntry es
   pub few : length es ≤ most_entries * length blocks
 
-contents_bounded : (kind : Kind) (said : InodeBlock) (blocks : List (List ℕ)) (body : List ℕ) (es : Directory) → said.size ≤ most_bytes kind → IsTarget kind said.target → HasContents kind said blocks body es → AreBounded kind blocks body es
+contents_bounded : (kind : Kind) (said : InodeBlock) (blocks : List (List ℕ)) (body : List ℕ) (es : Directory) → said.size ≤ most_content_bytes kind → IsTarget kind said.target → HasContents kind said blocks body es → AreBounded kind blocks body es
 contents_bounded Reg said blocks body es size target h = record {
   fits = omega (arith, size, h.3);
   good = subst (λ (l : Directory). AllByRecursion IsEntry l) (sym h.0) tt;
@@ -132,7 +132,7 @@ inode_bounded t i bytes below fits h =
     ap length (top_picked false (item_of h.said.kind) bottom h.said.items.level h.said.items.top below named fits.1) in
     let most = bottom_few false (item_of h.said.kind) bottom h.said.items.level h.said.items.top below (omega (arith, h.says.fits.items.few, levels_few h.said.kind)) named fits.1 in
     let b = contents_bounded i.1.kind h.said (picked false 0 (flat below)) i.1.body (contained i.1.kind (listing t i.0))
-    (subst (λ (k : Kind). h.said.size ≤ most_bytes k) h.kind h.says.fits.size) (subst (λ (k : Kind). IsTarget k h.said.target) h.kind h.says.fits.target) h.contents in
+    (subst (λ (k : Kind). h.said.size ≤ most_content_bytes k) h.kind h.says.fits.size) (subst (λ (k : Kind). IsTarget k h.said.target) h.kind h.says.fits.target) h.contents in
     record {
       key = subst IsKey h.number_is h.says.fits.number;
       bounds = record { attributes = subst AreAttributes h.attributes h.says.fits.attributes; body = b.fits };
@@ -145,7 +145,7 @@ all_bounded t nothing [] are fits h = tt
 all_bounded t nothing (i ∷ inodes) are fits h = absurd h
 all_bounded t (block part bytes below beside) [] are fits h = absurd h
 all_bounded t (block part bytes below beside) (i ∷ inodes) are fits h =
-    (inode_bounded t i bytes below (subst (λ (p : Part). Fits (block p bytes below nothing)) are.0 (fits.0, fits.1, tt)) h.0, all_bounded t beside inodes are.1 fits.2 h.1)
+    (inode_bounded t i bytes below (subst (λ (p : SnapshotPart). Fits (block p bytes below nothing)) are.0 (fits.0, fits.1, tt)) h.0, all_bounded t beside inodes are.1 fits.2 h.1)
 
 pub as_many : (t : Tree) (f : Forest) (inodes : List (Key × Inode)) → AreInodes (stretches f) (map (item_in t) inodes) → length inodes ≡ length (bytes_in f)
 as_many t nothing [] h = refl

@@ -14,7 +14,7 @@ use Rattle.tree_model.specs.Sound.{IsSound}
 use Rattle.tree_model.proofs.Keys.{same_key_itself}
 use Rattle.tree_model.proofs.Sound.{both_true}
 use Rattle.dir_replay.specs.View.{names_in}
-use Rattle.snapshot_model.specs.Blocks.{InodeBlock, most_bytes}
+use Rattle.snapshot_model.specs.Blocks.{InodeBlock, most_content_bytes}
 use Rattle.snapshot_model.specs.Reading.{IsWholeTree}
 use Rattle.snapshot_model.proofs.SameNames.{names_there, shown, sorted_same}
 use Rattle.snapshot_loading.proofs.PiecesInOrder.{listed_ascend}
@@ -56,7 +56,7 @@ listed_elsewhere : (d other : Key) (es : Directory) → same_key d other ≡ fal
 listed_elsewhere d other [] h = refl
 listed_elsewhere d other (e ∷ es) h = ap (λ (b : Bool). step b ((other, e.0), e.1) (listed (names_in other es) d)) h ∙ listed_elsewhere d other es h
 
--- behind a lower number
+-- after a lower number
 listed_behind : (d : Key) (ps : List InodeParts) → below_all key_cmp d (map numbered ps) ≡ true → listed (flat_map names_of ps) d ≡ []
 listed_behind d [] h = refl
 listed_behind d (p ∷ ps) h =
@@ -193,7 +193,7 @@ one_tree t w ps e =
 
 -- ---- what the building of the tree wants
 
-body_fits : (kind : Kind) (said : InodeBlock) (blocks : List (List ℕ)) (body : List ℕ) (es : Directory) → said.size ≤ most_bytes kind → HasContents kind said blocks body es → IsBody kind body
+body_fits : (kind : Kind) (said : InodeBlock) (blocks : List (List ℕ)) (body : List ℕ) (es : Directory) → said.size ≤ most_content_bytes kind → HasContents kind said blocks body es → IsBody kind body
 body_fits Reg said blocks body es few h = omega (arith, few, h.3)
 body_fits Dir said blocks body es few h = h.0
 body_fits Lnk said blocks body es few h = tt
@@ -203,4 +203,4 @@ bodies_fit [] [] h = tt
 bodies_fit [] (p ∷ ps) h = absurd h
 bodies_fit (b ∷ blocks) [] h = absurd h
 bodies_fit (b ∷ blocks) (p ∷ ps) h =
-    (body_fits p.kind h.0.said _ p.body p.entries.items (subst (λ (k : Kind). h.0.said.size ≤ most_bytes k) h.0.kind h.0.says.fits.size) h.0.contents, bodies_fit blocks ps h.1)
+    (body_fits p.kind h.0.said _ p.body p.entries.items (subst (λ (k : Kind). h.0.said.size ≤ most_content_bytes k) h.0.kind h.0.says.fits.size) h.0.contents, bodies_fit blocks ps h.1)

@@ -9,8 +9,8 @@ use Rattle.tree_model.specs.Tree.{Tree, Inode, listing}
 use Rattle.log_model.specs.Spelling.{IsKey}
 use Rattle.turn_model.specs.Basis.{Basis}
 use Rattle.snapshot_model.specs.Blocks.{InodeBlock, Ascend, IsEntry, IsInodeBlock, IsRootBlock, entries_block, inode_block, list_block, root_block, most_entries}
-use Rattle.snapshot_model.specs.Spelling.{Made, made_name, list_made, list_of, named_by, in_pieces, piece_made, entries_made, items_of, size_of, target_of, inode_made, snapshot_named}
-use Rattle.snapshot_model.specs.Reading.{Part, Root, AnInode, Piece, Entries, Names, item_of, part_below, top_of, HasBounds, IsBodyOf, IsBasisSpelled, IsWholeTree, AreOf}
+use Rattle.snapshot_model.specs.Spelling.{Made, made_name, list_made, list_of, named_by, in_pieces, piece_made, entries_made, items_of, content_size, symbolic_link_text, inode_made, snapshot_named}
+use Rattle.snapshot_model.specs.Reading.{SnapshotPart, Root, AnInode, Piece, Entries, NamesParts, item_of, part_below, top_of, HasBounds, IsBodyOf, IsBasisSpelled, IsWholeTree, AreOf}
 use Rattle.snapshot_model.proofs.Pieces.{few_pieces, short_pieces, each_joined, join-in_pieces}
 use Rattle.snapshot_model.proofs.MadeLists.{is_listed}
 use Rattle.snapshot_model.proofs.SameNames.{listed_fit}
@@ -24,13 +24,13 @@ use Rattle.snapshot_loading.proofs.Forests.{AllAre}
 use Rattle.snapshot_loading.proofs.Full.{pieces_full}
 use Rattle.snapshot_loading.proofs.Even.{up, enough, not_enough}
 use Rattle.snapshot_loading.proofs.Lists.{AreUp, are_up, ups, list_over, names_list, child, some_up, fits_one, few_by, many_by, even_lists_are_lists}
-use Rattle.snapshot_loading.proofs.OneForest.{forest_is_one}
+use Rattle.snapshot_loading.proofs.OneForest.{forest_is_unique}
 use Rattle.snapshot_loading.proofs.ShownInodes.{entries_as_pieces}
 use Rattle.snapshot_loading.proofs.Bases.{inodes_made, shown_are_loaded, shown_reading}
 
 -- ---- lists
 
-record ListForest (item : Part) (g : Forest) (p : ℕ × List Made) : Type 0 where
+record ListForest (item : SnapshotPart) (g : Forest) (p : ℕ × List Made) : Type 0 where
   top : Forest
   named : named_in top ≡ top_of item (named_by p).level (named_by p).top
   fits : Fits top
@@ -38,7 +38,7 @@ record ListForest (item : Part) (g : Forest) (p : ℕ × List Made) : Type 0 whe
   even : IsEvenList (named_by p).level top
 
 -- over blocks of which one list block is enough
-over_some : (item : Part) (g h : Forest) (l : ℕ) → suc l ≤ 3 → AllAre (part_below (suc l) item) h → Fits h → 1 ≤ length (mades h) → length (mades h) ≤ 512 → below_by l h ≡ g
+over_some : (item : SnapshotPart) (g h : Forest) (l : ℕ) → suc l ≤ 3 → AllAre (part_below (suc l) item) h → Fits h → 1 ≤ length (mades h) → length (mades h) ≤ 512 → below_by l h ≡ g
     → list_of (mades g) ≡ (suc l, list_made (suc l) (mades h) ∷ []) → ListForest item g (suc l, list_made (suc l) (mades h) ∷ [])
 over_some item g h l three are fits some few bottom is =
     let top = list_over (suc l) item h nothing in
@@ -52,7 +52,7 @@ over_some item g h l three are fits some few bottom is =
       even = (even_lists_are_lists item (suc l) (list_block (suc l) (map made_name (mades h))) h (omega arith) three (names, fits, tt)).1 (ap (λ (f : Forest). list_of (mades f)) down ∙ is);
     }
 
-list_forest : (item : Part) (g : Forest) → AllAre item g → Fits g → length (mades g) ≤ 134217728 → ListForest item g (list_of (mades g))
+list_forest : (item : SnapshotPart) (g : Forest) → AllAre item g → Fits g → length (mades g) ≤ 134217728 → ListForest item g (list_of (mades g))
 list_forest item nothing are fits few = record { top = nothing; named = refl; fits = tt; bottom = refl; even = tt }
 list_forest item (block part bytes below beside) are fits few = by (fits_one ms) refl
   where
@@ -102,24 +102,24 @@ list_forest item (block part bytes below beside) are fits few = by (fits_one ms)
 
 -- ---- leaves
 
-leaf_forest : Part → List (List ℕ) → Forest
+leaf_forest : SnapshotPart → List (List ℕ) → Forest
 leaf_forest part [] = nothing
 leaf_forest part (bytes ∷ others) = block part bytes nothing (leaf_forest part others)
 
-record AreLeaves (part : Part) (each : List (List ℕ)) (f : Forest) : Type 0 where
+record AreLeaves (part : SnapshotPart) (each : List (List ℕ)) (f : Forest) : Type 0 where
   made : mades f ≡ map piece_made each
   are : AllAre part f
   fits : Fits f
   in_them : bytes_in f ≡ each
 
-are_leaves : (part : Part) (each : List (List ℕ)) → AllByRecursion (λ b. Names part b []) each → AreLeaves part each (leaf_forest part each)
+are_leaves : (part : SnapshotPart) (each : List (List ℕ)) → AllByRecursion (λ b. NamesParts part b []) each → AreLeaves part each (leaf_forest part each)
 unfolding leaf_forest
 are_leaves part [] h = record { made = refl; are = tt; fits = tt; in_them = refl }
 are_leaves part (bytes ∷ others) h =
     let rest = are_leaves part others h.1 in
     record { made = ap (λ (ms : List Made). piece_made bytes ∷ ms) rest.made; are = (refl, rest.are); fits = (h.0, tt, rest.fits); in_them = ap (λ (l : List (List ℕ)). bytes ∷ l) rest.in_them }
 
-pieces_named : (each : List (List ℕ)) → AllByRecursion (λ ys. 1 ≤ length ys) each → AllByRecursion (λ ys. length ys ≤ 8192) each → AllByRecursion (λ b. Names Piece b []) each
+pieces_named : (each : List (List ℕ)) → AllByRecursion (λ ys. 1 ≤ length ys) each → AllByRecursion (λ ys. length ys ≤ 8192) each → AllByRecursion (λ b. NamesParts Piece b []) each
 pieces_named [] some few = tt
 pieces_named (p ∷ each) some few = (((some.0, few.0), refl), pieces_named each some.1 few.1)
 
@@ -127,7 +127,7 @@ abbrev Entry : Type 0
 Entry = List ℕ × Key
 
 entries_named : (each : List (List Entry)) → AllByRecursion (λ ys. 1 ≤ length ys) each → AllByRecursion (λ ys. length ys ≤ most_entries) each → AllByRecursion (AllByRecursion IsEntry) each → AllByRecursion Ascend each
-    → AllByRecursion (λ b. Names Entries b []) (map entries_block each)
+    → AllByRecursion (λ b. NamesParts Entries b []) (map entries_block each)
 entries_named [] some few good ascend = tt
 entries_named (es ∷ each) some few good ascend =
     ((es, record { fits = record { some = some.0; few = few.0; each = good.0; in_order = ascend.0 }; spelled = refl }, refl), entries_named each some.1 few.1 good.1 ascend.1)
@@ -140,7 +140,7 @@ record HasContents (kind : Kind) (body : List ℕ) (es : List Entry) : Type 0 wh
   are : AllAre (item_of kind) forest
   fits : Fits forest
   few : length (mades forest) ≤ 134217728
-  shows : (said : InodeBlock) → said.size ≡ size_of body kind → said.target ≡ target_of body kind → AreContents kind said forest body es
+  shows : (said : InodeBlock) → said.size ≡ content_size body kind → said.target ≡ symbolic_link_text body kind → AreContents kind said forest body es
 
 has_contents : (kind : Kind) (body : List ℕ) (es : List Entry) → IsBodyOf kind body → AreListed es → HasContents kind body es
 has_contents Reg body es h l =
@@ -287,7 +287,7 @@ pub loaded_is_shown : LoadedIsShown
 loaded_is_shown bytes below b fits = (
   λ are.
       let g = are_forest (map (λ p. p.1) (flat (block Root bytes below nothing))) b are in
-      let one = forest_is_one g.bytes bytes g.below below g.fits fits g.order in
+      let one = forest_is_unique g.bytes bytes g.below below g.fits fits g.order in
       (are.whole, are.bounds, subst (λ (x : List ℕ). ShowsBasis x below b) one.0 (subst (λ (f : Forest). ShowsBasis g.bytes f b) one.1 g.shows)),
   λ w. shown_are_loaded bytes below b fits w.0 w.1 w.2,
 )

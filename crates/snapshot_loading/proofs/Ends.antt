@@ -8,7 +8,7 @@ use Rattle.log_model.specs.Rank.{Rank}
 use Rattle.log_model.specs.Spelling.{IsKey}
 use Rattle.turn_model.specs.Basis.{Basis}
 use Rattle.snapshot_model.specs.Blocks.{RootBlock, IsRankSpelled, IsRootBlock, IsVectorSpelled, Says, root_block}
-use Rattle.snapshot_model.specs.Reading.{Part, Root, AnInode, AreOf, HasBounds, IsBasisSpelled, IsWholeTree, top_of}
+use Rattle.snapshot_model.specs.Reading.{SnapshotPart, Root, AnInode, AreOf, HasBounds, IsBasisSpelled, IsWholeTree, top_of}
 use Rattle.snapshot_model.proofs.OneBlock.{one_root}
 use Rattle.snapshot_model.proofs.OneNames.{one_said}
 use Rattle.snapshot_model.proofs.SameNames.{listed_fit}
@@ -22,7 +22,7 @@ use Rattle.snapshot_loading.specs.WholeLaws.{blocks_read}
 use Rattle.snapshot_loading.proofs.ShownInodes.{items_are}
 use Rattle.snapshot_loading.proofs.OneForest.{read_is_forest}
 use Rattle.snapshot_loading.proofs.Canon.{loaded_is_shown}
-use Rattle.snapshot_loading.proofs.OneBasis.{snapshot_is_one}
+use Rattle.snapshot_loading.proofs.OneBasis.{snapshot_is_unique}
 use Rattle.snapshot_loading.proofs.SoundTrees.{whole_trees_are_sound}
 use Rattle.snapshot_loading.specs.declared.parts.InodeParts.{InodeParts}
 use Rattle.snapshot_loading.specs.Parts.{IsTreeOf, tree_of}
@@ -101,7 +101,7 @@ module _ (bytes : List ℕ) (below : Forest) (fits : Fits (block Root bytes belo
   are_of (Some b) h =
       let s = basis_shown b h in
       let its : AreOf (map (λ p. p.1) (flat (block Root bytes below nothing))) b = (loaded_is_shown bytes below b fits).1 ((whole_trees_are_sound b.tree).1 h.sound, s.0, s.1) in
-      (its, λ c are. snapshot_is_one (map (λ p. p.1) (flat (block Root bytes below nothing))) b c its are)
+      (its, λ c are. snapshot_is_unique (map (λ p. p.1) (flat (block Root bytes below nothing))) b c its are)
   are_of None h = λ b are. let g = (loaded_is_shown bytes below b fits).0 are in h b (basis_told b g.0 g.1 g.2)
 
 -- ---- what was read
@@ -113,17 +113,17 @@ bytes_read (r ∷ read) = ap (λ (l : List (List ℕ)). r.bytes ∷ l) (bytes_re
 pub read_is_of : (root : Key) (first : Read) (rest : List Read) (basis : Option Basis) → AreReadFrom (first ∷ rest) root → IsABasis first.bytes (blocks_read rest) basis → AreOfBasis (bytes_of (first ∷ rest)) basis
 read_is_of root first rest basis h is =
     let w = read_is_forest root (first ∷ rest) h in
-    let head : ◌≡◌ {A = Part × List ℕ} (Root, w.bytes) (part_of first.role, first.bytes) = by_first w.order in
+    let head : ◌≡◌ {A = SnapshotPart × List ℕ} (Root, w.bytes) (part_of first.role, first.bytes) = by_first w.order in
     let tail : flat w.below ≡ blocks_read rest = sym (append-nil (flat w.below)) ∙ by_rest w.order in
-    let bytes : first.bytes ≡ w.bytes = sym (ap (λ (p : Part × List ℕ). p.1) head) in
+    let bytes : first.bytes ≡ w.bytes = sym (ap (λ (p : SnapshotPart × List ℕ). p.1) head) in
     let same : map (λ p. p.1) (flat (block Root w.bytes w.below nothing)) ≡ bytes_of (first ∷ rest) = ap (λ (bs : Blocks). map (λ p. p.1) bs) w.order ∙ bytes_read (first ∷ rest) in
     subst (λ (bs : List (List ℕ)). AreOfBasis bs basis) same
     (are_of w.bytes w.below w.fits basis (subst (λ (x : List ℕ). IsABasis x (flat w.below) basis) bytes (subst (λ (bs : Blocks). IsABasis first.bytes bs basis) (sym tail) is)))
   where
-    by_first : {a b : Part × List ℕ} {xs ys : Blocks} → a ∷ xs ≡ b ∷ ys → a ≡ b
+    by_first : {a b : SnapshotPart × List ℕ} {xs ys : Blocks} → a ∷ xs ≡ b ∷ ys → a ≡ b
     by_first e = cc
 
-    by_rest : {a b : Part × List ℕ} {xs ys : Blocks} → a ∷ xs ≡ b ∷ ys → xs ≡ ys
+    by_rest : {a b : SnapshotPart × List ℕ} {xs ys : Blocks} → a ∷ xs ≡ b ∷ ys → xs ≡ ys
     by_rest e = cc
 
 -- ---- and what wasn't told

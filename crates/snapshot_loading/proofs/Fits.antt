@@ -10,9 +10,9 @@ use Rattle.ivy_base.specs.declared.operation.Kind.TheVariants.{Reg, Dir, Lnk}
 use Rattle.tree_model.specs.Tree.{Tree, Inode, listing}
 use Rattle.log_model.specs.Spelling.{IsKey, IsTarget}
 use Rattle.turn_model.specs.Basis.{Basis}
-use Rattle.snapshot_model.specs.Blocks.{InodeBlock, RootBlock, list_block, entries_block, inode_block, root_block, Ascend, AreNamed, IsEntry, IsInodeBlock, IsListed, IsRootBlock, most_bytes, most_levels, most_entries}
-use Rattle.snapshot_model.specs.Spelling.{Made, over, made_name, list_made, listed, list_of, named_by, pieces, in_pieces, piece_made, entries_made, items_of, size_of, target_of, inode_over, inode_made, snapshot_named}
-use Rattle.snapshot_model.specs.Reading.{Part, Root, Listing, AnInode, Piece, Entries, Names, item_of, part_below, top_of, HasBounds, IsBodyOf, IsBasisSpelled, IsWholeTree}
+use Rattle.snapshot_model.specs.Blocks.{InodeBlock, RootBlock, list_block, entries_block, inode_block, root_block, Ascend, AreNamed, IsEntry, IsInodeBlock, IsListed, IsRootBlock, most_content_bytes, most_levels, most_entries}
+use Rattle.snapshot_model.specs.Spelling.{Made, over, made_name, list_made, list_blocks_over, list_of, named_by, pieces, in_pieces, piece_made, entries_made, items_of, content_size, symbolic_link_text, inode_over, inode_made, snapshot_named}
+use Rattle.snapshot_model.specs.Reading.{SnapshotPart, Root, Listing, AnInode, Piece, Entries, NamesParts, item_of, part_below, top_of, HasBounds, IsBodyOf, IsBasisSpelled, IsWholeTree}
 use Rattle.snapshot_model.proofs.Pieces.{few_pieces, short_pieces, each_joined}
 use Rattle.snapshot_model.proofs.MadeLists.{is_key, is_listed, most_under, few_below}
 use Rattle.snapshot_model.proofs.SameNames.{listed_fit}
@@ -20,37 +20,37 @@ use Rattle.snapshot_loading.proofs.PiecesInOrder.{pieces_ascend, listed_ascend}
 
 -- ---- blocks with those below them
 
-abbrev pub names_of : List (Part × Made) → List (Part × Key)
+abbrev pub names_of : List (SnapshotPart × Made) → List (SnapshotPart × Key)
 names_of ms = map (λ p. (p.0, made_name p.1)) ms
 
-abbrev pub mades : List (Part × Made) → List Made
+abbrev pub mades : List (SnapshotPart × Made) → List Made
 mades ms = map (λ p. p.1) ms
 
 -- each is that part, and names those below it, which do so too
-pub data FitAll : List (Part × Made) → Type 0 where
+pub data FitAll : List (SnapshotPart × Made) → Type 0 where
   none : FitAll []
-  and : {part : Part} {rest : List (Part × Made)} (bytes : List ℕ) (below : List (Part × Made)) → Names part bytes (names_of below) → FitAll below → FitAll rest
+  and : {part : SnapshotPart} {rest : List (SnapshotPart × Made)} (bytes : List ℕ) (below : List (SnapshotPart × Made)) → NamesParts part bytes (names_of below) → FitAll below → FitAll rest
       → FitAll ((part, over bytes (mades below)) ∷ rest)
 
-pub fit_both : {ms others : List (Part × Made)} → FitAll ms → FitAll others → FitAll (ms ++ others)
+pub fit_both : {ms others : List (SnapshotPart × Made)} → FitAll ms → FitAll others → FitAll (ms ++ others)
 fit_both none g = g
 fit_both (and bytes below names fit rest) g = and bytes below names fit (fit_both rest g)
 
-fit_cut : (n : ℕ) {ms : List (Part × Made)} → FitAll ms → FitAll (take n ms) × FitAll (drop n ms)
+fit_cut : (n : ℕ) {ms : List (SnapshotPart × Made)} → FitAll ms → FitAll (take n ms) × FitAll (drop n ms)
 fit_cut zero h = (none, h)
 fit_cut (suc n) none = (none, none)
 fit_cut (suc n) (and bytes below names fit rest) = let w = fit_cut n rest in (and bytes below names fit w.0, w.1)
 
 -- ---- lists
 
-abbrev as_part : Part → List Made → List (Part × Made)
+abbrev as_part : SnapshotPart → List Made → List (SnapshotPart × Made)
 as_part part ms = map (λ m. (part, m)) ms
 
-mades_as : (part : Part) (ms : List Made) → mades (as_part part ms) ≡ ms
+mades_as : (part : SnapshotPart) (ms : List Made) → mades (as_part part ms) ≡ ms
 mades_as part [] = refl
 mades_as part (m ∷ ms) = ap (λ l. m ∷ l) (mades_as part ms)
 
-names_as : (part : Part) (ms : List Made) → names_of (as_part part ms) ≡ map (λ k. (part, k)) (map made_name ms)
+names_as : (part : SnapshotPart) (ms : List Made) → names_of (as_part part ms) ≡ map (λ k. (part, k)) (map made_name ms)
 names_as part [] = refl
 names_as part (m ∷ ms) = ap (λ l. (part, made_name m) ∷ l) (names_as part ms)
 
@@ -58,7 +58,7 @@ keys_fit : (ms : List Made) → AllByRecursion IsKey (map made_name ms)
 keys_fit [] = tt
 keys_fit (m ∷ ms) = (is_key m.bytes, keys_fit ms)
 
-list_fits : (level : ℕ) (item : Part) (ms : List Made) {rest : List (Part × Made)} → 1 ≤ length ms → length ms ≤ 512 → FitAll (as_part (part_below level item) ms) → FitAll rest
+list_fits : (level : ℕ) (item : SnapshotPart) (ms : List Made) {rest : List (SnapshotPart × Made)} → 1 ≤ length ms → length ms ≤ 512 → FitAll (as_part (part_below level item) ms) → FitAll rest
     → FitAll ((Listing level item, list_made level ms) ∷ rest)
 list_fits level item ms {rest = rest} some few fit more =
     let part = part_below level item in
@@ -66,45 +66,45 @@ list_fits level item ms {rest = rest} some few fit more =
     subst (λ (below : List Made). FitAll ((Listing level item, over (list_block level (map made_name ms)) below) ∷ rest)) (mades_as part ms)
     (and (list_block level (map made_name ms)) (as_part part ms) (map made_name ms, record { fits = named; spelled = refl }, names_as part ms) fit more)
 
-lists_fit : (level : ℕ) (item : Part) (n : ℕ) (ms : List Made) → FitAll (as_part (part_below level item) ms) → FitAll (as_part (Listing level item) (map (list_made level) (pieces n 512 ms)))
+lists_fit : (level : ℕ) (item : SnapshotPart) (n : ℕ) (ms : List Made) → FitAll (as_part (part_below level item) ms) → FitAll (as_part (Listing level item) (map (list_made level) (pieces n 512 ms)))
 lists_fit level item zero ms fit = none
 lists_fit level item (suc n) [] fit = none
 lists_fit level item (suc n) (m ∷ ms) fit =
-    let f : Made → Part × Made = λ x. (part_below level item, x) in
+    let f : Made → SnapshotPart × Made = λ x. (part_below level item, x) in
     let cut = fit_cut 512 fit in
     list_fits level item (take 512 (m ∷ ms)) (omega arith) (omega (arith, length-take 512 (m ∷ ms)))
-    (subst (λ (l : List (Part × Made)). FitAll l) (take-map f 512 (m ∷ ms)) cut.0)
-    (lists_fit level item n (drop 512 (m ∷ ms)) (subst (λ (l : List (Part × Made)). FitAll l) (drop-map f 512 (m ∷ ms)) cut.1))
+    (subst (λ (l : List (SnapshotPart × Made)). FitAll l) (take-map f 512 (m ∷ ms)) cut.0)
+    (lists_fit level item n (drop 512 (m ∷ ms)) (subst (λ (l : List (SnapshotPart × Made)). FitAll l) (drop-map f 512 (m ∷ ms)) cut.1))
 
 -- a list that is named so
-record FitsList (item : Part) (p : ℕ × List Made) : Type 0 where
-  below : List (Part × Made)
+record FitsList (item : SnapshotPart) (p : ℕ × List Made) : Type 0 where
+  below : List (SnapshotPart × Made)
   same : mades below ≡ p.1
   named : names_of below ≡ top_of item (named_by p).level (named_by p).top
   fit : FitAll below
 
 abbrev by_size : ℕ → ℕ → List Made → Bool → ℕ × List Made
-by_size n level items b = if b then (level, list_made level items ∷ []) else listed n (level + 1) (map (list_made level) (in_pieces 512 items))
+by_size n level items b = if b then (level, list_made level items ∷ []) else list_blocks_over n (level + 1) (map (list_made level) (in_pieces 512 items))
 
 not_few : (len : ℕ) → false ≡ nat_le len 512 → 512 < len
 not_few len e = grind (arith, e)
 
-level_above : (level before : ℕ) (item : Part) → level ≡ suc before → part_below (level + 1) item ≡ Listing level item
+level_above : (level before : ℕ) (item : SnapshotPart) → level ≡ suc before → part_below (level + 1) item ≡ Listing level item
 level_above level before item e =
     let next : level + 1 ≡ suc (suc before) = omega (arith, e) in
     ap (λ k. part_below k item) next ∙ ap (λ k. Listing k item) (sym e)
 
-levels_fit : (n level before : ℕ) → level ≡ suc before → (item : Part) (ms : List Made) → FitAll (as_part (part_below level item) ms) → length ms ≤ most_under n → FitsList item (listed n level ms)
+levels_fit : (n level before : ℕ) → level ≡ suc before → (item : SnapshotPart) (ms : List Made) → FitAll (as_part (part_below level item) ms) → length ms ≤ most_under n → FitsList item (list_blocks_over n level ms)
 levels_fit zero level before e item [] fit few = record { below = []; same = refl; named = refl; fit = none }
 levels_fit zero level before e item (m ∷ ms) fit few = absurd (omega (arith, few))
 levels_fit (suc n) level before e item [] fit few = record { below = []; same = refl; named = refl; fit = none }
 levels_fit (suc n) level before e item (m ∷ ms) fit few =
     by (nat_le (length (m ∷ ms)) 512) refl
     (λ fewer. levels_fit n (level + 1) (suc before) (omega (arith, e)) item (map (list_made level) (in_pieces 512 (m ∷ ms)))
-    (subst (λ (part : Part). FitAll (as_part part (map (list_made level) (in_pieces 512 (m ∷ ms))))) (sym (level_above level before item e)) (lists_fit level item (length (m ∷ ms)) (m ∷ ms) fit))
+    (subst (λ (part : SnapshotPart). FitAll (as_part part (map (list_made level) (in_pieces 512 (m ∷ ms))))) (sym (level_above level before item e)) (lists_fit level item (length (m ∷ ms)) (m ∷ ms) fit))
     (omega (arith, fewer, length-map (in_pieces 512 (m ∷ ms)) (list_made level))))
   where
-    by : (b : Bool) → b ≡ nat_le (length (m ∷ ms)) 512 → (length (in_pieces 512 (m ∷ ms)) ≤ most_under n → FitsList item (listed n (level + 1) (map (list_made level) (in_pieces 512 (m ∷ ms)))))
+    by : (b : Bool) → b ≡ nat_le (length (m ∷ ms)) 512 → (length (in_pieces 512 (m ∷ ms)) ≤ most_under n → FitsList item (list_blocks_over n (level + 1) (map (list_made level) (in_pieces 512 (m ∷ ms)))))
         → FitsList item (by_size n level (m ∷ ms) b)
     by true t above = record {
       below = (Listing level item, list_made level (m ∷ ms)) ∷ [];
@@ -155,17 +155,17 @@ block_of number inode es = record {
   number = number;
   kind = inode.kind;
   attributes = inode.attributes;
-  size = size_of inode.body inode.kind;
-  target = target_of inode.body inode.kind;
+  size = content_size inode.body inode.kind;
+  target = symbolic_link_text inode.body inode.kind;
   items = named_by (list_of (items_of es inode.body inode.kind));
 }
 
-pub size_fits : (kind : Kind) (body : List ℕ) → IsBodyOf kind body → size_of body kind ≤ most_bytes kind
+pub size_fits : (kind : Kind) (body : List ℕ) → IsBodyOf kind body → content_size body kind ≤ most_content_bytes kind
 size_fits Reg body h = h
 size_fits Dir body h = omega arith
 size_fits Lnk body h = omega arith
 
-pub target_fits : (kind : Kind) (body : List ℕ) → IsBodyOf kind body → IsTarget kind (target_of body kind)
+pub target_fits : (kind : Kind) (body : List ℕ) → IsBodyOf kind body → IsTarget kind (symbolic_link_text body kind)
 target_fits Reg body h = refl
 target_fits Dir body h = refl
 target_fits Lnk body h = h
@@ -175,7 +175,7 @@ items_listed Reg body es = is_listed (items_of es body Reg)
 items_listed Dir body es = is_listed (items_of es body Dir)
 items_listed Lnk body es = let l = is_listed [] in record { few = omega arith; top = l.top; none = l.none }
 
-inode_fits : (number : Key) (inode : Inode) (es : List (List ℕ × Key)) {rest : List (Part × Made)} → IsKey number → HasBounds inode → AreListed es → FitAll rest
+inode_fits : (number : Key) (inode : Inode) (es : List (List ℕ × Key)) {rest : List (SnapshotPart × Made)} → IsKey number → HasBounds inode → AreListed es → FitAll rest
     → FitAll ((AnInode, inode_over number inode (list_of (items_of es inode.body inode.kind))) ∷ rest)
 inode_fits number inode es {rest = rest} key bounds l more =
     let items = items_of es inode.body inode.kind in

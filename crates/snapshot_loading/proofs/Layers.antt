@@ -7,7 +7,7 @@ use Rattle.ivy_base.specs.declared.key.Key.{Key}
 use Rattle.ivy_base.specs.declared.operation.Kind.{Kind}
 use Rattle.ivy_base.specs.declared.operation.Kind.TheVariants.{Reg, Dir, Lnk}
 use Rattle.ivy_base.specs.Naming.{name}
-use Rattle.snapshot_model.specs.Reading.{Part, Root, Listing, AnInode, Piece, Entries, Names, item_of, part_below, top_of}
+use Rattle.snapshot_model.specs.Reading.{SnapshotPart, Root, Listing, AnInode, Piece, Entries, NamesParts, item_of, part_below, top_of}
 use Rattle.snapshot_loading.specs.Forests.{Forest, nothing, block, flat, named_in, Fits, joined, children, below_by}
 use Rattle.snapshot_loading.specs.ShownInodes.{bytes_in}
 use Rattle.snapshot_loading.proofs.Forests.{AllAre, children_are, fits_children}
@@ -48,19 +48,19 @@ module _ (inodes : Bool) (level : ℕ) where
       by false e = e
 
   -- blocks of another level give way to those below them
-  pub skips : (part : Part) (f : Forest) → is_at inodes level part ≡ false → AllAre part f → picked inodes level (flat f) ≡ picked inodes level (flat (children f))
+  pub skips : (part : SnapshotPart) (f : Forest) → is_at inodes level part ≡ false → AllAre part f → picked inodes level (flat f) ≡ picked inodes level (flat (children f))
   skips part nothing absent are = refl
   skips part (block other bytes below beside) absent are =
-      let none : is_at inodes level other ≡ false = ap (λ (p : Part). is_at inodes level p) are.0 ∙ absent in
+      let none : is_at inodes level other ≡ false = ap (λ (p : SnapshotPart). is_at inodes level p) are.0 ∙ absent in
       ap (λ (b : Bool). taken b bytes (picked inodes level (flat below ++ flat beside))) none ∙ picked_append (flat below) (flat beside)
       ∙ ap (λ (l : List (List ℕ)). picked inodes level (flat below) ++ l) (skips part beside absent are.1)
       ∙ sym (picked_append (flat below) (flat (children beside))) ∙ ap (λ (l : Blocks). picked inodes level l) (sym (flat_joined below (children beside)))
 
   -- and those of this level are all, where none is below them
-  pub takes : (part : Part) (f : Forest) → is_at inodes level part ≡ true → AllAre part f → picked inodes level (flat (children f)) ≡ [] → picked inodes level (flat f) ≡ bytes_in f
+  pub takes : (part : SnapshotPart) (f : Forest) → is_at inodes level part ≡ true → AllAre part f → picked inodes level (flat (children f)) ≡ [] → picked inodes level (flat f) ≡ bytes_in f
   takes part nothing found are none = refl
   takes part (block other bytes below beside) found are none =
-      let is : is_at inodes level other ≡ true = ap (λ (p : Part). is_at inodes level p) are.0 ∙ found in
+      let is : is_at inodes level other ≡ true = ap (λ (p : SnapshotPart). is_at inodes level p) are.0 ∙ found in
       let both : picked inodes level (flat below) ++ picked inodes level (flat (children beside)) ≡ [] =
       sym (picked_append (flat below) (flat (children beside))) ∙ ap (λ (l : Blocks). picked inodes level l) (sym (flat_joined below (children beside))) ∙ none in
       let here = no_first (picked inodes level (flat below)) (picked inodes level (flat (children beside))) both in
@@ -80,15 +80,15 @@ module _ (inodes : Bool) (level : ℕ) where
 abbrev pub AreInside : Blocks → Type 0
 AreInside blocks = AllByRecursion (λ b. of_inodes b.0 ≡ false) blocks
 
-abbrev pub NamedInside : List (Part × Key) → Type 0
+abbrev pub NamedInside : List (SnapshotPart × Key) → Type 0
 NamedInside named = AllByRecursion (λ p. of_inodes p.0 ≡ false) named
 
-below_inside : (level : ℕ) (item : Part) → of_inodes item ≡ false → of_inodes (part_below level item) ≡ false
+below_inside : (level : ℕ) (item : SnapshotPart) → of_inodes item ≡ false → of_inodes (part_below level item) ≡ false
 below_inside zero item h = h
 below_inside (suc zero) item h = h
 below_inside (suc (suc level)) item h = h
 
-each_inside : (part : Part) (keys : List Key) → of_inodes part ≡ false → NamedInside (map {B = Part × Key} (λ k. (part, k)) keys)
+each_inside : (part : SnapshotPart) (keys : List Key) → of_inodes part ≡ false → NamedInside (map {B = SnapshotPart × Key} (λ k. (part, k)) keys)
 each_inside part [] h = tt
 each_inside part (k ∷ keys) h = (h, each_inside part keys h)
 
@@ -98,7 +98,7 @@ top_inside Reg (suc level) top = (refl, tt)
 top_inside Dir (suc level) top = (refl, tt)
 top_inside Lnk (suc level) top = (refl, tt)
 
-names_inside : (part : Part) (bytes : List ℕ) (named : List (Part × Key)) → of_inodes part ≡ false → Names part bytes named → NamedInside named
+names_inside : (part : SnapshotPart) (bytes : List ℕ) (named : List (SnapshotPart × Key)) → of_inodes part ≡ false → NamesParts part bytes named → NamedInside named
 names_inside Root bytes named absent n = cc
 names_inside (Listing level item) bytes named absent n = subst NamedInside (sym n.2) (each_inside (part_below level item) n.0 (below_inside level item absent))
 names_inside AnInode bytes named absent n = cc
@@ -115,13 +115,13 @@ all_inside (block part bytes below beside) fits h =
     (h.0, both_inside (flat below) (flat beside) (all_inside below fits.1 (names_inside part bytes (named_in below) h.0 fits.0)) (all_inside beside fits.2 h.1))
 
 -- all below an inode
-pub inode_has : (bytes : List ℕ) (below : Forest) → Names AnInode bytes (named_in below) → Fits below → AreInside (flat below)
+pub inode_has : (bytes : List ℕ) (below : Forest) → NamesParts AnInode bytes (named_in below) → Fits below → AreInside (flat below)
 inode_has bytes below n fits = all_inside below fits (subst NamedInside (sym n.2) (top_inside n.0.kind n.0.items.level n.0.items.top))
 
 -- ---- what is at the bottom of a list
 
 -- nothing of these levels is below the items
-pub record IsBottom (inodes : Bool) (item : Part) : Type 0 where
+pub record IsBottom (inodes : Bool) (item : SnapshotPart) : Type 0 where
   pub level : level_of item ≡ 0
   pub among : is_among inodes item ≡ true
   pub none : (level : ℕ) (f : Forest) → AllAre item f → Fits f → picked inodes level (flat (children f)) ≡ []
@@ -129,13 +129,13 @@ pub record IsBottom (inodes : Bool) (item : Part) : Type 0 where
 no_children : (f : Forest) → AllAre Piece f → Fits f → children f ≡ nothing
 no_children nothing are fits = refl
 no_children (block part bytes below beside) are fits =
-    let names = subst (λ (p : Part). Names p bytes (named_in below)) are.0 fits.0 in
+    let names = subst (λ (p : SnapshotPart). NamesParts p bytes (named_in below)) are.0 fits.0 in
     ap (λ (f : Forest). joined f (children beside)) (is_nothing below names.1) ∙ no_children beside are.1 fits.2
 
 no_children_either : (f : Forest) → AllAre Entries f → Fits f → children f ≡ nothing
 no_children_either nothing are fits = refl
 no_children_either (block part bytes below beside) are fits =
-    let names = subst (λ (p : Part). Names p bytes (named_in below)) are.0 fits.0 in
+    let names = subst (λ (p : SnapshotPart). NamesParts p bytes (named_in below)) are.0 fits.0 in
     ap (λ (f : Forest). joined f (children beside)) (is_nothing below names.2) ∙ no_children_either beside are.1 fits.2
 
 pub pieces_are : IsBottom false Piece
@@ -147,7 +147,7 @@ entries_are = record { level = refl; among = refl; none = λ level f are fits. a
 none_in_inodes : (level : ℕ) (f : Forest) → AllAre AnInode f → Fits f → picked true level (flat (children f)) ≡ []
 none_in_inodes level nothing are fits = refl
 none_in_inodes level (block part bytes below beside) are fits =
-    let names = subst (λ (p : Part). Names p bytes (named_in below)) are.0 fits.0 in
+    let names = subst (λ (p : SnapshotPart). NamesParts p bytes (named_in below)) are.0 fits.0 in
     ap (λ (l : Blocks). picked true level l) (flat_joined below (children beside)) ∙ picked_append true level (flat below) (flat (children beside))
     ∙ (λ i. none_inside true level refl (flat below) (inode_has bytes below names fits.1) i ++ none_in_inodes level beside are.1 fits.2 i)
 
@@ -156,11 +156,11 @@ inodes_are = record { level = refl; among = refl; none = none_in_inodes }
 
 -- ---- the levels of a list
 
-among_list : (inodes : Bool) (level : ℕ) (item : Part) → is_among inodes (Listing level item) ≡ is_among inodes item
+among_list : (inodes : Bool) (level : ℕ) (item : SnapshotPart) → is_among inodes (Listing level item) ≡ is_among inodes item
 among_list true level item = refl
 among_list false level item = refl
 
-module _ (inodes : Bool) (item : Part) (bottom : IsBottom inodes item) where
+module _ (inodes : Bool) (item : SnapshotPart) (bottom : IsBottom inodes item) where
   list_at : (level other : ℕ) → is_at inodes other (Listing level item) ≡ nat_eq level other
   list_at level other = ap (λ (b : Bool). b && nat_eq level other) (among_list inodes level item ∙ bottom.among)
 
@@ -199,9 +199,9 @@ module _ (inodes : Bool) (item : Part) (bottom : IsBottom inodes item) where
   pub all_top : (level : ℕ) (top : Key) (below : Forest) → named_in below ≡ top_of item (suc level) top → AllAre (Listing (suc level) item) below
   all_top level top nothing e = tt
   all_top level top (block part bytes below beside) e =
-      let head : ◌≡◌ {A = Part × Key} (part, name bytes) (Listing (suc level) item, top) = cc in
+      let head : ◌≡◌ {A = SnapshotPart × Key} (part, name bytes) (Listing (suc level) item, top) = cc in
       let tail : named_in beside ≡ [] = cc in
-      (ap (λ (p : Part × Key). p.0) head, subst (λ (f : Forest). AllAre (Listing (suc level) item) f) (sym (is_nothing beside tail)) tt)
+      (ap (λ (p : SnapshotPart × Key). p.0) head, subst (λ (f : Forest). AllAre (Listing (suc level) item) f) (sym (is_nothing beside tail)) tt)
 
   -- the same by the topmost block
   pub top_picked : (level : ℕ) (top : Key) (below : Forest) → named_in below ≡ top_of item level top → Fits below → picked inodes 0 (flat below) ≡ bytes_in (below_by level below)

@@ -9,8 +9,8 @@ use Rattle.ivy_base.specs.declared.key.Key.{Key}
 use Rattle.ivy_base.specs.Naming.{name}
 use Rattle.log_model.specs.Spelling.{IsKey}
 use Rattle.snapshot_model.specs.Blocks.{AreNamed, list_block}
-use Rattle.snapshot_model.specs.Spelling.{Made, over, made_name, list_made, listed, list_of, pieces, in_pieces}
-use Rattle.snapshot_model.specs.Reading.{Part, Listing, Names, part_below}
+use Rattle.snapshot_model.specs.Spelling.{Made, over, made_name, list_made, list_blocks_over as listed, list_of, pieces, in_pieces}
+use Rattle.snapshot_model.specs.Reading.{SnapshotPart, Listing, NamesParts, part_below}
 use Rattle.snapshot_model.proofs.MadeLists.{is_key}
 use Rattle.snapshot_loading.specs.Forests.{Forest, nothing, block, named_in, mades, Fits, joined, children, below_by, groups, AreFull, IsEven, IsLeast}
 use Rattle.snapshot_loading.specs.WholeLaws.{EvenListsAreLists}
@@ -51,12 +51,12 @@ fits_dropped zero f h = h
 fits_dropped (suc n) nothing h = tt
 fits_dropped (suc n) (block part bytes below beside) h = fits_dropped n beside h.2
 
-are_taken : (part : Part) (n : ℕ) (f : Forest) → AllAre part f → AllAre part (taken n f)
+are_taken : (part : SnapshotPart) (n : ℕ) (f : Forest) → AllAre part f → AllAre part (taken n f)
 are_taken part zero f h = tt
 are_taken part (suc n) nothing h = tt
 are_taken part (suc n) (block other bytes below beside) h = (h.0, are_taken part n beside h.1)
 
-are_dropped : (part : Part) (n : ℕ) (f : Forest) → AllAre part f → AllAre part (dropped n f)
+are_dropped : (part : SnapshotPart) (n : ℕ) (f : Forest) → AllAre part f → AllAre part (dropped n f)
 are_dropped part zero f h = h
 are_dropped part (suc n) nothing h = tt
 are_dropped part (suc n) (block other bytes below beside) h = are_dropped part n beside h.1
@@ -66,7 +66,7 @@ rejoined zero f = refl
 rejoined (suc n) nothing = refl
 rejoined (suc n) (block part bytes below beside) = ap (λ (f : Forest). block part bytes below f) (rejoined n beside)
 
-named_by_keys : (part : Part) (f : Forest) → AllAre part f → named_in f ≡ map {B = Part × Key} (λ k. (part, k)) (map made_name (mades f))
+named_by_keys : (part : SnapshotPart) (f : Forest) → AllAre part f → named_in f ≡ map {B = SnapshotPart × Key} (λ k. (part, k)) (map made_name (mades f))
 named_by_keys part nothing h = refl
 named_by_keys part (block other bytes below beside) h = rw (h.0, named_by_keys part beside h.1) refl
 
@@ -76,22 +76,22 @@ keys_fit : (ms : List Made) → AllByRecursion IsKey (map made_name ms)
 keys_fit [] = tt
 keys_fit (m ∷ ms) = (is_key m.bytes, keys_fit ms)
 
-abbrev pub list_over : ℕ → Part → Forest → Forest → Forest
+abbrev pub list_over : ℕ → SnapshotPart → Forest → Forest → Forest
 list_over level item below beside = block (Listing level item) (list_block level (map made_name (mades below))) below beside
 
-pub names_list : (level : ℕ) (item : Part) (below : Forest) → AllAre (part_below level item) below → 1 ≤ length (mades below) → length (mades below) ≤ 512
-    → Names (Listing level item) (list_block level (map made_name (mades below))) (named_in below)
+pub names_list : (level : ℕ) (item : SnapshotPart) (below : Forest) → AllAre (part_below level item) below → 1 ≤ length (mades below) → length (mades below) ≤ 512
+    → NamesParts (Listing level item) (list_block level (map made_name (mades below))) (named_in below)
 names_list level item below are some few =
     let named : AreNamed (map made_name (mades below)) = record { some = omega (arith, length-map (mades below) made_name, some); few = omega (arith, length-map (mades below) made_name, few); each = keys_fit (mades below) } in
     (map made_name (mades below), record { fits = named; spelled = refl }, named_by_keys (part_below level item) below are)
 
 -- the list blocks of that level over these, in full pieces
-abbrev pub ups : ℕ → ℕ → Part → Forest → Forest
+abbrev pub ups : ℕ → ℕ → SnapshotPart → Forest → Forest
 ups zero level item f = nothing
 ups (suc n) level item nothing = nothing
 ups (suc n) level item (block part bytes below beside) = list_over level item (taken 512 (block part bytes below beside)) (ups n level item (dropped 512 (block part bytes below beside)))
 
-pub record AreUp (level : ℕ) (item : Part) (f : Forest) (n : ℕ) (g : Forest) : Type 0 where
+pub record AreUp (level : ℕ) (item : SnapshotPart) (f : Forest) (n : ℕ) (g : Forest) : Type 0 where
   pub made : mades g ≡ map (list_made level) (pieces n 512 (mades f))
   pub grouped : groups g ≡ pieces n 512 (mades f)
   pub under : children g ≡ f
@@ -101,7 +101,7 @@ pub record AreUp (level : ℕ) (item : Part) (f : Forest) (n : ℕ) (g : Forest)
 size_of : (f : Forest) → ℕ
 size_of f = length (mades f)
 
-pub are_up : (n level : ℕ) (item : Part) (f : Forest) → AllAre (part_below level item) f → Fits f → length (mades f) ≤ n → AreUp level item f n (ups n level item f)
+pub are_up : (n level : ℕ) (item : SnapshotPart) (f : Forest) → AllAre (part_below level item) f → Fits f → length (mades f) ≤ n → AreUp level item f n (ups n level item f)
 are_up zero level item nothing are fits long = record { made = refl; grouped = refl; under = refl; fits = tt; are = tt }
 are_up zero level item (block part bytes below beside) are fits long = absurd (omega (arith, long))
 are_up (suc n) level item nothing are fits long = record { made = refl; grouped = refl; under = refl; fits = tt; are = tt }
@@ -233,14 +233,14 @@ joined_nothing : (f : Forest) → joined f nothing ≡ f
 joined_nothing nothing = refl
 joined_nothing (block part bytes below beside) = ap (λ (g : Forest). block part bytes below g) (joined_nothing beside)
 
-abbrev one_block : ℕ → Part → List ℕ → Forest → Forest
+abbrev one_block : ℕ → SnapshotPart → List ℕ → Forest → Forest
 one_block level item bytes below = block (Listing level item) bytes below nothing
 
-pub child : (level : ℕ) (item : Part) (bytes : List ℕ) (below : Forest) → children (one_block level item bytes below) ≡ below
+pub child : (level : ℕ) (item : SnapshotPart) (bytes : List ℕ) (below : Forest) → children (one_block level item bytes below) ≡ below
 child level item bytes below = joined_nothing below
 
 -- a block that is made as this one is this one
-is_made : (level : ℕ) (item : Part) (bytes : List ℕ) (below made : Forest) → Fits (one_block level item bytes below) → AllAre (part_below level item) made → Fits made → 1 ≤ length (mades made) → length (mades made) ≤ 512
+is_made : (level : ℕ) (item : SnapshotPart) (bytes : List ℕ) (below made : Forest) → Fits (one_block level item bytes below) → AllAre (part_below level item) made → Fits made → 1 ≤ length (mades made) → length (mades made) ≤ 512
     → list_made level (mades made) ∷ [] ≡ mades (one_block level item bytes below) → below ≡ made
 is_made level item bytes below made fits are made_fits some few e =
     let bytes_are : list_block level (map made_name (mades made)) ≡ bytes = cc_bytes e in
@@ -260,7 +260,7 @@ is_made level item bytes below made fits are made_fits some few e =
     cc_bytes : list_made level (mades made) ∷ [] ≡ mades (one_block level item bytes below) → list_block level (map made_name (mades made)) ≡ bytes
     cc_bytes f = ap first_bytes f
 
-module _ (item : Part) where
+module _ (item : SnapshotPart) where
   abbrev Even : ℕ → List ℕ → Forest → Type 0
   Even level bytes below = IsEven level (one_block level item bytes below) × IsLeast level (one_block level item bytes below)
 

@@ -1,6 +1,6 @@
 -- How loading ends.
 use Rattle.std.proofs.Common.{◌≡◌, ℕ, List, [], ◌∷◌, map, refl, sym, ap, ◌∙◌, subst}
-use Rattle.snapshot_model.specs.Reading.{Part, Root, AreOf}
+use Rattle.snapshot_model.specs.Reading.{SnapshotPart, Root, AreOf}
 use Rattle.snapshot_loading.specs.declared.load.Read.{Read}
 use Rattle.snapshot_loading.specs.Loading.{bytes_of}
 use Rattle.snapshot_loading.specs.Forests.{nothing, block, flat}
@@ -16,7 +16,7 @@ bytes_read (r ∷ read) = ap (λ (l : List (List ℕ)). r.bytes ∷ l) (bytes_re
 pub loading_ends : LoadingEnds
 loading_ends l read h =
     let w = read_is_forest l.root read h.whole in
-    let same : map (λ p. p.1) (flat (block Root w.bytes w.below nothing)) ≡ bytes_of read = ap (λ (bs : List (Part × List ℕ)). map (λ p. p.1) bs) w.order ∙ bytes_read read in
+    let same : map (λ p. p.1) (flat (block Root w.bytes w.below nothing)) ≡ bytes_of read = ap (λ (bs : List (SnapshotPart × List ℕ)). map (λ p. p.1) bs) w.order ∙ bytes_read read in
     record {
       whole = w;
       of_one = λ b sound spelled shows.

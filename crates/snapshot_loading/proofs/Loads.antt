@@ -5,7 +5,7 @@ use Rattle.std.proofs.lemmas.List.{map-append}
 use Rattle.ivy_base.specs.declared.key.Key.{Key}
 use Rattle.ivy_base.specs.Naming.{name}
 use Rattle.dhash_model.specs.declared.miss.Miss.{Miss}
-use Rattle.snapshot_model.specs.Reading.{Part, Names}
+use Rattle.snapshot_model.specs.Reading.{SnapshotPart, NamesParts}
 use Rattle.session_model.specs.Brought.{Brought, BlockOf}
 use Rattle.session_model.specs.Refreshing.{LoadEnd, LoadWants, Loaded, Loads, LoadsFor}
 use Rattle.session_model.specs.Refreshing.Loads.{loaded, no_whole, wants, misses, garbled, goes_on}
@@ -26,12 +26,12 @@ pub onward : {first todo : List Wanted} {read : List Read} {more : List Brought}
 onward {more = more} {end = end} (nothing {todo = todo}) before goes = subst (λ (r : List (List ℕ)). Loads (parts_of todo) r more end) (append-nil before) goes
 onward {more = more} {end = end} (block {todo = todo} {left = left} {read = read} bytes named names is rest) before goes =
     goes_on bytes (parts_of named) names
-    (subst (λ (w : List (Part × Key)). Loads w (before ++ bytes ∷ []) (brought_by read ++ more) end) (map-append (λ (w : Wanted). (part_of w.role, w.key)) named todo)
+    (subst (λ (w : List (SnapshotPart × Key)). Loads w (before ++ bytes ∷ []) (brought_by read ++ more) end) (map-append (λ (w : Wanted). (part_of w.role, w.key)) named todo)
     (onward rest (before ++ bytes ∷ []) (subst (λ (r : List (List ℕ)). Loads (parts_of left) r more end) (sym (append_assoc before (bytes ∷ []) (bytes_of read))) goes)))
 
 -- a block more
 pub one_more : {first todo : List Wanted} {read : List Read} → HasRead first read todo → (next : Wanted) (left : List Wanted) → todo ≡ next ∷ left
-    → (bytes : List ℕ) (named : List Wanted) → Names (part_of next.role) bytes (parts_of named) → name bytes ≡ next.key
+    → (bytes : List ℕ) (named : List Wanted) → NamesParts (part_of next.role) bytes (parts_of named) → name bytes ≡ next.key
     → HasRead first (read ++ record { role = next.role; key = next.key; bytes = bytes } ∷ []) (named ++ left)
 one_more nothing next left e bytes named names is =
     subst (λ (first : List Wanted). HasRead first (record { role = next.role; key = next.key; bytes = bytes } ∷ []) (named ++ left)) (sym e) (block bytes named names is nothing)
@@ -54,7 +54,7 @@ wants_by root read (w ∷ todo) (Some f) h key e = let none = h.0 in cc
 pub wants_next : (l : Loading) → IsLoading l → (key : Key) → wanted_of l ≡ Some key → ComesTo l (LoadWants key)
 wants_next l h key e = wants_by l.root l.read l.todo l.failed h key e
 
-fails_by : {part : Part} {left : List (Part × Key)} {read : List (List ℕ)} (key : Key) (came : Result (List ℕ) Miss) → FailsAs part came → Loads ((part, key) ∷ left) read (BlockOf key came ∷ []) (Loaded None)
+fails_by : {part : SnapshotPart} {left : List (SnapshotPart × Key)} {read : List (List ℕ)} (key : Key) (came : Result (List ℕ) Miss) → FailsAs part came → Loads ((part, key) ∷ left) read (BlockOf key came ∷ []) (Loaded None)
 fails_by key (Ok bytes) none = garbled bytes none
 fails_by key (Err miss) none = misses miss
 
@@ -89,14 +89,14 @@ pub still_on : (first : List Wanted) (read : List Read) (todo left : List Wanted
 still_on first read todo left w None h e = (refl, subst (λ (t : List Wanted). HasRead first read t) e h)
 still_on first read todo left w (Some f) h e = let none = h.0 in cc
 
-fewer_left : (next : Wanted) (left named : List Wanted) (bytes : List ℕ) → Names (part_of next.role) bytes (parts_of named) → most_in (parts_of (named ++ left)) < most_of (part_of next.role) + most_in (parts_of left)
+fewer_left : (next : Wanted) (left named : List Wanted) (bytes : List ℕ) → NamesParts (part_of next.role) bytes (parts_of named) → most_in (parts_of (named ++ left)) < most_of (part_of next.role) + most_in (parts_of left)
 fewer_left next left named bytes names =
     let all = ap most_in (map-append (λ (w : Wanted). (part_of w.role, w.key)) named left) ∙ most_append (parts_of named) (parts_of left) in
     let fewer = names_fewer (part_of next.role) bytes (parts_of named) names in
     omega (arith, all, fewer)
 
 -- the block that is wanted was read
-pub given_block : (old : Loading) → IsLoading old → (next : Wanted) (left after : List Wanted) → old.todo ≡ next ∷ left → (bytes : List ℕ) (named : List Wanted) → Names (part_of next.role) bytes (parts_of named)
+pub given_block : (old : Loading) → IsLoading old → (next : Wanted) (left after : List Wanted) → old.todo ≡ next ∷ left → (bytes : List ℕ) (named : List Wanted) → NamesParts (part_of next.role) bytes (parts_of named)
     → name bytes ≡ next.key → after ≡ named ++ left → (read : List Read) → read ≡ old.read ++ record { role = next.role; key = next.key; bytes = bytes } ∷ []
     → (failed : Option Failure) → failed ≡ old.failed
     → IsLoading (record { root = old.root; read = read; todo = after; failed = failed }) × HasBeenGiven old (record { root = old.root; read = read; todo = after; failed = failed }) (Ok bytes)
@@ -156,13 +156,13 @@ key_is todo left next key first e =
 
 -- the block that is wanted was read, and what it names was put in its place
 pub taken : (old : Loading) → IsLoading old → (front next : Wanted) (named after : List Wanted) → front ≡ slice_index_or old.todo 0 front → Replaces old.todo named next after
-    → (bytes shown : List ℕ) → shown ≡ bytes → Names (part_of front.role) shown (parts_of named) → wanted_of old ≡ Some (name bytes)
+    → (bytes shown : List ℕ) → shown ≡ bytes → NamesParts (part_of front.role) shown (parts_of named) → wanted_of old ≡ Some (name bytes)
     → (read reserved : List Read) → reserved ≡ old.read → read ≡ reserved ++ record { role = front.role; key = next.key; bytes = bytes } ∷ []
     → IsLoading (record { root = old.root; read = read; todo = after; failed = old.failed }) × HasBeenGiven old (record { root = old.root; read = read; todo = after; failed = old.failed }) (Ok bytes)
 taken old h front next named after first replaces bytes shown shows names wanted read reserved same reads =
     let is = front_is old.todo replaces.left front next first replaces.before_is in
     given_block old h next replaces.left after replaces.before_is bytes named
-    (subst (λ (w : Wanted). Names (part_of w.role) bytes (parts_of named)) is (subst (λ (b : List ℕ). Names (part_of front.role) b (parts_of named)) shows names))
+    (subst (λ (w : Wanted). NamesParts (part_of w.role) bytes (parts_of named)) is (subst (λ (b : List ℕ). NamesParts (part_of front.role) b (parts_of named)) shows names))
     (key_is old.todo replaces.left next (name bytes) wanted replaces.before_is) replaces.after_is read
     (reads ∙ ap (λ (r : List Read). r ++ record { role = front.role; key = next.key; bytes = bytes } ∷ []) same ∙ ap (λ (w : Wanted). old.read ++ record { role = w.role; key = next.key; bytes = bytes } ∷ []) is)
     old.failed refl

@@ -15,7 +15,7 @@ use Rattle.snapshot_model.proofs.SameNames.{listed_fit, names_there, shown, sort
 use Rattle.snapshot_loading.specs.Forests.{Forest, nothing, block, below_by, AreFull}
 use Rattle.snapshot_loading.specs.ShownInodes.{AreContents, ShowsInode, run_of}
 use Rattle.snapshot_loading.specs.Wholes.{ShowInodes, ShowsBasis}
-use Rattle.snapshot_loading.specs.WholeLaws.{SnapshotIsOne}
+use Rattle.snapshot_loading.specs.WholeLaws.{SnapshotIsUnique}
 use Rattle.snapshot_loading.proofs.Canon.{are_forest, loaded_is_shown}
 
 -- what a directory contains
@@ -120,8 +120,8 @@ one_basis_shown bytes below b c w v f g h k =
     let tree : b.tree ≡ c.tree = one_tree b.tree c.tree w v to from in
     (λ n. record { front = front n; tide = tide n; tree = tree n })
 
-pub snapshot_is_one : SnapshotIsOne
-snapshot_is_one blocks b other are also =
+pub snapshot_is_unique : SnapshotIsUnique
+snapshot_is_unique blocks b other are also =
     let g = are_forest blocks b are in
     let its = (loaded_is_shown g.bytes g.below other g.fits).0 (subst (λ (bs : List (List ℕ)). AreOf bs other) (sym g.order) also) in
     one_basis_shown g.bytes g.below other b its.0 are.whole its.1 are.bounds its.2 g.shows

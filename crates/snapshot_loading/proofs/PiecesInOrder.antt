@@ -71,8 +71,8 @@ listed_ascend (e ∷ names) d h =
     by (same_key d e.0.0) refl p.0 (listed_ascend names d p.1)
   where
     by : (b : Bool) → b ≡ same_key d e.0.0 → below_all place_cmp e.0 names ≡ true → Ascend (listed names d) → Ascend (cons_option (if b then Some (e.0.1, e.1) else None) (listed names d))
-    by true same behind rest =
+    by true same after rest =
         let d_is : e.0.0 ≡ d = sym (same_key_is d e.0.0 (sym same)) in
         both (below_all (slice_cmp nat_cmp) e.0.1 (listed names d)) (is_sorted (slice_cmp nat_cmp) (listed names d))
-        (listed_behind names d e.0.1 (subst (λ (k : Key). below_all place_cmp (k, e.0.1) names ≡ true) d_is behind)) rest
-    by false same behind rest = rest
+        (listed_behind names d e.0.1 (subst (λ (k : Key). below_all place_cmp (k, e.0.1) names ≡ true) d_is after)) rest
+    by false same after rest = rest

@@ -1,4 +1,4 @@
--- Even lists, told by the bytes of their blocks.
+-- Even lists, determined by the bytes of their blocks.
 use Rattle.std.proofs.Common.{◌≡◌, ℕ, zero, suc, ◌+◌, ◌*◌, ◌<◌, ◌≤◌, Bool, true, ◌&&◌, List, [], ◌∷◌, ◌++◌, length, flat_map, refl, sym, ap, ◌∙◌, subst, arith, length-append}
 use Rattle.std.specs.Prelude.{nat_eq, nat_le}
 use Rattle.std.specs.List.{AllByRecursion}
@@ -11,7 +11,7 @@ use Rattle.log_model.specs.Spelling.{IsKey}
 use Rattle.wire_model.specs.Xdr.{word}
 use Rattle.wire_model.proofs.OneReading.{word_length}
 use Rattle.snapshot_model.specs.Blocks.{list_block}
-use Rattle.snapshot_model.specs.Reading.{Part, Listing, Names, part_below, top_of}
+use Rattle.snapshot_model.specs.Reading.{SnapshotPart, Listing, NamesParts, part_below, top_of}
 use Rattle.snapshot_loading.specs.Forests.{Forest, nothing, block, flat, named_in, mades, Fits, joined, children, groups, AreFull, IsEven, IsLeast}
 use Rattle.snapshot_loading.specs.ShownInodes.{IsEvenList, bytes_in}
 use Rattle.snapshot_loading.proofs.Forests.{AllAre, children_are, fits_children, is_list, mades_joined}
@@ -67,8 +67,8 @@ keys_length (k ∷ keys) h = omega (arith, length-append k.0 (flat_map (λ (k : 
 block_length : (level : ℕ) (keys : List Key) → AllByRecursion IsKey keys → length (list_block level keys) ≡ 12 + 20 * length keys
 block_length level keys h =
     let front = length-append (word level) (word (length keys) ++ flat_map (λ (k : Key). k.0) keys) in
-    let behind = length-append (word (length keys)) (flat_map (λ (k : Key). k.0) keys) in
-    omega (arith, front, behind, word_length level, word_length (length keys), keys_length keys h)
+    let after = length-append (word (length keys)) (flat_map (λ (k : Key). k.0) keys) in
+    omega (arith, front, after, word_length level, word_length (length keys), keys_length keys h)
 
 -- so many bytes tell how many are below
 pub record IsSized (bytes : List ℕ) (below : Forest) : Type 0 where
@@ -80,17 +80,17 @@ pub count_named : (f : Forest) → length (named_in f) ≡ length (mades f)
 count_named nothing = refl
 count_named (block part bytes below beside) = ap suc (count_named beside)
 
-pub is_sized : (level : ℕ) (item : Part) (bytes : List ℕ) (below : Forest) → Names (Listing level item) bytes (named_in below) → IsSized bytes below
+pub is_sized : (level : ℕ) (item : SnapshotPart) (bytes : List ℕ) (below : Forest) → NamesParts (Listing level item) bytes (named_in below) → IsSized bytes below
 is_sized level item bytes below h =
     let l = is_list level item bytes below h in
     let count : length h.0 ≡ length (mades below) = sym (length-map h.0 (λ (k : Key). (part_below level item, k))) ∙ sym (ap length h.2) ∙ count_named below in
     let long : length bytes ≡ 12 + 20 * length h.0 = ap length h.1.spelled ∙ block_length level h.0 h.1.fits.each in
     record { size = omega (arith, count, long); some = l.some; few = l.few }
 
-pub sized : (level : ℕ) (item part : Part) (bytes : List ℕ) (below : Forest) → part ≡ Listing level item → Names part bytes (named_in below) → IsSized bytes below
-sized level item part bytes below e h = is_sized level item bytes below (subst (λ (p : Part). Names p bytes (named_in below)) e h)
+pub sized : (level : ℕ) (item part : SnapshotPart) (bytes : List ℕ) (below : Forest) → part ≡ Listing level item → NamesParts part bytes (named_in below) → IsSized bytes below
+sized level item part bytes below e h = is_sized level item bytes below (subst (λ (p : SnapshotPart). NamesParts p bytes (named_in below)) e h)
 
-module _ (level : ℕ) (item : Part) where
+module _ (level : ℕ) (item : SnapshotPart) where
   full_by_bytes : (f : Forest) → AllAre (Listing level item) f → Fits f → AreFull 10252 (bytes_in f) → AreFull 512 (groups f)
   full_by_bytes nothing are fits h = tt
   full_by_bytes (block part bytes below nothing) are fits h = let s = sized level item part bytes below are.0 fits.0 in (s.some, s.few)
@@ -114,7 +114,7 @@ same_down inodes (suc level) xs ys same =
     let rest = same_down inodes level xs ys (λ other less. same other (omega (arith, less))) in
     (λ i. are_full 10252 (here i) && rest i)
 
-module _ (inodes : Bool) (item : Part) (bottom : IsBottom inodes item) where
+module _ (inodes : Bool) (item : SnapshotPart) (bottom : IsBottom inodes item) where
   -- of one level, and of those below it
   full_here : (level : ℕ) (f : Forest) → AllAre (Listing (suc level) item) f → Fits f → full_down inodes (suc level) (flat f) ≡ true → AreFull 512 (groups f) × (full_down inodes level (flat (children f)) ≡ true)
   full_here level f are fits h =

@@ -15,7 +15,7 @@ is_less Less h = refl
 is_less Equal h = cc
 is_less Greater h = cc
 
--- the part that is done, the next one and those behind it
+-- the part that is done, the next one and those after it
 pub next_taken : {A : Type 0} (xs : List A) (i : ℕ) (d : A) → i < length xs → take (i + 1) xs ≡ take i xs ++ get_or xs i d ∷ []
 next_taken xs i d within = let one_more : i + 1 ≡ suc i = omega arith in ap (λ n. take n xs) one_more ∙ take-suc xs i d within
 
@@ -64,7 +64,7 @@ module _ {K X : Type 0} (R : K → K → Ordering) (total : IsTotalOrder R) wher
       let p = both_true (below_all R e.0 (es ++ (k, v) ∷ [])) (is_sorted R (es ++ (k, v) ∷ [])) h in
       ap (λ (b : Bool). cond b (Some e.1) (value_at R k es)) (ap is_eq (greater R total e.0 k (below_last R e.0 k v es p.0))) ∙ absent_last k v es p.1
 
-  -- and is put behind them
+  -- and is put after them
   pub put_last : (k : K) (v : X) (es : List (K × X)) → is_sorted R (es ++ (k, v) ∷ []) ≡ true → put R k v es ≡ es ++ (k, v) ∷ []
   put_last k v [] h = refl
   put_last k v (e ∷ es) h =

@@ -43,12 +43,12 @@ module _ (x : Key) where
       subst (λ (n : ℕ). n ≤ 1) (sym (one_more e es)) (by (is_of e) refl (all_behind place_cmp e.0 es parts.0) (count_once es parts.1 (λ d f c b. once d f (there e es d c) (there e es f b))))
     where
       by : (b : Bool) → is_of e ≡ b → AllByRecursion (λ (d : Place × Key). is_lt (place_cmp e.0 d.0) ≡ true) es → count_by is_of es ≤ 1 → cond b 1 0 + count_by is_of es ≤ 1
-      by true same behind rest =
+      by true same after rest =
           let none = count_none es (each_from (λ (d : Place × Key). is_of d ≡ true → ⊥) es (λ d c its.
-          not_below_itself place_cmp places_total e.0 d.0 (each (λ (f : Place × Key). is_lt (place_cmp e.0 f.0) ≡ true) es d behind c)
+          not_below_itself place_cmp places_total e.0 d.0 (each (λ (f : Place × Key). is_lt (place_cmp e.0 f.0) ≡ true) es d after c)
           (once e d (here e es) (there e es d c) (sym (same_key_is x e.1 same)) (sym (same_key_is x d.1 its))))) in
           omega (arith, none)
-      by false other behind rest = omega (arith, rest)
+      by false other after rest = omega (arith, rest)
 
 -- ---- the whole
 

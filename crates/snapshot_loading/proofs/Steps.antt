@@ -3,7 +3,7 @@ use Rattle.std.proofs.Common.{◌≡◌, ℕ, Bool, true, List, [], ◌∷◌, �
 use Rattle.std.specs.Prelude.{if◌then◌else◌}
 use Rattle.std.proofs.lemmas.List.{append_assoc, map-append}
 use Rattle.snapshot_loading.specs.declared.parts.InodeParts.{InodeParts}
-use Rattle.snapshot_model.specs.Reading.{Part}
+use Rattle.snapshot_model.specs.Reading.{SnapshotPart}
 use Rattle.snapshot_loading.specs.declared.load.Read.{Read}
 use Rattle.snapshot_loading.specs.Roles.{part_of}
 use Rattle.snapshot_loading.specs.WholeLaws.{blocks_read}
@@ -26,7 +26,7 @@ one_more [] s (j ∷ items) i h g = absurd h
 one_more (d ∷ done) s [] i h g = absurd h
 one_more (d ∷ done) s (j ∷ items) i h g = (h.0, one_more done s items i h.1 g)
 
-module _ (whole : Blocks) (part : Part) (bytes : List ℕ) (rest : Blocks) (all : List InodeParts) (h : AreSoFar whole ((part, bytes) ∷ rest) all) where
+module _ (whole : Blocks) (part : SnapshotPart) (bytes : List ℕ) (rest : Blocks) (all : List InodeParts) (h : AreSoFar whole ((part, bytes) ∷ rest) all) where
   here : is_inode part ≡ true → inodes_in whole ≡ h.done ++ (bytes, within rest) ∷ inodes_in rest
   here is = h.split ∙ ap (λ (b : Bool). h.done ++ (if b then (bytes, within rest) ∷ inodes_in rest else inodes_in rest)) is
 

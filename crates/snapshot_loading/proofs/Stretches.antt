@@ -2,7 +2,7 @@
 use Rattle.std.proofs.Common.{◌≡◌, ℕ, zero, suc, Bool, true, false, List, [], ◌∷◌, ◌++◌, refl, sym, ap, ◌∙◌, subst}
 use Rattle.std.specs.Prelude.{if◌then◌else◌}
 use Rattle.ivy_base.specs.declared.key.Key.{Key}
-use Rattle.snapshot_model.specs.Reading.{Part, Root, Listing, AnInode, Piece, Entries, Names, part_below, top_of}
+use Rattle.snapshot_model.specs.Reading.{SnapshotPart, Root, Listing, AnInode, Piece, Entries, NamesParts, part_below, top_of}
 use Rattle.snapshot_loading.specs.Forests.{Forest, nothing, block, flat, named_in, Fits, children, below_by}
 use Rattle.snapshot_loading.proofs.Forests.{AllAre, children_are, fits_children}
 use Rattle.snapshot_loading.specs.Picks.{Blocks, of_inodes, is_inode, within, inodes_in}
@@ -13,7 +13,7 @@ Stretch = List ℕ × Blocks
 
 -- ---- any blocks
 
-abbrev kept : Bool → Part × List ℕ → Blocks → Blocks
+abbrev kept : Bool → SnapshotPart × List ℕ → Blocks → Blocks
 kept ends b rest = if ends then [] else b ∷ rest
 
 abbrev begun : Bool → Stretch → List Stretch → List Stretch
@@ -40,7 +40,7 @@ inodes_append (x ∷ xs) ys h = by (is_inode x.0) (inodes_append xs ys h)
     by true e = (λ i. (x.1, within_first xs ys h i) ∷ e i)
     by false e = e
 
-inside_is_none : (part : Part) → of_inodes part ≡ false → is_inode part ≡ false
+inside_is_none : (part : SnapshotPart) → of_inodes part ≡ false → is_inode part ≡ false
 inside_is_none Root h = refl
 inside_is_none (Listing level item) h = refl
 inside_is_none AnInode h = cc
@@ -53,7 +53,7 @@ no_inodes (x ∷ xs) h = ap (λ (b : Bool). begun b (x.1, within xs) (inodes_in 
 
 -- ---- forests
 
-first_ends : (part : Part) (f : Forest) → of_inodes part ≡ true → AllAre part f → within (flat f) ≡ []
+first_ends : (part : SnapshotPart) (f : Forest) → of_inodes part ≡ true → AllAre part f → within (flat f) ≡ []
 first_ends part nothing h are = refl
 first_ends part (block other bytes below beside) h are = ap (λ (b : Bool). kept b (other, bytes) (within (flat below ++ flat beside))) (ap of_inodes are.0 ∙ h)
 
@@ -65,7 +65,7 @@ stretches (block part bytes below beside) = (bytes, flat below) ∷ stretches be
 at_bottom : (f : Forest) → AllAre AnInode f → Fits f → inodes_in (flat f) ≡ stretches f
 at_bottom nothing are fits = refl
 at_bottom (block part bytes below beside) are fits =
-    let names = subst (λ (p : Part). Names p bytes (named_in below)) are.0 fits.0 in
+    let names = subst (λ (p : SnapshotPart). NamesParts p bytes (named_in below)) are.0 fits.0 in
     let inside = inode_has bytes below names fits.1 in
     let ends = first_ends AnInode beside refl are.1 in
     let here : within (flat below ++ flat beside) ≡ flat below = within_first (flat below) (flat beside) ends ∙ within_all (flat below) inside in

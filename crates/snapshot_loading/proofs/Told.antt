@@ -7,7 +7,7 @@ use Rattle.ivy_base.specs.declared.operation.Kind.TheVariants.{Reg, Dir, Lnk}
 use Rattle.tree_model.specs.Tree.{Tree, Inode, Attributes, listing}
 use Rattle.snapshot_model.specs.Blocks.{AreEntries, Ascend, InodeBlock, IsEntry, IsInodeBlock, Says, inode_block, most_entries}
 use Rattle.snapshot_model.specs.Spelling.{in_pieces}
-use Rattle.snapshot_model.specs.Reading.{Part, AnInode, item_of, top_of}
+use Rattle.snapshot_model.specs.Reading.{SnapshotPart, AnInode, item_of, top_of}
 use Rattle.snapshot_model.proofs.OneBlock.{one_inode}
 use Rattle.snapshot_model.proofs.OneNames.{one_said}
 use Rattle.snapshot_model.proofs.Pieces.{each_joined, short_pieces}
@@ -101,7 +101,7 @@ all_told t nothing [] are fits good ascend h = tt
 all_told t nothing (i ∷ inodes) are fits good ascend h = h
 all_told t (block part bytes below beside) [] are fits good ascend h = h
 all_told t (block part bytes below beside) (i ∷ inodes) are fits good ascend h = (
-  inode_told bytes below (subst (λ (p : Part). Fits (block p bytes below nothing)) are.0 (fits.0, fits.1, tt)) i.0 i.1 (listing t i.0) (good i.0) (ascend i.0) h.0,
+  inode_told bytes below (subst (λ (p : SnapshotPart). Fits (block p bytes below nothing)) are.0 (fits.0, fits.1, tt)) i.0 i.1 (listing t i.0) (good i.0) (ascend i.0) h.0,
   all_told t beside inodes are.1 fits.2 good ascend h.1,
 )
 
@@ -110,7 +110,7 @@ all_shown t nothing [] are fits h = tt
 all_shown t nothing (i ∷ inodes) are fits h = h
 all_shown t (block part bytes below beside) [] are fits h = h
 all_shown t (block part bytes below beside) (i ∷ inodes) are fits h = (
-  inode_shown bytes below (subst (λ (p : Part). Fits (block p bytes below nothing)) are.0 (fits.0, fits.1, tt)) i.0 i.1 (listing t i.0) h.0,
+  inode_shown bytes below (subst (λ (p : SnapshotPart). Fits (block p bytes below nothing)) are.0 (fits.0, fits.1, tt)) i.0 i.1 (listing t i.0) h.0,
   all_shown t beside inodes are.1 fits.2 h.1,
 )
 

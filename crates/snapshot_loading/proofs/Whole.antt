@@ -58,6 +58,6 @@ module _ (parts : List InodeParts) (begun : Tree) (added : AreAdded parts begun)
       ap (λ (n : List (Place × Key)). record { names = n; inodes = built.inodes }) names ∙ ap (λ (i : List (Key × Inode)). record { names = (tree_of parts).names; inodes = i }) inodes in
       (same, subst IsSound same sound)
 
--- the names go behind none
+-- the names go after none
 pub names_behind : (parts : List InodeParts) (begun : Tree) → begun.names ≡ [] → IsInOrder (tree_of parts) → is_sorted place_cmp (begun.names ++ (tree_of parts).names) ≡ true
 names_behind parts begun none order = ap (λ (l : List (Place × Key)). is_sorted place_cmp (l ++ (tree_of parts).names)) none ∙ order.names

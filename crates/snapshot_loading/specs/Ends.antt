@@ -13,7 +13,7 @@ abbrev pub AreOfBasis : List (List ℕ) → Option Basis → Type 0
 AreOfBasis blocks (Some b) = AreOf blocks b × ((other : Basis) → AreOf blocks other → other ≡ b)
 AreOfBasis blocks None = (b : Basis) → AreOf blocks b → ⊥
 
--- ---- by the root and the blocks behind it
+-- ---- by the root and the blocks after it
 
 -- the root says so of the basis, these that follow it are an even list of its inodes, and its tree is one without contradictions
 pub record IsBasis (bytes : List ℕ) (blocks : Blocks) (b : Basis) : Type 0 where

@@ -1,4 +1,4 @@
--- When blocks that were read are an even list, told by how many bytes each has.
+-- When blocks that were read are an even list, determined by how many bytes each has.
 use Rattle.std.specs.Prelude.{ℕ, zero, suc, Bool, true, ◌&&◌, nat_eq, nat_le, List, [], ◌∷◌, length}
 use Rattle.snapshot_loading.specs.Picks.{Blocks, picked}
 

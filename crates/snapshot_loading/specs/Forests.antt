@@ -3,19 +3,19 @@ use Rattle.std.specs.Prelude.{◌≡◌, ℕ, zero, suc, ◌≤◌, List, [], �
 use Rattle.ivy_base.specs.declared.key.Key.{Key}
 use Rattle.ivy_base.specs.Naming.{name}
 use Rattle.snapshot_model.specs.Spelling.{Made, over}
-use Rattle.snapshot_model.specs.Reading.{Part, Names}
+use Rattle.snapshot_model.specs.Reading.{SnapshotPart, NamesParts}
 
 pub data Forest : Type 0 where
   nothing : Forest
-  block : (part : Part) (bytes : List ℕ) (below beside : Forest) → Forest
+  block : (part : SnapshotPart) (bytes : List ℕ) (below beside : Forest) → Forest
 
 -- in the order in which they are read
-abbrev pub flat : Forest → List (Part × List ℕ)
+abbrev pub flat : Forest → List (SnapshotPart × List ℕ)
 flat nothing = []
 flat (block part bytes below beside) = (part, bytes) ∷ flat below ++ flat beside
 
 -- what those beside one another are to be, and their names
-abbrev pub named_in : Forest → List (Part × Key)
+abbrev pub named_in : Forest → List (SnapshotPart × Key)
 named_in nothing = []
 named_in (block part bytes below beside) = (part, name bytes) ∷ named_in beside
 
@@ -27,7 +27,7 @@ mades (block part bytes below beside) = over bytes (mades below) ∷ mades besid
 -- each block is such a part, and names those below it
 abbrev pub Fits : Forest → Type 0
 Fits nothing = Unit {0}
-Fits (block part bytes below beside) = Names part bytes (named_in below) × Fits below × Fits beside
+Fits (block part bytes below beside) = NamesParts part bytes (named_in below) × Fits below × Fits beside
 
 -- ---- lists
 

@@ -4,7 +4,7 @@ use Rattle.ivy_base.specs.declared.key.Key.{Key}
 use Rattle.ivy_base.specs.Naming.{name}
 use Rattle.dhash_model.specs.declared.miss.Miss.{Miss}
 use Rattle.turn_model.specs.Basis.{Basis}
-use Rattle.snapshot_model.specs.Reading.{Part, Root, Listing, AnInode, Piece, Entries, Names, AreOf}
+use Rattle.snapshot_model.specs.Reading.{SnapshotPart, Root, Listing, AnInode, Piece, Entries, NamesParts, AreOf}
 use Rattle.session_model.specs.Brought.{Brought, BlockOf}
 use Rattle.session_model.specs.Refreshing.{LoadEnd, Loaded, LoadsFor}
 use Rattle.snapshot_loading.specs.Roles.{IsNoPart, part_of, parts_of}
@@ -52,12 +52,12 @@ wanted_of l = first_key l.todo
 pub data HasRead : List Wanted → List Read → List Wanted → Type 0 where
   nothing : {todo : List Wanted} → HasRead todo [] todo
   block : {role : Role} {key : Key} {todo left : List Wanted} {read : List Read} (bytes : List ℕ) (named : List Wanted)
-      → Names (part_of role) bytes (parts_of named) → name bytes ≡ key
+      → NamesParts (part_of role) bytes (parts_of named) → name bytes ≡ key
       → HasRead (named ++ todo) read left
       → HasRead (record { role = role; key = key } ∷ todo) (record { role = role; key = key; bytes = bytes } ∷ read) left
 
 -- it couldn't be had, or isn't such a part
-abbrev pub FailsAs : Part → Result (List ℕ) Miss → Type 0
+abbrev pub FailsAs : SnapshotPart → Result (List ℕ) Miss → Type 0
 FailsAs part (Ok bytes) = IsNoPart part bytes
 FailsAs part (Err miss) = Unit {0}
 
@@ -88,14 +88,14 @@ most_of_list (suc zero) each = 1 + 512 * each
 most_of_list (suc (suc level)) each = 1 + 512 * most_of_list (suc level) each
 
 -- and of a block that is to be that, with all below it
-abbrev pub most_of : Part → ℕ
+abbrev pub most_of : SnapshotPart → ℕ
 most_of Root = 1 + most_of_list 3 (1 + most_of_list 3 1)
 most_of (Listing level item) = most_of_list level (most_of item)
 most_of AnInode = 1 + most_of_list 3 1
 most_of Piece = 1
 most_of Entries = 1
 
-abbrev pub most_in : List (Part × Key) → ℕ
+abbrev pub most_in : List (SnapshotPart × Key) → ℕ
 most_in [] = 0
 most_in (p ∷ parts) = most_of p.0 + most_in parts
 

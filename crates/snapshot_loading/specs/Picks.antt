@@ -1,20 +1,20 @@
 -- Blocks that were read, by what they are of and by their levels.
 use Rattle.std.specs.Prelude.{ℕ, Bool, true, false, ◌&&◌, not, nat_eq, List, [], ◌∷◌, if◌then◌else◌}
-use Rattle.snapshot_model.specs.Reading.{Part, Root, Listing, AnInode, Piece, Entries}
+use Rattle.snapshot_model.specs.Reading.{SnapshotPart, Root, Listing, AnInode, Piece, Entries}
 
 -- the blocks, each with what it is to be
 abbrev pub Blocks : Type 0
-Blocks = List (Part × List ℕ)
+Blocks = List (SnapshotPart × List ℕ)
 
 -- whether a block is the root, an inode or of the list of all inodes; else an inode has it
-abbrev pub of_inodes : Part → Bool
+abbrev pub of_inodes : SnapshotPart → Bool
 of_inodes Root = true
 of_inodes (Listing level item) = of_inodes item
 of_inodes AnInode = true
 of_inodes Piece = false
 of_inodes Entries = false
 
-abbrev pub is_inode : Part → Bool
+abbrev pub is_inode : SnapshotPart → Bool
 is_inode Root = false
 is_inode (Listing level item) = false
 is_inode AnInode = true
@@ -22,18 +22,18 @@ is_inode Piece = false
 is_inode Entries = false
 
 -- the level of a list block, and 0 of what is none
-abbrev pub level_of : Part → ℕ
+abbrev pub level_of : SnapshotPart → ℕ
 level_of Root = 0
 level_of (Listing level item) = level
 level_of AnInode = 0
 level_of Piece = 0
 level_of Entries = 0
 
-abbrev pub is_among : Bool → Part → Bool
+abbrev pub is_among : Bool → SnapshotPart → Bool
 is_among true part = of_inodes part
 is_among false part = not (of_inodes part)
 
-abbrev pub is_at : Bool → ℕ → Part → Bool
+abbrev pub is_at : Bool → ℕ → SnapshotPart → Bool
 is_at inodes level part = is_among inodes part && nat_eq (level_of part) level
 
 -- those of that level, among the blocks of all inodes or among those that an inode has

@@ -17,7 +17,7 @@ abbrev pub bytes_in : Forest → List (List ℕ)
 bytes_in nothing = []
 bytes_in (block part bytes below beside) = bytes ∷ bytes_in beside
 
--- one behind the other
+-- one after the other
 abbrev pub run_of : {A : Type 0} → List (List A) → List A
 run_of each = flat_map (λ xs. xs) each
 

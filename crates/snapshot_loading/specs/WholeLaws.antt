@@ -5,7 +5,7 @@ use Rattle.ivy_base.specs.declared.key.Key.{Key}
 use Rattle.ivy_base.specs.Naming.{name}
 use Rattle.tree_model.specs.Tree.{Tree, Inode}
 use Rattle.tree_model.specs.Sound.{IsSound}
-use Rattle.snapshot_model.specs.Reading.{Part, Root, Listing, AnInode, IsWholeTree, IsBasisSpelled, AreOf}
+use Rattle.snapshot_model.specs.Reading.{SnapshotPart, Root, Listing, AnInode, IsWholeTree, IsBasisSpelled, AreOf}
 use Rattle.session_model.specs.Refreshing.{Loaded}
 use Rattle.snapshot_loading.specs.declared.load.Read.{Read}
 use Rattle.snapshot_loading.specs.Roles.{part_of}
@@ -18,7 +18,7 @@ use Rattle.snapshot_loading.specs.Forests.{Forest, nothing, block, flat, below_b
 -- A list block of that level with all below it is the list over what is so many levels below, exactly where on each level all blocks but
 -- the last have 512 names, and a level less wouldn't be enough.
 abbrev pub EvenListsAreLists : Type 0
-EvenListsAreLists = (item : Part) (level : ℕ) (bytes : List ℕ) (below : Forest) → 1 ≤ level → level ≤ 3
+EvenListsAreLists = (item : SnapshotPart) (level : ℕ) (bytes : List ℕ) (below : Forest) → 1 ≤ level → level ≤ 3
     → Fits (block (Listing level item) bytes below nothing)
     → ((IsEven level (block (Listing level item) bytes below nothing) × IsLeast level (block (Listing level item) bytes below nothing))
     ↔ (list_of (mades (below_by level (block (Listing level item) bytes below nothing)))
@@ -30,7 +30,7 @@ WholeTreesAreSound = (t : Tree) → IsWholeTree t ↔ IsSound t
 
 -- ---- what was read
 
-abbrev pub blocks_read : List Read → List (Part × List ℕ)
+abbrev pub blocks_read : List Read → List (SnapshotPart × List ℕ)
 blocks_read read = map (λ r. (part_of r.role, r.bytes)) read
 
 -- Blocks that were read from a root on, until nothing was left, are one root with all below it, in the order in which they were read.
@@ -45,8 +45,8 @@ abbrev pub ReadIsForest : Type 0
 ReadIsForest = (root : Key) (read : List Read) → HasRead (root_alone root) read [] → IsRead root read
 
 -- Such blocks are of no other parts and in no other way below one another.
-abbrev pub ForestIsOne : Type 0
-ForestIsOne = (bytes others : List ℕ) (below under : Forest) → Fits (block Root bytes below nothing)
+abbrev pub ForestIsUnique : Type 0
+ForestIsUnique = (bytes others : List ℕ) (below under : Forest) → Fits (block Root bytes below nothing)
     → Fits (block Root others under nothing)
     → map (λ b. b.1) (flat (block Root bytes below nothing)) ≡ map (λ b. b.1) (flat (block Root others under nothing))
     → (bytes ≡ others) × (below ≡ under)
@@ -77,5 +77,5 @@ abbrev pub LoadingEnds : Type 0
 LoadingEnds = (l : Loading) (read : List Read) → IsReadWhole l read → EndsByShown l read
 
 -- Blocks are the snapshot of one basis at most.
-abbrev pub SnapshotIsOne : Type 0
-SnapshotIsOne = (blocks : List (List ℕ)) (b other : Basis) → AreOf blocks b → AreOf blocks other → other ≡ b
+abbrev pub SnapshotIsUnique : Type 0
+SnapshotIsUnique = (blocks : List (List ℕ)) (b other : Basis) → AreOf blocks b → AreOf blocks other → other ≡ b

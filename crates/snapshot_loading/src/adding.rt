@@ -16,7 +16,7 @@ use std::alloc::Global;
 /// The moment of all operations but those that set attributes.
 pub(crate) const BEGINNING: Moment = Moment { sec: 0, nsec: 0 };
 
-/// Adds all inodes to the root alone. The error is want of memory.
+/// Adds all inodes to the root alone. The error is: out of memory.
 pub(crate) fn add_all(alloc: Global, tree: &mut Tree, parts: &[InodeParts]) -> Result<(), Memory>
     requires empty { tree.old ≡ empty_tree }
     requires order { is_sorted key_cmp (tree_of parts.now).inodes ≡ true }
@@ -28,7 +28,7 @@ pub(crate) fn add_all(alloc: Global, tree: &mut Tree, parts: &[InodeParts]) -> R
     Ok(())
 }
 
-/// Adds an inode, where its number isn't used. The error is want of memory.
+/// Adds an inode, where its number isn't used. The error is: out of memory.
 fn add(alloc: Global, tree: &mut Tree, part: &InodeParts) -> Result<(), Memory>
     ensures { OnOk result (tree.new ≡ add_inode tree.old beginning part.now.number part.now.kind 0 0 0 (first_body part.now.kind part.now.body)) }
 {
@@ -36,7 +36,7 @@ fn add(alloc: Global, tree: &mut Tree, part: &InodeParts) -> Result<(), Memory>
     tree.apply(alloc, BEGINNING, &op)
 }
 
-/// What adds the inode. The error is want of memory.
+/// What adds the inode. The error is: out of memory.
 fn first_op(alloc: Global, part: &InodeParts) -> Result<Op, Memory>
     ensures { IfOk result (λ o. o ≡ op.Inode part.now.number part.now.kind 0 0 0 (first_body part.now.kind part.now.body)) }
 {
@@ -50,7 +50,7 @@ fn first_op(alloc: Global, part: &InodeParts) -> Result<Op, Memory>
     })
 }
 
-/// A link's text, and nothing of anything else. The error is want of memory.
+/// A link's text, and nothing of anything else. The error is: out of memory.
 fn first_body(alloc: Global, kind: Kind, body: &Bytes) -> Result<Bytes, Memory>
     ensures { IfOk result (λ bytes. bytes ≡ first_body kind body.now) }
 {

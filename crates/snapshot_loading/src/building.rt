@@ -13,7 +13,7 @@ use fs_tree::Tree;
 use ivy_base::Memory;
 use std::alloc::Global;
 
-/// The tree of these inodes and names; none where it is no tree without contradictions. The error is want of memory.
+/// The tree of these inodes and names; none where it is no tree without contradictions. The error is: out of memory.
 pub fn build(alloc: Global, parts: &[InodeParts]) -> Result<Option<Tree>, Memory>
     requires { AllByRecursion HasBody parts.now }
     ensures { IfOk result (IsTreeOf (tree_of parts.now)) }

@@ -19,7 +19,7 @@ use snapshot_blocks::RootBlock;
 use std::alloc::Global;
 
 /// The basis that loading has come to; or why it has come to none: by the first block that failed, or, where none did, since
-/// all blocks together are no snapshot. The error around it is want of memory.
+/// all blocks together are no snapshot. The error around it means out of memory.
 pub fn loaded(alloc: Global, load: Load) -> Result<Result<Basis, LoadMiss>, Memory>
     requires { wanted_of load ≡ None }
     ensures { IfOk result (EndsSo load) }
@@ -35,7 +35,7 @@ pub fn loaded(alloc: Global, load: Load) -> Result<Result<Basis, LoadMiss>, Memo
 }
 
 /// The basis whose snapshot these blocks are, which were read from a root on until nothing was left; none where they are no
-/// snapshot. There is no other such basis. The error is want of memory.
+/// snapshot. There is no other such basis. The error is: out of memory.
 pub fn into_basis(alloc: Global, read: Vec<Read>) -> Result<Option<Basis>, Memory>
     requires { (root : Key) × AreReadFrom read.items root }
     ensures { IfOk result (λ basis. AreOfBasis (bytes_of read.items) (loaded_basis basis)) }
@@ -46,7 +46,7 @@ pub fn into_basis(alloc: Global, read: Vec<Read>) -> Result<Option<Basis>, Memor
     }
 }
 
-/// The basis of that root, behind which these blocks were read; none where they are no basis. The error is want of memory.
+/// The basis of that root, after which these blocks were read; none where they are no basis. The error is: out of memory.
 fn basis_in(alloc: Global, block: &[u8], rest: &[Read]) -> Result<Option<Basis>, Memory>
     ensures { IfOk result (λ basis. IsABasis block.now (blocks_read rest.now) (loaded_basis basis)) }
 {

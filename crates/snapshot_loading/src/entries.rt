@@ -12,7 +12,7 @@ use std::alloc::Global;
 /// How many entries a block has, but for the last one of a directory.
 const MOST_ENTRIES: usize = snapshot_blocks::MOST_ENTRIES as usize;
 
-/// The entries that these blocks have; none where they aren't blocks of entries, all but the last full. The error is want of
+/// The entries that these blocks have; none where they aren't blocks of entries, all but the last full. The error is: out of
 /// memory.
 pub(crate) fn all_entries(
     alloc: Global,
@@ -37,7 +37,7 @@ pub(crate) fn all_entries(
     Ok(Some(all))
 }
 
-/// Appends copies of the entries. The error is want of memory.
+/// Appends copies of the entries. The error is: out of memory.
 fn copy_all(alloc: Global, all: &mut Vec<(Bytes, Key)>, entries: &[Entry<'_>]) -> Result<(), Memory>
     ensures { OnOk result (all.new.items ≡ all.old.items ++ entries_of entries.now) }
 {

@@ -1,4 +1,4 @@
-//! Even lists, told by the bytes of their blocks.
+//! Even lists, determined by the bytes of their blocks.
 
 ghost use Rattle.std.specs.Prelude.{◌≡◌, map, length, IfOk};
 ghost use Rattle.snapshot_loading.specs.WholeLaws.{blocks_read};
@@ -15,7 +15,7 @@ const FULL_LIST: usize = 10_252;
 /// How many bytes a list block of two names has.
 const TWO_NAMES: usize = 52;
 
-/// Whether these blocks, a list block of that level and all below it, are an even list of the least level. The error is want of
+/// Whether these blocks, a list block of that level and all below it, are an even list of the least level. The error is: out of
 /// memory.
 pub(crate) fn is_even(
     alloc: Global,
@@ -29,7 +29,7 @@ pub(crate) fn is_even(
     Ok(full && is_least(level, read))
 }
 
-/// Whether the list blocks are full from that level down, but for the last of each level. The error is want of memory.
+/// Whether the list blocks are full from that level down, but for the last of each level. The error is: out of memory.
 fn full_down(alloc: Global, read: &[Read], inodes: bool, level: u32) -> Result<bool, Memory>
     ensures { IfOk result (λ full. full ≡ full_down inodes level (blocks_read read.now)) }
 {

@@ -28,7 +28,7 @@ pub(crate) struct Contents {
     entries: Vec<(Bytes, Key)>,
 }
 
-/// The inode of that block, which has those blocks; none where they are no inode. The error is want of memory.
+/// The inode of that block, which has those blocks; none where they are no inode. The error is: out of memory.
 pub(crate) fn inode(
     alloc: Global,
     block: &[u8],
@@ -55,7 +55,7 @@ pub(crate) fn inode(
     }))
 }
 
-/// What the inode contains, by the blocks at the bottom of its list; none where it contains nothing such. The error is want of
+/// What the inode contains, by the blocks at the bottom of its list; none where it contains nothing such. The error is: out of
 /// memory.
 fn contents_of(
     alloc: Global,
@@ -88,7 +88,7 @@ fn file(alloc: Global, inode: &InodeBlock<'_>, pieces: &[&[u8]]) -> Result<Optio
     }))
 }
 
-/// The pieces, one behind the other. The error is want of memory.
+/// The pieces, one after the other. The error is: out of memory.
 fn joined(alloc: Global, pieces: &[&[u8]]) -> Result<Vec<u8>, Memory>
     ensures { IfOk result (λ bytes. bytes.items ≡ run_of (map (λ b. b.now) pieces.now)) }
 {

@@ -13,7 +13,7 @@ use crate::{Item, Read, Role};
 use ivy_base::Memory;
 use std::alloc::Global;
 
-/// All inodes among the blocks, in their order; none where one isn't an inode with what it contains. The error is want of
+/// All inodes among the blocks, in their order; none where one isn't an inode with what it contains. The error is: out of
 /// memory.
 pub(crate) fn all_inodes(alloc: Global, read: &[Read]) -> Result<Option<Vec<InodeParts>>, Memory>
     ensures { IfOk result (λ all. AreAllInodes (inodes_in (blocks_read read.now)) (option_map (λ ps. ps.items) all)) }

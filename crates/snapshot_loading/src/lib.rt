@@ -6,7 +6,7 @@
 //!
 //! - A [`Load`] is begun with the name of a root block, tells by [`Load::wanted`] which block it wants next, and takes by
 //!   [`Load::give`] what came of that. Whatever it is given, what it was brought so far and how it stands are those of the
-//!   definition of loading (`LoadsFor` of `session_model`). Want of memory leaves it as it was.
+//!   definition of loading (`LoadsFor` of `session_model`). Running out of memory leaves it as it was.
 //! - [`into_basis`] takes the blocks as they were read, and gives the basis exactly where there is one whose snapshot they are
 //!   (`AreOf` of `snapshot_model`); there is no other one. [`loaded`] takes a load that is over, and gives what the definition
 //!   of loading comes to, or the exact reason why that is no basis ([`LoadMiss`]).
@@ -16,7 +16,7 @@
 //! - By the laws, blocks that were read from a root on are that root with all below it ([`reads_are_forests`]). Loading comes to
 //!   the basis that the root shows, or to none ([`loading_ends`]): the front, the tide, and inode by inode the attributes and
 //!   what is at the bottom of its list. A list need only be even: on each level all blocks but the last have 512 names, pieces
-//!   8,192 bytes and blocks of entries 32 entries. Blocks are of one basis at most, whatever names tell ([`snapshot_is_one`]),
+//!   8,192 bytes and blocks of entries 32 entries. Blocks are of one basis at most, whatever names tell ([`snapshot_is_unique`]),
 //!   and what was made is loaded ([`made_is_loaded`]).
 //!
 //! Within: `role` is what blocks are to be, `names` what a block names, and `todo` the blocks that are still to be read. `picking`
@@ -62,7 +62,7 @@ mod settling;
 mod todo;
 
 ghost use Rattle.snapshot_loading.specs.Laws.{MadeIsLoaded};
-ghost use Rattle.snapshot_loading.specs.WholeLaws.{EvenListsAreLists, ForestIsOne, LoadedIsShown, LoadingEnds, ReadIsForest, ShownInodesAreMade, SnapshotIsOne, WholeTreesAreSound};
+ghost use Rattle.snapshot_loading.specs.WholeLaws.{EvenListsAreLists, ForestIsUnique, LoadedIsShown, LoadingEnds, ReadIsForest, ShownInodesAreMade, SnapshotIsUnique, WholeTreesAreSound};
 
 pub use building::build;
 pub use ending::{into_basis, loaded};
@@ -72,8 +72,8 @@ pub use role::{Item, Role, Wanted};
 
 /// A law and no code.
 ///
-/// Where names tell apart the blocks that were read and those of a snapshot that was made, what is loaded by the name of its
-/// root is what it was made of.
+/// Where no names of the blocks that were read and those of a snapshot that was made collide, what is loaded by the name of
+/// its root is what it was made of.
 pub fn made_is_loaded()
     ensures { MadeIsLoaded }
 {}
@@ -93,7 +93,7 @@ pub fn whole_trees_are_sound()
 /// same blocks are so in no other way.
 pub fn reads_are_forests()
     ensures read { ReadIsForest }
-    ensures one { ForestIsOne }
+    ensures one { ForestIsUnique }
 {}
 
 /// A law and no code: a block that shows an inode, by its list and what is at its bottom, is with all below it what a snapshot
@@ -115,6 +115,6 @@ pub fn loading_ends()
 {}
 
 /// A law and no code: blocks are the snapshot of one basis at most, by their bytes alone: no names have to tell them apart.
-pub fn snapshot_is_one()
-    ensures { SnapshotIsOne }
+pub fn snapshot_is_unique()
+    ensures { SnapshotIsUnique }
 {}

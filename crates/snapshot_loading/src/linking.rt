@@ -13,7 +13,7 @@ use fs_tree::Tree;
 use ivy_base::{Bytes, Key, Memory, Op};
 use std::alloc::Global;
 
-/// Gives all inodes their names, and answers whether each could be given. The error is want of memory.
+/// Gives all inodes their names, and answers whether each could be given. The error is: out of memory.
 pub(crate) fn link_all(alloc: Global, tree: &mut Tree, parts: &[InodeParts]) -> Result<bool, Memory>
     requires made { IsMade tree.old }
     requires order { is_sorted place_cmp (tree.old.names ++ (tree_of parts.now).names) ≡ true }
@@ -27,7 +27,7 @@ pub(crate) fn link_all(alloc: Global, tree: &mut Tree, parts: &[InodeParts]) -> 
     Ok(true)
 }
 
-/// Gives the inodes their names in the directory, and answers whether each could be given. The error is want of memory.
+/// Gives the inodes their names in the directory, and answers whether each could be given. The error is: out of memory.
 fn link_each(
     alloc: Global,
     tree: &mut Tree,
@@ -46,7 +46,7 @@ fn link_each(
     Ok(true)
 }
 
-/// Gives the inode a name, and answers whether it could be given. The error is want of memory.
+/// Gives the inode a name, and answers whether it could be given. The error is: out of memory.
 fn link(
     alloc: Global,
     tree: &mut Tree,

@@ -80,7 +80,7 @@ impl Model for Load {
 }
 
 impl Load {
-    /// The snapshot of that name, of which nothing was brought. The error is want of memory.
+    /// The snapshot of that name, of which nothing was brought. The error is: out of memory.
     pub fn start(alloc: Global, root: Key) -> Result<Load, Memory>
         ensures { IfOk result (λ load. load ≡ begun root) }
     {
@@ -105,7 +105,7 @@ impl Load {
         Some(self.todo.front()?.key)
     }
 
-    /// Takes what came of the block that is wanted. The error is want of memory, and then loading stands as before.
+    /// Takes what came of the block that is wanted. The error is: out of memory, and then loading stands as before.
     pub fn give(&mut self, alloc: Global, came: Result<Bytes, Miss>) -> Result<(), Memory>
         requires wanted { wanted_of self.old ≢ None }
         requires named { IfOk came (λ bytes. wanted_of self.old ≡ Some (name bytes)) }
@@ -134,7 +134,7 @@ impl Load {
         Ok(self.read)
     }
 
-    // Takes the block that is wanted. The error is want of memory, and then loading stands as before.
+    // Takes the block that is wanted. The error is: out of memory, and then loading stands as before.
     fn take(&mut self, alloc: Global, bytes: Bytes) -> Result<(), Memory>
         requires { wanted_of self.old ≡ Some (name bytes) }
         ensures given { OnOk result (HasBeenGiven self.old self.new (Ok bytes)) }

@@ -1,7 +1,7 @@
 //! What a block of a snapshot names.
 
 ghost use Rattle.std.specs.Prelude.{◌≡◌, [], IfOk, IfErr};
-ghost use Rattle.snapshot_model.specs.Reading.{Names, item_of, part_below, top_of};
+ghost use Rattle.snapshot_model.specs.Reading.{NamesParts, item_of, part_below, top_of};
 ghost use Rattle.snapshot_loading.specs.Roles.{blocks_in, item_part, part_of, parts_of, RefusesPart};
 
 use crate::role::{Item, Role};
@@ -23,9 +23,9 @@ pub(crate) enum Named<'a> {
 
 /// What the block names, which is to be that.
 ///
-/// `Malformed` comes exactly where the block is no such part of a snapshot, and `Memory` is want of memory.
+/// `Malformed` comes exactly where the block is no such part of a snapshot, and `Memory` means out of memory.
 pub(crate) fn names<'a>(alloc: Global, role: Role, block: &'a [u8]) -> Result<Named<'a>, BlockFault>
-    ensures ok { IfOk result (λ named. Names (part_of role) block.now (parts_of (blocks_in named))) }
+    ensures ok { IfOk result (λ named. NamesParts (part_of role) block.now (parts_of (blocks_in named))) }
     ensures err { IfErr result (RefusesPart (part_of role) block.now) }
 {
     match role {
@@ -37,7 +37,7 @@ pub(crate) fn names<'a>(alloc: Global, role: Role, block: &'a [u8]) -> Result<Na
 
 /// What a root names.
 fn in_root<'a>(alloc: Global, block: &[u8]) -> Result<Named<'a>, BlockFault>
-    ensures ok { IfOk result (λ named. Names (part_of Role.Root) block.now (parts_of (blocks_in named))) }
+    ensures ok { IfOk result (λ named. NamesParts (part_of Role.Root) block.now (parts_of (blocks_in named))) }
     ensures err { IfErr result (RefusesPart (part_of Role.Root) block.now) }
 {
     let root = RootBlock::read(alloc, block)?;
@@ -46,7 +46,7 @@ fn in_root<'a>(alloc: Global, block: &[u8]) -> Result<Named<'a>, BlockFault>
 
 /// What a list block names.
 fn in_list<'a>(level: u32, item: Item, block: &'a [u8]) -> Result<Named<'a>, BlockFault>
-    ensures ok { IfOk result (λ named. Names (part_of (Role.List level item)) block.now (parts_of (blocks_in named))) }
+    ensures ok { IfOk result (λ named. NamesParts (part_of (Role.List level item)) block.now (parts_of (blocks_in named))) }
     ensures err { IfErr result (RefusesPart (part_of (Role.List level item)) block.now) }
 {
     match read_list(block, level) {
@@ -57,7 +57,7 @@ fn in_list<'a>(level: u32, item: Item, block: &'a [u8]) -> Result<Named<'a>, Blo
 
 /// What an item of a list names.
 fn in_item<'a>(alloc: Global, item: Item, block: &[u8]) -> Result<Named<'a>, BlockFault>
-    ensures ok { IfOk result (λ named. Names (item_part item) block.now (parts_of (blocks_in named))) }
+    ensures ok { IfOk result (λ named. NamesParts (item_part item) block.now (parts_of (blocks_in named))) }
     ensures err { IfErr result (RefusesPart (item_part item) block.now) }
 {
     match item {
@@ -69,7 +69,7 @@ fn in_item<'a>(alloc: Global, item: Item, block: &[u8]) -> Result<Named<'a>, Blo
 
 /// What an inode names.
 fn in_inode<'a>(block: &[u8]) -> Result<Named<'a>, BlockFault>
-    ensures ok { IfOk result (λ named. Names (item_part Item.Inode) block.now (parts_of (blocks_in named))) }
+    ensures ok { IfOk result (λ named. NamesParts (item_part Item.Inode) block.now (parts_of (blocks_in named))) }
     ensures err { IfErr result (RefusesPart (item_part Item.Inode) block.now) }
 {
     match InodeBlock::read(block) {
@@ -80,7 +80,7 @@ fn in_inode<'a>(block: &[u8]) -> Result<Named<'a>, BlockFault>
 
 /// A piece of a file names nothing.
 fn in_piece<'a>(block: &[u8]) -> Result<Named<'a>, BlockFault>
-    ensures ok { IfOk result (λ named. Names (item_part Item.Piece) block.now (parts_of (blocks_in named))) }
+    ensures ok { IfOk result (λ named. NamesParts (item_part Item.Piece) block.now (parts_of (blocks_in named))) }
     ensures err { IfErr result (RefusesPart (item_part Item.Piece) block.now) }
 {
     if !is_piece(block) {
@@ -91,7 +91,7 @@ fn in_piece<'a>(block: &[u8]) -> Result<Named<'a>, BlockFault>
 
 /// A block of entries names nothing.
 fn in_entries<'a>(alloc: Global, block: &[u8]) -> Result<Named<'a>, BlockFault>
-    ensures ok { IfOk result (λ named. Names (item_part Item.Entries) block.now (parts_of (blocks_in named))) }
+    ensures ok { IfOk result (λ named. NamesParts (item_part Item.Entries) block.now (parts_of (blocks_in named))) }
     ensures err { IfErr result (RefusesPart (item_part Item.Entries) block.now) }
 {
     read_entries(alloc, block)?;

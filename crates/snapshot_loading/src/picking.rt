@@ -9,7 +9,7 @@ use crate::{Item, Read, Role};
 use ivy_base::Memory;
 use std::alloc::Global;
 
-/// The bytes of the blocks of that level, among the blocks of all inodes or among those that an inode has. The error is want
+/// The bytes of the blocks of that level, among the blocks of all inodes or among those that an inode has. The error is: out
 /// of memory.
 pub(crate) fn pick<'a>(
     alloc: Global,

@@ -16,7 +16,7 @@ use inode_replay::Attr;
 use ivy_base::{Bytes, Change, Key, Kind, Memory, Op};
 use std::alloc::Global;
 
-/// Gives all inodes their bytes and attributes. The error is want of memory.
+/// Gives all inodes their bytes and attributes. The error is: out of memory.
 pub(crate) fn settle_all(alloc: Global, tree: &mut Tree, parts: &[InodeParts]) -> Result<(), Memory>
     requires bodies { AllByRecursion HasBody parts.now }
     requires order { is_sorted key_cmp (tree_of parts.now).inodes ≡ true }
@@ -29,7 +29,7 @@ pub(crate) fn settle_all(alloc: Global, tree: &mut Tree, parts: &[InodeParts]) -
     Ok(())
 }
 
-/// Gives an inode its bytes and attributes. The error is want of memory.
+/// Gives an inode its bytes and attributes. The error is: out of memory.
 fn settle(alloc: Global, tree: &mut Tree, part: &InodeParts) -> Result<(), Memory>
     requires body { HasBody part.now }
     requires awaits { Awaits part.now tree.old }
@@ -64,7 +64,7 @@ fn settle_other(alloc: Global, tree: &mut Tree, part: &InodeParts) -> Result<(),
     Ok(())
 }
 
-/// Gives a file its bytes, all of which are written then. The error is want of memory.
+/// Gives a file its bytes, all of which are written then. The error is: out of memory.
 fn write(alloc: Global, tree: &mut Tree, number: &Key, body: &Bytes) -> Result<(), Memory>
     requires { length body.now ≤ longest_file }
     ensures { OnOk result (tree.new ≡ write_file tree.old beginning number.now 0 body.now) }
@@ -77,7 +77,7 @@ fn write(alloc: Global, tree: &mut Tree, number: &Key, body: &Bytes) -> Result<(
     tree.apply(alloc, BEGINNING, &op)
 }
 
-/// Gives an inode its attributes. The error is want of memory.
+/// Gives an inode its attributes. The error is: out of memory.
 fn set(alloc: Global, tree: &mut Tree, number: &Key, attributes: &Attr) -> Result<(), Memory>
     ensures { OnOk result (tree.new ≡ change_inode tree.old attributes.now.ctime number.now (change_of attributes.now)) }
 {

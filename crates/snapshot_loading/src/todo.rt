@@ -9,7 +9,7 @@ use crate::role::{Role, Wanted};
 use ivy_base::{Key, Memory};
 use std::collections::VecDeque;
 
-/// Puts what a block names in place of the block, which is the next, and gives what that is to be. The error is want of memory,
+/// Puts what a block names in place of the block, which is the next, and gives what that is to be. The error is: out of memory,
 /// and then nothing has changed.
 pub(crate) fn replace_next(todo: &mut VecDeque<Wanted>, named: &Named<'_>) -> Result<Wanted, Memory>
     requires { todo.old.items ≢ [] }

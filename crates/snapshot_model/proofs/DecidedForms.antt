@@ -18,7 +18,7 @@ use Rattle.wire_model.specs.Xdr.{IsAny}
 use Rattle.log_model.specs.Rank.{Rank}
 use Rattle.log_model.specs.Vector.{Entry, Vector}
 use Rattle.log_model.specs.Spelling.{IsBlock, IsKey, IsMoment, IsTarget, no_name}
-use Rattle.snapshot_model.specs.Blocks.{Listed, InodeBlock, IsListed, AreAttributes, IsEntry, IsStamped, IsVectorSpelled, IsRankSpelled, AreNamed, AreEntries, IsInodeBlock, IsRootBlock, most_bytes, most_levels, most_entries}
+use Rattle.snapshot_model.specs.Blocks.{NamedList, InodeBlock, IsListed, AreAttributes, IsEntry, IsStamped, IsVectorSpelled, IsRankSpelled, AreNamed, AreEntries, IsInodeBlock, IsRootBlock, most_content_bytes, most_levels, most_entries}
 use Rattle.snapshot_model.proofs.OneBlock.{AttributeParts, attribute_parts, of_attribute_parts, InodeParts, inode_parts, of_inode_parts, inode_parts_fit, root_parts, of_root_parts}
 use Rattle.snapshot_model.proofs.Decided.{Searches, ◌▸◌, among, by_parts, optionally, numbers_below, numbers_to, lists_up_to, bytes_up_to, AreUpTo, AreBelow, dec_both, dec_if, dec_not, dec_true, dec_each, dec_bytes, dec_contains, dec_below}
 
@@ -72,12 +72,12 @@ attributes = by_parts attribute_parts of_attribute_parts has_attributes of_attri
 
 -- ---- lists and kinds
 
-dec_listed : (most : ℕ) (l : Listed) → Dec (IsListed most l)
+dec_listed : (most : ℕ) (l : NamedList) → Dec (IsListed most l)
 dec_listed most l = map_dec {A = ((l.level ≤ most) × IsKey l.top) × (l.level ≡ 0 → l.top ≡ no_name)} (λ p. record { few = p.0.0; top = p.0.1; none = p.1 }) (λ f. ((f.few, f.top), f.none))
     (dec_both (dec_both (dec_le l.level most) (dec_key l.top)) (dec_if (ℕ_discrete l.level 0) (dec_same_key l.top no_name)))
 
-levels : (most : ℕ) → Searches (λ (l : Listed). (l.level ≤ most) × IsKey l.top)
-levels most = by_parts (λ (l : Listed). (l.level, l.top)) (λ p. record { level = p.0; top = p.1 }) (λ l f. f) (λ p f. f) (λ l. refl) (numbers_to most ▸ keys)
+levels : (most : ℕ) → Searches (λ (l : NamedList). (l.level ≤ most) × IsKey l.top)
+levels most = by_parts (λ (l : NamedList). (l.level, l.top)) (λ p. record { level = p.0; top = p.1 }) (λ l f. f) (λ p f. f) (λ l. refl) (numbers_to most ▸ keys)
 
 pub lists : (most : ℕ) → Searches (IsListed most)
 lists most = among (levels most) (dec_listed most) (λ l f. (f.few, f.top))
@@ -150,11 +150,11 @@ dec_target Dir bytes = dec_bytes bytes []
 dec_target Lnk bytes = dec_both (dec_le 1 (length bytes)) (dec_le (length bytes) 1024)
 
 abbrev IsInodeOf : InodeBlock → Type 0
-IsInodeOf b = (((IsKey b.number × AreAttributes b.attributes) × (b.size ≤ most_bytes b.kind)) × IsTarget b.kind b.target) × IsListed (most_levels b.kind) b.items
+IsInodeOf b = (((IsKey b.number × AreAttributes b.attributes) × (b.size ≤ most_content_bytes b.kind)) × IsTarget b.kind b.target) × IsListed (most_levels b.kind) b.items
 
 dec_inode : (b : InodeBlock) → Dec (IsInodeBlock b)
 dec_inode b = map_dec {A = IsInodeOf b} (λ p. record { number = p.0.0.0.0; attributes = p.0.0.0.1; size = p.0.0.1; target = p.0.1; items = p.1 }) (λ f. ((((f.number, f.attributes), f.size), f.target), f.items))
-    (dec_both (dec_both (dec_both (dec_both (dec_key b.number) (dec_attributes b.attributes)) (dec_le b.size (most_bytes b.kind))) (dec_target b.kind b.target)) (dec_listed (most_levels b.kind) b.items))
+    (dec_both (dec_both (dec_both (dec_both (dec_key b.number) (dec_attributes b.attributes)) (dec_le b.size (most_content_bytes b.kind))) (dec_target b.kind b.target)) (dec_listed (most_levels b.kind) b.items))
 
 -- whatever the kind is
 abbrev FitsAnyKind : ℕ → InodeParts → Type 0

@@ -7,7 +7,7 @@ use Rattle.wire_model.specs.Xdr.{word, double_word, opaque, fixed, padding}
 use Rattle.log_model.specs.Spelling.{kind_number}
 use Rattle.log_model.proofs.Lists.{each_left, each_right}
 use Rattle.snapshot_model.specs.Blocks.{InodeBlock, RootBlock, attributes_bytes, listed_bytes, entry_bytes, list_block, entries_block, inode_block, root_block, AreNamed, AreEntries, IsInodeBlock, IsRootBlock, Says}
-use Rattle.snapshot_model.specs.Reading.{Part, Root, Listing, AnInode, Piece, Entries, Names, item_of, part_below, top_of}
+use Rattle.snapshot_model.specs.Reading.{SnapshotPart, Root, Listing, AnInode, Piece, Entries, NamesParts, item_of, part_below, top_of}
 use Rattle.snapshot_model.proofs.Decided.{Searches, AreBelow, bound_of, dec_both, dec_bytes}
 use Rattle.snapshot_model.proofs.DecidedForms.{AreNamesBelow, named, entries, inode_blocks, root_blocks}
 
@@ -66,11 +66,11 @@ dec_inode_said block =
 
 -- ---- parts
 
-abbrev HasNamed : Part → List ℕ → Type 0
-HasNamed part block = (others : List (Part × Key)) × Names part block others
+abbrev HasNamed : SnapshotPart → List ℕ → Type 0
+HasNamed part block = (others : List (SnapshotPart × Key)) × NamesParts part block others
 
 -- whether the bytes are such a part
-pub dec_part : (part : Part) (block : List ℕ) → Dec ((others : List (Part × Key)) × Names part block others)
+pub dec_part : (part : SnapshotPart) (block : List ℕ) → Dec ((others : List (SnapshotPart × Key)) × NamesParts part block others)
 dec_part Root block = map_dec to from (said_alone IsRootBlock root_block block root_blocks)
   where
     to : ((root : RootBlock) × Says IsRootBlock root_block block root) → HasNamed Root block

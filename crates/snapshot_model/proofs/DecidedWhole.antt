@@ -19,7 +19,7 @@ use Rattle.log_model.proofs.Lists.{each_left, each_right, each_append}
 use Rattle.turn_model.specs.Basis.{Basis}
 use Rattle.wire_model.specs.Xdr.{IsAny}
 use Rattle.snapshot_model.specs.Blocks.{AreAttributes, IsVectorSpelled, IsRankSpelled, most_entries}
-use Rattle.snapshot_model.specs.Spelling.{Made, list_made, listed, list_of, named_by, in_pieces, piece_made, entries_made, items_of, size_of, target_of, inode_made, snapshot_named}
+use Rattle.snapshot_model.specs.Spelling.{Made, list_made, list_blocks_over, list_of, named_by, in_pieces, piece_made, entries_made, items_of, content_size, symbolic_link_text, inode_made, snapshot_named}
 use Rattle.snapshot_model.specs.Reading.{IsWholeTree, IsBodyOf, HasBounds, IsBasisSpelled, AreOf}
 use Rattle.snapshot_model.proofs.Pieces.{joined, join-in_pieces, few_pieces}
 use Rattle.snapshot_model.proofs.MadeLists.{readings, most_under, few_below}
@@ -46,7 +46,7 @@ of_pieces : {A : Type 0} (P : A → Type 0) (size : ℕ) (xs : List A) → 1 ≤
 of_pieces P size xs some h = subst (λ ys. AllByRecursion P ys) (join-in_pieces size xs some) (each_joined P (in_pieces size xs) h)
 
 abbrev by_size : ℕ → ℕ → List Made → Bool → ℕ × List Made
-by_size n level items b = if b then (level, list_made level items ∷ []) else listed n (level + 1) (map (list_made level) (in_pieces 512 items))
+by_size n level items b = if b then (level, list_made level items ∷ []) else list_blocks_over n (level + 1) (map (list_made level) (in_pieces 512 items))
 
 not_few : (len : ℕ) → false ≡ nat_le len 512 → 512 < len
 not_few len e = grind (arith, e)
@@ -58,7 +58,7 @@ module _ (P : List ℕ → Type 0) where
   of_list : (level : ℕ) (items : List Made) → EachOf (list_made level items) → AllByRecursion EachOf items
   of_list level items h = each_flat P (λ (m : Made). m.reading) items h.1
 
-  of_listed : (n level : ℕ) (items : List Made) → length items ≤ most_under n → AllByRecursion P (readings (listed n level items).1) → AllByRecursion EachOf items
+  of_listed : (n level : ℕ) (items : List Made) → length items ≤ most_under n → AllByRecursion P (readings (list_blocks_over n level items).1) → AllByRecursion EachOf items
   of_listed zero level [] few h = tt
   of_listed zero level (m ∷ ms) few h = absurd (omega (arith, few))
   of_listed (suc n) level [] few h = tt
@@ -66,7 +66,7 @@ module _ (P : List ℕ → Type 0) where
       by (nat_le (length (m ∷ ms)) 512) refl (of_listed n (level + 1) (map (list_made level) (in_pieces 512 (m ∷ ms)))) h
     where
       by : (b : Bool) → b ≡ nat_le (length (m ∷ ms)) 512
-          → (length (map (list_made level) (in_pieces 512 (m ∷ ms))) ≤ most_under n → AllByRecursion P (readings (listed n (level + 1) (map (list_made level) (in_pieces 512 (m ∷ ms)))).1)
+          → (length (map (list_made level) (in_pieces 512 (m ∷ ms))) ≤ most_under n → AllByRecursion P (readings (list_blocks_over n (level + 1) (map (list_made level) (in_pieces 512 (m ∷ ms)))).1)
           → AllByRecursion EachOf (map (list_made level) (in_pieces 512 (m ∷ ms))))
           → AllByRecursion P (readings (by_size n level (m ∷ ms) b).1) → AllByRecursion EachOf (m ∷ ms)
       by true e more g = of_list level (m ∷ ms) (each_left P (list_made level (m ∷ ms)).reading [] g)
@@ -86,7 +86,7 @@ abbrev ShowsBelow : ℕ → Kind → Entries → List ℕ → Type 0
 ShowsBelow m kind es body = AreBelow m body × (kind ≡ Dir → AreNamesBelow m es)
 
 shows : (m : ℕ) (kind : Kind) (es : Entries) (body : List ℕ) → IsBodyOf kind body → length es ≤ 4294967296
-    → AllByRecursion (AreBelow m) (readings (list_of (items_of es body kind)).1) → AreBelow m (target_of body kind) → ShowsBelow m kind es body
+    → AllByRecursion (AreBelow m) (readings (list_of (items_of es body kind)).1) → AreBelow m (symbolic_link_text body kind) → ShowsBelow m kind es body
 shows m Reg es body f few h t =
     let long = few_pieces (length body) 8192 body 2048 (omega (arith, f)) in
     let each = of_listed (AreBelow m) 3 1 (map piece_made (in_pieces 8192 body)) (omega (arith, length-map (in_pieces 8192 body) piece_made, long)) h in
@@ -107,8 +107,8 @@ inode_shows m t i f few h =
       number = i.0;
       kind = i.1.kind;
       attributes = i.1.attributes;
-      size = size_of i.1.body i.1.kind;
-      target = target_of i.1.body i.1.kind;
+      size = content_size i.1.body i.1.kind;
+      target = symbolic_link_text i.1.body i.1.kind;
       items = named_by (list_of (items_of (listing t i.0) i.1.body i.1.kind));
     }) h.0)
 

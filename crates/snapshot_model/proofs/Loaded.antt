@@ -7,7 +7,7 @@ use Rattle.std.proofs.lemmas.List.{length-map}
 use Rattle.ivy_base.specs.declared.key.Key.{Key}
 use Rattle.ivy_base.specs.declared.operation.Kind.{Kind}
 use Rattle.ivy_base.specs.declared.operation.Kind.TheVariants.{Reg, Dir, Lnk}
-use Rattle.ivy_base.specs.Naming.{IsFileName, name, NamesTellApart}
+use Rattle.ivy_base.specs.Naming.{IsFileName, name, IsCollisionFree}
 use Rattle.tree_model.specs.Tree.{Tree, Inode, Place, listing}
 use Rattle.wire_model.proofs.OneReading.{whole}
 use Rattle.log_model.specs.Rank.{Rank}
@@ -93,7 +93,7 @@ same_basis b c front tide names inodes = same_parts b c (rw (front, tide, names,
 head_of : (k l : Key) → k ∷ [] ≡ l ∷ [] → k ≡ l
 head_of k l q = cc
 
-module _ (met : List (List ℕ)) (apart : NamesTellApart met) where
+module _ (met : List (List ℕ)) (apart : IsCollisionFree met) where
   same_tree : (t u : Tree) → IsWholeTree t → IsWholeTree u → map (with_entries t) t.inodes ≡ map (with_entries u) u.inodes → (t.names ≡ u.names) × (t.inodes ≡ u.inodes)
   same_tree t u f g e =
       let a = alike (λ (i : Key × Inode). shown i.1.kind (listing t i.0)) (λ (i : Key × Inode). shown i.1.kind (listing u i.0)) t.inodes u.inodes e in

@@ -4,12 +4,12 @@ use Rattle.std.specs.List.{AllByRecursion}
 use Rattle.ivy_base.specs.declared.key.Key.{Key}
 use Rattle.ivy_base.specs.declared.operation.Kind.{Kind}
 use Rattle.ivy_base.specs.declared.operation.Kind.TheVariants.{Reg, Dir, Lnk}
-use Rattle.ivy_base.specs.Naming.{NamesTellApart}
+use Rattle.ivy_base.specs.Naming.{IsCollisionFree}
 use Rattle.tree_model.specs.Tree.{Attributes, Inode, longest_file}
 use Rattle.wire_model.proofs.OneReading.{whole}
 use Rattle.log_model.specs.Spelling.{IsKey, IsTarget}
-use Rattle.snapshot_model.specs.Blocks.{InodeBlock, entries_block, IsEntry, IsInodeBlock, IsListed, most_bytes, most_levels, most_entries}
-use Rattle.snapshot_model.specs.Spelling.{Made, list_of, named_by, in_pieces, piece_made, entries_made, items_of, size_of, target_of, inode_over}
+use Rattle.snapshot_model.specs.Blocks.{InodeBlock, entries_block, IsEntry, IsInodeBlock, IsListed, most_content_bytes, most_levels, most_entries}
+use Rattle.snapshot_model.specs.Spelling.{Made, list_of, named_by, in_pieces, piece_made, entries_made, items_of, content_size, symbolic_link_text, inode_over}
 use Rattle.snapshot_model.specs.Reading.{IsBodyOf, HasBounds}
 use Rattle.snapshot_model.proofs.OneBlock.{one_of_entries, one_inode}
 use Rattle.snapshot_model.proofs.Pieces.{same_pieces, few_pieces, short_pieces, each_joined}
@@ -48,17 +48,17 @@ block_of x = record {
   number = x.0.0;
   kind = x.0.1.kind;
   attributes = x.0.1.attributes;
-  size = size_of x.0.1.body x.0.1.kind;
-  target = target_of x.0.1.body x.0.1.kind;
+  size = content_size x.0.1.body x.0.1.kind;
+  target = symbolic_link_text x.0.1.body x.0.1.kind;
   items = named_by (list_of (items_of x.1 x.0.1.body x.0.1.kind));
 }
 
-size_fits : (kind : Kind) (body : List ℕ) → IsBodyOf kind body → size_of body kind ≤ most_bytes kind
+size_fits : (kind : Kind) (body : List ℕ) → IsBodyOf kind body → content_size body kind ≤ most_content_bytes kind
 size_fits Reg body h = h
 size_fits Dir body h = omega arith
 size_fits Lnk body h = omega arith
 
-target_fits : (kind : Kind) (body : List ℕ) → IsBodyOf kind body → IsTarget kind (target_of body kind)
+target_fits : (kind : Kind) (body : List ℕ) → IsBodyOf kind body → IsTarget kind (symbolic_link_text body kind)
 target_fits Reg body h = refl
 target_fits Dir body h = refl
 target_fits Lnk body h = h
@@ -77,7 +77,7 @@ block_fits x f = record {
   items = list_fits x.0.1.kind x.0.1.body x.1;
 }
 
-module _ (met : List (List ℕ)) (apart : NamesTellApart met) where
+module _ (met : List (List ℕ)) (apart : IsCollisionFree met) where
   -- ---- pieces and entries
 
   one_piece : IsOneMade met apart (λ (bytes : List ℕ). Unit {0}) piece_made
@@ -112,7 +112,7 @@ module _ (met : List (List ℕ)) (apart : NamesTellApart met) where
 
   by_kind : (k l : Kind) → k ≡ l → (b c : List ℕ) (es fs : Entries) → IsBodyOf k b → IsBodyOf l c → FitEntries k es → FitEntries l fs
       → AllMet met apart (readings (list_of (items_of es b k)).1) → AllMet met apart (readings (list_of (items_of fs c l)).1)
-      → named_by (list_of (items_of es b k)) ≡ named_by (list_of (items_of fs c l)) → target_of b k ≡ target_of c l → (b ≡ c) × (es ≡ fs)
+      → named_by (list_of (items_of es b k)) ≡ named_by (list_of (items_of fs c l)) → symbolic_link_text b k ≡ symbolic_link_text c l → (b ≡ c) × (es ≡ fs)
   by_kind Reg Reg d b c es fs f g h i m n e t = (one_body b c f g m n e, h ∙ sym i)
   by_kind Reg Dir d b c es fs f g h i m n e t = cc
   by_kind Reg Lnk d b c es fs f g h i m n e t = cc

@@ -13,11 +13,11 @@ use Rattle.wire_model.proofs.OneReading.{◌▷◌, always, of_fewer, of_parts, 
 use Rattle.log_model.specs.Rank.{Rank}
 use Rattle.log_model.specs.Vector.{Entry, Vector}
 use Rattle.log_model.specs.Spelling.{IsKey, IsTarget, vector_entry}
-use Rattle.snapshot_model.specs.Blocks.{Listed, InodeBlock, RootBlock, listed_bytes, attributes_bytes, rank_bytes, entry_bytes, list_block, entries_block, inode_block, root_block, IsListed, AreAttributes, IsEntry, IsStamped, IsVectorSpelled, IsRankSpelled, AreNamed, AreEntries, IsInodeBlock, IsRootBlock, most_bytes, most_levels, entries_tag, inode_tag, root_tag}
+use Rattle.snapshot_model.specs.Blocks.{NamedList, InodeBlock, RootBlock, listed_bytes, attributes_bytes, rank_bytes, entry_bytes, list_block, entries_block, inode_block, root_block, IsListed, AreAttributes, IsEntry, IsStamped, IsVectorSpelled, IsRankSpelled, AreNamed, AreEntries, IsInodeBlock, IsRootBlock, most_content_bytes, most_levels, entries_tag, inode_tag, root_tag}
 use Rattle.block_parts.specs.Parts.{key_bytes}
 use Rattle.block_parts.proofs.OneParts.{one_block, one_key, one_at_most, one_time, one_kind, one_name, one_size}
 use Rattle.snapshot_model.specs.Parts.{list_tag, HasInodeParts, FitsKind}
-use Rattle.snapshot_model.specs.Laws.{BlocksAreOne}
+use Rattle.snapshot_model.specs.Laws.{BlocksAreUnambiguous}
 
 -- ---- attributes
 
@@ -37,7 +37,7 @@ one_attributes = of_parts attribute_parts (λ a f. (((((f.mode, f.uid), f.gid), 
 -- ---- lists
 
 pub one_listed : (most : ℕ) → most < 2 ^ 32 → ReadsOne (IsListed most) listed_bytes
-one_listed most h = of_parts (λ (l : Listed). (l.level, l.top)) (λ l f. (f.few, f.top)) (λ l. refl) (λ l m e. ap (λ (p : ℕ × Key). record { level = p.0; top = p.1 }) e)
+one_listed most h = of_parts (λ (l : NamedList). (l.level, l.top)) (λ l f. (f.few, f.top)) (λ l. refl) (λ l m e. ap (λ (p : ℕ × Key). record { level = p.0; top = p.1 }) e)
     (one_at_most most h ▷ one_key)
 
 pub one_keys : ReadsOne (λ keys. (length keys < 2 ^ 32) × AllByRecursion IsKey keys) (array key_bytes)
@@ -64,7 +64,7 @@ one_entries = of_fewer (λ entries f. (omega (arith, f.few), f.each)) one_of_ent
 -- ---- inodes
 
 abbrev pub InodeParts : Type 0
-InodeParts = (((((Unit {0} × Key) × Kind) × Attributes) × ℕ) × List ℕ) × Listed
+InodeParts = (((((Unit {0} × Key) × Kind) × Attributes) × ℕ) × List ℕ) × NamedList
 
 abbrev pub inode_parts : InodeBlock → InodeParts
 inode_parts b = ((((((tt, b.number), b.kind), b.attributes), b.size), b.target), b.items)
@@ -72,7 +72,7 @@ inode_parts b = ((((((tt, b.number), b.kind), b.attributes), b.size), b.target),
 abbrev pub of_inode_parts : InodeParts → InodeBlock
 of_inode_parts p = record { number = p.0.0.0.0.0.1; kind = p.0.0.0.0.1; attributes = p.0.0.0.1; size = p.0.0.1; target = p.0.1; items = p.1 }
 
-size_fits : (kind : Kind) (n : ℕ) → n ≤ most_bytes kind → n ≤ longest_file
+size_fits : (kind : Kind) (n : ℕ) → n ≤ most_content_bytes kind → n ≤ longest_file
 size_fits Reg n h = h
 size_fits Dir n h = omega (arith, h)
 size_fits Lnk n h = omega (arith, h)
@@ -131,7 +131,7 @@ pub one_tide : ReadsOne (λ o. IfSome o IsRankSpelled) (optional rank_bytes)
 one_tide = one_optional one_rank
 
 abbrev pub RootParts : Type 0
-RootParts = (((Unit {0} × Key) × Vector) × Option Rank) × Listed
+RootParts = (((Unit {0} × Key) × Vector) × Option Rank) × NamedList
 
 abbrev pub root_parts : RootBlock → RootParts
 root_parts b = ((((tt, b.view), b.front), b.tide), b.inodes)
@@ -143,5 +143,5 @@ pub one_root : ReadsOne IsRootBlock root_block
 one_root = of_parts root_parts (λ b f. ((((tt, f.view), f.front), f.tide), f.inodes)) (λ b. refl) (λ b c e. ap of_root_parts e)
     (always root_tag ▷ one_key ▷ one_front ▷ one_tide ▷ one_listed 3 (omega arith))
 
-pub blocks_are_one : BlocksAreOne
-blocks_are_one = record { lists = one_list; entries = one_entries; inodes = one_inode; roots = one_root }
+pub blocks_are_unambiguous : BlocksAreUnambiguous
+blocks_are_unambiguous = record { lists = one_list; entries = one_entries; inodes = one_inode; roots = one_root }

@@ -36,10 +36,10 @@ module _ {K X : Type 0} (R : K → K → Ordering) (total : IsTotalOrder R) wher
   each_found [] h = tt
   each_found (e ∷ es) h =
       let parts = both_true (below_all R e.0 es) (is_sorted R es) h in
-      let behind = all_behind R e.0 es parts.0 in
+      let after = all_behind R e.0 es parts.0 in
       let found = each_found es parts.1 in (
         ap (λ (b : Bool). cond b (Some e.1) (value_at R e.0 es)) (ap is_eq (tied_itself total e.0)),
         each_from (λ (d : K × X). value_at R d.0 (e ∷ es) ≡ Some d.1) es (λ d c.
-            ap (λ (b : Bool). cond b (Some e.1) (value_at R d.0 es)) (not_tied R total e.0 d.0 (each (λ (x : K × X). is_lt (R e.0 x.0) ≡ true) es d behind c))
+            ap (λ (b : Bool). cond b (Some e.1) (value_at R d.0 es)) (not_tied R total e.0 d.0 (each (λ (x : K × X). is_lt (R e.0 x.0) ≡ true) es d after c))
             ∙ each (λ (x : K × X). value_at R x.0 es ≡ Some x.1) es d found c),
       )

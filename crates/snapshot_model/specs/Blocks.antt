@@ -18,7 +18,7 @@ use Rattle.log_model.specs.Vector.{Entry, Vector}
 -- ---- what blocks say
 
 -- a list as it is named: how many levels of list blocks it has, and the topmost one's name. An empty list has no level and no name
-pub record Listed : Type 0 where
+pub record NamedList : Type 0 where
   pub level : ℕ
   pub top : Key
 
@@ -29,18 +29,18 @@ pub record InodeBlock : Type 0 where
   pub attributes : Attributes
   pub size : ℕ
   pub target : List ℕ
-  pub items : Listed
+  pub items : NamedList
 
 -- the whole: the view's name, what it covers, and the list of all inodes
 pub record RootBlock : Type 0 where
   pub view : Key
   pub front : Vector
   pub tide : Option Rank
-  pub inodes : Listed
+  pub inodes : NamedList
 
 -- ---- spellings
 
-abbrev pub listed_bytes : Listed → List ℕ
+abbrev pub listed_bytes : NamedList → List ℕ
 listed_bytes l = word l.level ++ l.top.0
 
 abbrev pub attributes_bytes : Attributes → List ℕ
@@ -86,7 +86,7 @@ root_block b = root_tag ++ b.view.0 ++ array vector_entry b.front ++ optional ra
 
 -- ---- bounds
 
-pub record IsListed (most : ℕ) (l : Listed) : Type 0 where
+pub record IsListed (most : ℕ) (l : NamedList) : Type 0 where
   pub few : l.level ≤ most
   pub top : IsKey l.top
   pub none : l.level ≡ 0 → l.top ≡ no_name
@@ -122,10 +122,10 @@ pub record IsRankSpelled (r : Rank) : Type 0 where
   pub seq : r.seq < 4294967296
 
 -- a file's size; of others it isn't told
-abbrev pub most_bytes : Kind → ℕ
-most_bytes Reg = longest_file
-most_bytes Dir = 0
-most_bytes Lnk = 0
+abbrev pub most_content_bytes : Kind → ℕ
+most_content_bytes Reg = longest_file
+most_content_bytes Dir = 0
+most_content_bytes Lnk = 0
 
 -- a list has at most three levels, and a link has none
 abbrev pub most_levels : Kind → ℕ
@@ -154,7 +154,7 @@ pub record AreEntries (entries : List (List ℕ × Key)) : Type 0 where
 pub record IsInodeBlock (b : InodeBlock) : Type 0 where
   pub number : IsKey b.number
   pub attributes : AreAttributes b.attributes
-  pub size : b.size ≤ most_bytes b.kind
+  pub size : b.size ≤ most_content_bytes b.kind
   pub target : IsTarget b.kind b.target
   pub items : IsListed (most_levels b.kind) b.items
 

@@ -4,7 +4,7 @@ use Rattle.ivy_base.specs.declared.operation.Kind.{Kind}
 use Rattle.wire_model.specs.Xdr.{word, IsAny}
 use Rattle.log_model.specs.Spelling.{IsKey, IsTarget}
 use Rattle.block_parts.specs.Parts.{IsAtMost}
-use Rattle.snapshot_model.specs.Blocks.{InodeBlock, IsListed, AreAttributes, most_bytes, most_levels, names_tag}
+use Rattle.snapshot_model.specs.Blocks.{InodeBlock, IsListed, AreAttributes, most_content_bytes, most_levels, names_tag}
 use Rattle.tree_model.specs.Tree.{longest_file}
 
 -- what a list block of that level begins with
@@ -18,4 +18,4 @@ HasInodeParts b = (((((Unit {0} × IsKey b.number) × IsAny b.kind) × AreAttrib
 
 -- and those of which the bounds depend on the kind are of it
 abbrev pub FitsKind : Kind → ℕ → List ℕ → ℕ → Type 0
-FitsKind kind size target level = (size ≤ most_bytes kind) × IsTarget kind target × (level ≤ most_levels kind)
+FitsKind kind size target level = (size ≤ most_content_bytes kind) × IsTarget kind target × (level ≤ most_levels kind)

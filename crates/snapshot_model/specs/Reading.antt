@@ -15,40 +15,40 @@ use Rattle.snapshot_model.specs.Spelling.{snapshot_named}
 -- ---- what a block names
 
 -- what a block is to be: the root, a list of that level over such blocks, an inode, a piece of a file, or entries of a directory
-pub data Part : Type 0 where
-  Root : Part
-  Listing : (level : ℕ) (item : Part) → Part
-  AnInode : Part
-  Piece : Part
-  Entries : Part
+pub data SnapshotPart : Type 0 where
+  Root : SnapshotPart
+  Listing : (level : ℕ) (item : SnapshotPart) → SnapshotPart
+  AnInode : SnapshotPart
+  Piece : SnapshotPart
+  Entries : SnapshotPart
 
 -- the top block of a list, where it isn't empty
-abbrev pub top_of : Part → ℕ → Key → List (Part × Key)
+abbrev pub top_of : SnapshotPart → ℕ → Key → List (SnapshotPart × Key)
 top_of item zero top = []
 top_of item (suc level) top = (Listing (suc level) item, top) ∷ []
 
 -- what a list block of that level names
-abbrev pub part_below : ℕ → Part → Part
+abbrev pub part_below : ℕ → SnapshotPart → SnapshotPart
 part_below zero item = item
 part_below (suc zero) item = item
 part_below (suc (suc level)) item = Listing (suc level) item
 
 -- what the list of an inode is over
-abbrev pub item_of : Kind → Part
+abbrev pub item_of : Kind → SnapshotPart
 item_of Reg = Piece
 item_of Dir = Entries
 item_of Lnk = Entries
 
 -- The block is such a part, and names these, in this order.
-abbrev pub Names : Part → List ℕ → List (Part × Key) → Type 0
-Names Root block named = (root : RootBlock) × Says IsRootBlock root_block block root
+abbrev pub NamesParts : SnapshotPart → List ℕ → List (SnapshotPart × Key) → Type 0
+NamesParts Root block named = (root : RootBlock) × Says IsRootBlock root_block block root
     × (named ≡ top_of AnInode root.inodes.level root.inodes.top)
-Names (Listing level item) block named =
+NamesParts (Listing level item) block named =
     (keys : List Key) × Says AreNamed (list_block level) block keys × (named ≡ map (λ k. (part_below level item, k)) keys)
-Names AnInode block named = (inode : InodeBlock) × Says IsInodeBlock inode_block block inode
+NamesParts AnInode block named = (inode : InodeBlock) × Says IsInodeBlock inode_block block inode
     × (named ≡ top_of (item_of inode.kind) inode.items.level inode.items.top)
-Names Piece block named = IsPiece block × (named ≡ [])
-Names Entries block named = (entries : List (List ℕ × Key)) × Says AreEntries entries_block block entries × (named ≡ [])
+NamesParts Piece block named = IsPiece block × (named ≡ [])
+NamesParts Entries block named = (entries : List (List ℕ × Key)) × Says AreEntries entries_block block entries × (named ≡ [])
 
 -- ---- the whole
 

@@ -10,7 +10,7 @@ use Rattle.tree_model.specs.Tree.{Tree, Inode, listing}
 use Rattle.log_model.specs.Spelling.{no_name}
 use Rattle.log_model.specs.View.{View, view_name}
 use Rattle.turn_model.specs.Basis.{Basis}
-use Rattle.snapshot_model.specs.Blocks.{Listed, list_block, entries_block, inode_block, root_block, most_entries}
+use Rattle.snapshot_model.specs.Blocks.{NamedList, list_block, entries_block, inode_block, root_block, most_entries}
 
 -- ---- blocks over blocks
 
@@ -47,18 +47,18 @@ abbrev pub list_made : ℕ → List Made → Made
 list_made level items = over (list_block level (map made_name items)) items
 
 -- list blocks of that level, and upwards until one is left; there are at most so many levels
-abbrev pub listed : ℕ → ℕ → List Made → ℕ × List Made
-listed levels level [] = (0, [])
-listed zero level (item ∷ items) = (level, [])
-listed (suc levels) level (item ∷ items) =
+abbrev pub list_blocks_over : ℕ → ℕ → List Made → ℕ × List Made
+list_blocks_over levels level [] = (0, [])
+list_blocks_over zero level (item ∷ items) = (level, [])
+list_blocks_over (suc levels) level (item ∷ items) =
     if nat_le (length (item ∷ items)) 512 then (level, list_made level (item ∷ items) ∷ [])
-    else listed levels (level + 1) (map (list_made level) (in_pieces 512 (item ∷ items)))
+    else list_blocks_over levels (level + 1) (map (list_made level) (in_pieces 512 (item ∷ items)))
 
 -- the least level that suffices, and its block; of no items level 0 and no block
 abbrev pub list_of : List Made → ℕ × List Made
-list_of items = listed 3 1 items
+list_of items = list_blocks_over 3 1 items
 
-abbrev pub named_by : ℕ × List Made → Listed
+abbrev pub named_by : ℕ × List Made → NamedList
 named_by (level, []) = record { level = 0; top = no_name }
 named_by (level, top ∷ tops) = record { level = level; top = made_name top }
 
@@ -76,23 +76,23 @@ items_of entries body Reg = map piece_made (in_pieces 8192 body)
 items_of entries body Dir = map entries_made (in_pieces most_entries entries)
 items_of entries body Lnk = []
 
-abbrev pub size_of : List ℕ → Kind → ℕ
-size_of body Reg = length body
-size_of body Dir = 0
-size_of body Lnk = 0
+abbrev pub content_size : List ℕ → Kind → ℕ
+content_size body Reg = length body
+content_size body Dir = 0
+content_size body Lnk = 0
 
-abbrev pub target_of : List ℕ → Kind → List ℕ
-target_of body Lnk = body
-target_of body Reg = []
-target_of body Dir = []
+abbrev pub symbolic_link_text : List ℕ → Kind → List ℕ
+symbolic_link_text body Lnk = body
+symbolic_link_text body Reg = []
+symbolic_link_text body Dir = []
 
 abbrev pub inode_over : Key → Inode → ℕ × List Made → Made
 inode_over number inode items = over (inode_block (record {
   number = number;
   kind = inode.kind;
   attributes = inode.attributes;
-  size = size_of inode.body inode.kind;
-  target = target_of inode.body inode.kind;
+  size = content_size inode.body inode.kind;
+  target = symbolic_link_text inode.body inode.kind;
   items = named_by items;
 })) items.1
 

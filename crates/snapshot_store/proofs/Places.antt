@@ -73,7 +73,7 @@ pub put_anew : (blocks : List (List ℕ)) (b : List ℕ) → list_any (bytes_eq 
 put_anew blocks b new = sym (cond-false (list_any (bytes_eq b) blocks) blocks (blocks ++ b ∷ []) new)
 
 module _ (blocks : List (List ℕ)) (b : List ℕ) (places : List (Key × ℕ)) (valid : ArePlaced blocks places) where
-  -- the block's name was put into the map with the place behind the others
+  -- the block's name was put into the map with the place after the others
   pub placed_first : place_of (name b) blocks ≡ None → (more : List (Key × ℕ)) (added : Key) (place : ℕ) → added ≡ name b → place ≡ length blocks
       → ((key : Key) → lookup (same_key key) more ≡ cond (same_key added key) (Some place) (lookup (same_key key) places))
       → ArePlaced (blocks ++ b ∷ []) more

@@ -14,7 +14,7 @@ puttings ms = flat_map (λ (m : Made). m.putting) ms
 pub put_both : (before : List (List ℕ)) (xs ys : List Made) → put_all (put_all before xs) ys ≡ put_all before (xs ++ ys)
 put_both before xs ys = sym (fold-append with_block before (puttings xs) (puttings ys)) ∙ ap (fold with_block before) (sym (flat_map-append (λ (m : Made). m.putting) xs ys))
 
--- a block over others is put behind them
+-- a block over others is put after them
 pub put_above : (before : List (List ℕ)) (below : List Made) (bytes : List ℕ) → with_block (put_all before below) bytes ≡ put_all before (over bytes below ∷ [])
 put_above before below bytes =
     sym (fold-append with_block before (puttings below) (bytes ∷ []))

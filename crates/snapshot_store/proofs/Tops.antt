@@ -7,7 +7,7 @@ use Rattle.std.proofs.lemmas.List.{append-nil, append_assoc, length-append, leng
 use Rattle.ivy_base.specs.declared.key.Key.{Key}
 use Rattle.ivy_base.specs.Naming.{name}
 use Rattle.snapshot_model.specs.Blocks.{list_block}
-use Rattle.snapshot_model.specs.Spelling.{Made, in_pieces, list_made, list_of, listed, made_name, named_by, with_block}
+use Rattle.snapshot_model.specs.Spelling.{Made, in_pieces, list_made, list_of, list_blocks_over, made_name, named_by, with_block}
 use Rattle.snapshot_blocks.specs.declared.listed.Listed.{Listed}
 use Rattle.snapshot_blocks.specs.Parsed.{listed_of}
 use Rattle.snapshot_store.specs.declared.levels.Levels.{Levels}
@@ -23,18 +23,18 @@ few_is : (n : ℕ) → n ≤ 512 → nat_le n 512 ≡ true
 few_is n h = grind (arith, h)
 
 -- a list block is enough for up to 512
-one_list : (n level : ℕ) (items : List Made) → 1 ≤ length items → length items ≤ 512 → listed (suc n) level items ≡ (level, list_made level items ∷ [])
+one_list : (n level : ℕ) (items : List Made) → 1 ≤ length items → length items ≤ 512 → list_blocks_over (suc n) level items ≡ (level, list_made level items ∷ [])
 one_list n level [] some few = absurd (omega (arith, some))
 one_list n level (x ∷ xs) some few =
-    cond-true (nat_le (length (x ∷ xs)) 512) (level, list_made level (x ∷ xs) ∷ []) (listed n (level + 1) (map (list_made level) (in_pieces 512 (x ∷ xs)))) (few_is (length (x ∷ xs)) few)
+    cond-true (nat_le (length (x ∷ xs)) 512) (level, list_made level (x ∷ xs) ∷ []) (list_blocks_over n (level + 1) (map (list_made level) (in_pieces 512 (x ∷ xs)))) (few_is (length (x ∷ xs)) few)
 
 -- more of them need a level more
-level_more : (n level : ℕ) (items : List Made) → 2 ≤ length (map (list_made level) (in_pieces 512 items)) → listed (suc n) level items ≡ listed n (level + 1) (map (list_made level) (in_pieces 512 items))
+level_more : (n level : ℕ) (items : List Made) → 2 ≤ length (map (list_made level) (in_pieces 512 items)) → list_blocks_over (suc n) level items ≡ list_blocks_over n (level + 1) (map (list_made level) (in_pieces 512 items))
 level_more n level [] more = absurd (omega (arith, more))
 level_more n level (x ∷ xs) more = by (nat_le (length (x ∷ xs)) 512) refl
   where
     by : (b : Bool) → nat_le (length (x ∷ xs)) 512 ≡ b
-        → cond b (level, list_made level (x ∷ xs) ∷ []) (listed n (level + 1) (map (list_made level) (in_pieces 512 (x ∷ xs)))) ≡ listed n (level + 1) (map (list_made level) (in_pieces 512 (x ∷ xs)))
+        → cond b (level, list_made level (x ∷ xs) ∷ []) (list_blocks_over n (level + 1) (map (list_made level) (in_pieces 512 (x ∷ xs)))) ≡ list_blocks_over n (level + 1) (map (list_made level) (in_pieces 512 (x ∷ xs)))
     by false is = refl
     by true is =
         let few : length (x ∷ xs) ≤ 512 = grind (arith, is) in
@@ -42,7 +42,7 @@ level_more n level (x ∷ xs) more = by (nat_le (length (x ∷ xs)) 512) refl
 
 -- where its list blocks are one at most, that one is the topmost
 top_is : (n level : ℕ) (items lists : List Made) → map (list_made level) (in_pieces 512 items) ≡ lists → length lists ≤ 1
-    → ((listed (suc n) level items).1 ≡ lists) × (named_by (listed (suc n) level items) ≡ top_listed level (map made_name lists))
+    → ((list_blocks_over (suc n) level items).1 ≡ lists) × (named_by (list_blocks_over (suc n) level items) ≡ top_listed level (map made_name lists))
 top_is n level [] lists all one = (all, ap (λ ms. top_listed level (map made_name ms)) all)
 top_is n level (x ∷ xs) lists all one =
     let few = within_piece 512 (x ∷ xs) (omega arith) (omega (arith, length-map (in_pieces 512 (x ∷ xs)) (list_made level), ap length all, one)) in

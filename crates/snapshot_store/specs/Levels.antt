@@ -4,7 +4,7 @@ use Rattle.std.specs.List.{AllByRecursion}
 use Rattle.ivy_base.specs.declared.key.Key.{Key}
 use Rattle.ivy_base.specs.Naming.{name}
 use Rattle.log_model.specs.Spelling.{no_name}
-use Rattle.snapshot_model.specs.Blocks.{Listed, list_block}
+use Rattle.snapshot_model.specs.Blocks.{NamedList, list_block}
 use Rattle.snapshot_model.specs.Spelling.{Made, list_made, made_name, with_block}
 use Rattle.snapshot_blocks.specs.declared.listed.Listed as listed
 use Rattle.snapshot_store.specs.declared.levels.Levels.{Levels}
@@ -17,7 +17,7 @@ pub record Closes (level : ℕ) (names : List Key) (before after : List (List �
   pub blocks : after ≡ with_block before (list_block level names)
   pub named : key ≡ name (list_block level names)
 
--- a name waits behind the others, or, where there are 512 then, the list block over all was put and none waits
+-- a name waits after the others, or, where there are 512 then, the list block over all was put and none waits
 abbrev pub Appends : ℕ → List Key → List (List ℕ) → List Key → List (List ℕ) → Option Key → Type 0
 Appends level names before waiting after None = (waiting ≡ names) × (length names < 512) × (after ≡ before)
 Appends level names before waiting after (Some key) = (waiting ≡ []) × (length names ≡ 512) × Closes level names before after key
@@ -43,7 +43,7 @@ HasOneList l = (l.thirds.items ≡ []) × (length l.seconds.items ≤ 1)
 abbrev pub AreFull : {A : Type 0} → List (List A) → Type 0
 AreFull {A} pieces = AllByRecursion (λ (p : List A). length p ≡ 512) pieces
 
--- the things, and what is left of them behind full pieces
+-- the things, and what is left of them after full pieces
 pub record IsCut {A : Type 0} (things : List A) (pieces : List (List A)) (left : List A) : Type 0 where
   pub whole : things ≡ flat_map (λ p. p) pieces ++ left
   pub full : AreFull pieces
@@ -75,6 +75,6 @@ abbrev pub Finishes : Levels → List (List ℕ) → List (List ℕ) → listed.
 Finishes l now after made = (before : List (List ℕ)) (items : List Made) → IsOver before items now l → PutsList before items after made
 
 -- the list whose topmost block has the first of these names
-abbrev pub top_listed : ℕ → List Key → Listed
+abbrev pub top_listed : ℕ → List Key → NamedList
 top_listed level [] = record { level = 0; top = no_name }
 top_listed level (n ∷ ns) = record { level = level; top = n }

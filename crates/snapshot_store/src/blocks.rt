@@ -43,7 +43,7 @@ impl Blocks {
         }
     }
 
-    /// Puts the block of these bytes behind the others, where it isn't among them, and gives its name. The error is want of
+    /// Puts the block of these bytes after the others, where it isn't among them, and gives its name. The error is: out of
     /// memory.
     pub fn add(&mut self, bytes: Bytes) -> Result<Key, Memory>
         ensures blocks { OnOk result (self.new ≡ with_block self.old bytes) }

@@ -1,7 +1,7 @@
 //! Inodes, each with all that it contains.
 
 ghost use Rattle.std.specs.Prelude.{◌≡◌, [], ◌∷◌, map, IfOk, OnOk};
-ghost use Rattle.snapshot_model.specs.Spelling.{inode_made, made_name, size_of, target_of};
+ghost use Rattle.snapshot_model.specs.Spelling.{inode_made, made_name, content_size as size_of, symbolic_link_text as target_of};
 ghost use Rattle.snapshot_store.specs.Puts.{PutsList, put_all};
 
 use crate::blocks::Blocks;
@@ -18,7 +18,7 @@ use std::alloc::Global;
 /// The most bytes of a link's text.
 const LONGEST_TARGET: usize = block_parts::LONGEST_TARGET as usize;
 
-/// Puts all inodes of the tree, in the order of their numbers, and the list over them. The error is want of memory; it also comes
+/// Puts all inodes of the tree, in the order of their numbers, and the list over them. The error is: out of memory; it also comes
 /// where there are more inodes than a list has room for, or one that no block of an inode stands for.
 pub fn put_inodes(alloc: Global, blocks: &mut Blocks, tree: &Tree) -> Result<Listed, Memory>
     ensures { IfOk result (PutsList blocks.old (map (inode_made tree.now) tree.now.inodes) blocks.new) }
@@ -36,7 +36,7 @@ pub fn put_inodes(alloc: Global, blocks: &mut Blocks, tree: &Tree) -> Result<Lis
     Ok(list)
 }
 
-/// Puts the inode of that number behind all that it contains, and gives the name of its block. The error is want of memory; it
+/// Puts the inode of that number after all that it contains, and gives the name of its block. The error is: out of memory; it
 /// also comes where no block stands for the inode: its file is too long, its directory has too many entries, or its text is too
 /// long for a link.
 fn put_inode(

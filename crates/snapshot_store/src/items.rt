@@ -21,7 +21,7 @@ const PIECE: u32 = 8192;
 /// How many entries a block has, but for the last one of a directory.
 const MOST_ENTRIES: usize = snapshot_blocks::MOST_ENTRIES as usize;
 
-/// Puts what the inode of that number contains, and the list over it. The error is want of memory; it also comes where that is
+/// Puts what the inode of that number contains, and the list over it. The error is: out of memory; it also comes where that is
 /// more than a list has room for.
 pub fn put_items(
     alloc: Global,
@@ -81,7 +81,7 @@ fn put_entries(
     Ok(list)
 }
 
-/// The block of these entries. The error is want of memory.
+/// The block of these entries. The error is: out of memory.
 fn block_of(alloc: Global, entries: &[(Bytes, Key)]) -> Result<Bytes, Memory>
     requires { length entries.now ≤ most_entries }
     ensures { IfOk result (λ block. block ≡ entries_block entries.now) }

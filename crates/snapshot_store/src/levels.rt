@@ -17,7 +17,7 @@ const MOST_NAMES: usize = 512;
 const NO_NAME: Key = Key([0; 20]);
 
 /// A list of blocks as far as it was put: the names that no list block has yet, level by level. A list block is put as soon
-/// as its names are 512, so that each stands behind the blocks that it names, and before those of the next one.
+/// as its names are 512, so that each stands after the blocks that it names, and before those of the next one.
 pub struct Levels {
     /// The names of items.
     firsts: Vec<Key>,
@@ -50,7 +50,7 @@ impl Levels {
         }
     }
 
-    /// Takes in an item, whose block and those below it were put last. The error is want of memory.
+    /// Takes in an item, whose block and those below it were put last. The error is: out of memory.
     pub fn push(&mut self, alloc: Global, blocks: &mut Blocks, item: Key) -> Result<(), Memory>
         requires { HasRoom self.old }
         ensures { OnOk result (TakesIn item self.old blocks.old self.new blocks.new) }
@@ -65,7 +65,7 @@ impl Levels {
         Ok(())
     }
 
-    /// Puts the list blocks that are left, and gives the list. The error is want of memory; it also comes where there are more
+    /// Puts the list blocks that are left, and gives the list. The error is: out of memory; it also comes where there are more
     /// than 134,217,728 items, for which a list has no room.
     pub fn finish(mut self, alloc: Global, blocks: &mut Blocks) -> Result<Listed, Memory>
         requires { HasRoom self }
@@ -94,7 +94,7 @@ impl Levels {
     }
 }
 
-/// Lets the name wait behind these, and puts the list block over all once there are 512, of which the name is given.
+/// Lets the name wait after these, and puts the list block over all once there are 512, of which the name is given.
 fn append(
     alloc: Global,
     blocks: &mut Blocks,

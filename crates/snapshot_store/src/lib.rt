@@ -3,7 +3,7 @@
 //! Layer: over `fs_tree`, whose tree it takes, and `snapshot_blocks`, which writes single blocks; below the agent that makes
 //! a snapshot of what it holds. `specs/Spelling.antt` of `snapshot_model` says which blocks a snapshot has, and in which order
 //! they are put.
-//! For the layers above: [`make`] gives exactly these blocks, each once and behind those that it names, with the name of the
+//! For the layers above: [`make`] gives exactly these blocks, each once and after those that it names, with the name of the
 //! root block; a [`Block`] has its own name, so nothing has to be hashed again.
 //!
 //! Inside, `blocks` keeps what was put and tells what is there already; `levels` puts the list blocks over items that come one

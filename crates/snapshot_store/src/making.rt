@@ -19,14 +19,14 @@ use view_blocks::View;
 pub struct Made {
     /// The name of its root block.
     pub root: Key,
-    /// Each block once, behind those that it names: the root block is the last.
+    /// Each block once, after those that it names: the root block is the last.
     pub blocks: Vec<Block>,
 }
 
 /// The blocks of a snapshot in that view of the tree, which covers the records of that front and that tide, the greatest
 /// rank among them.
 ///
-/// The error is want of memory. It also comes where a block or a list has no room for what it would stand for: there are more
+/// The error is: out of memory. It also comes where a block or a list has no room for what it would stand for: there are more
 /// than 134,217,728 inodes, a directory has more entries than such a list of blocks, or a file or a link's text is too long.
 pub fn make(
     alloc: Global,

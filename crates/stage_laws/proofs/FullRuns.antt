@@ -3,11 +3,11 @@ use Rattle.std.proofs.Common.{◌≡◌, ◌⊎◌, inl, inr, ⊎_elim, ℕ, ◌
 use Rattle.std.specs.Prelude.{MatchBool, nat_lt, sum_by}
 use Rattle.ivy_base.specs.Naming.{HasClash}
 use Rattle.script_driver.proofs.RunLaws.{single_run_kept}
-use Rattle.script_driver.specs.Run.{Outcome, Goes, Ends, Refuses, Exceeds, Follows, Obeys, Ran, Runs, WithLaw, behind, ended, limited, refused, shown}
+use Rattle.script_driver.specs.Run.{Outcome, Goes, Ends, Refuses, Exceeds, RunFollows, Obeys, Ran, Runs, WithLaw, behind, ended_run, limited, refused, shown}
 use Rattle.script_model.specs.Lines.{command_of}
 use Rattle.world_model.specs.Logs.{Played}
 use Rattle.world_model.specs.Step.{IvyStep, MayDoFirst, most_bytes}
-use Rattle.world_model.specs.Story.{empty_story}
+use Rattle.world_model.specs.GhostState.{empty_ghost_state}
 use Rattle.world_model.specs.World.{empty_world, named_bytes}
 use Rattle.world_laws.specs.FullRuns.{Clashes, HasBytes, LackedMemory, PublishFew}
 use Rattle.world_laws.specs.Laws.{HadMemory}
@@ -111,7 +111,7 @@ module _ (Law : Played → List ℕ → Outcome Played → Type 0) where
   }
 
   run_comes_first : (w : Played) (number : ℕ) (line : List ℕ) (lines : List (List ℕ)) (ran : Ran) (outcome : Outcome Played) → StageStep w (shown line) outcome → Law w (shown line) outcome
-      → Follows (λ next. Runs StageStep next (number + 1) lines) number outcome ran → RunComesTo Law w number (line ∷ lines) ran
+      → RunFollows (λ next. Runs StageStep next (number + 1) lines) number outcome ran → RunComesTo Law w number (line ∷ lines) ran
   unfolding comes_first
   run_comes_first w number line lines ran outcome step is follows = record {
     comes = comes_first w line lines outcome step is;
@@ -157,7 +157,7 @@ runs_or_clashes w number (line ∷ lines) keeps few bytes =
       | inl runs ↦ inl (behind output runs.0, (Goes next output, (step, memory), (runs.0, runs.1, refl)))
       | inr clashes ↦ inr (comes_later MeetsClash w next line lines output (step, memory) clashes)
     ]
-    after Ends step how later = inl (ended, (Ends, (step, tt), refl))
+    after Ends step how later = inl (ended_run, (Ends, (step, tt), refl))
     after Refuses step how later = inl (refused number, (Refuses, (step, tt), refl))
     after Exceeds step how later = inl (limited number, (Exceeds, (step, tt), refl))
 
@@ -166,8 +166,8 @@ one_full_run w number lines first second keeps a b =
     single_run_kept KeepsAll (WithLaw StageStep HadMemory) (λ now next line output ok step. stage_keeps now next line output ok step.0) (λ now line one other ok x y. stage_alike now line ok one other x y) w number lines first second keeps a b
 
 pub stage_runs_fully : StageRunsFully
-stage_runs_fully number lines = elim (runs_or_clashes (empty_world, empty_story) number lines stage_begins empty_publishes_few empty_has_bytes) [
-  | inl runs ↦ inl (runs.0, record { is = runs.1; one = λ other also. one_full_run (empty_world, empty_story) number lines other runs.0 stage_begins also runs.1 })
+stage_runs_fully number lines = elim (runs_or_clashes (empty_world, empty_ghost_state) number lines stage_begins empty_publishes_few empty_has_bytes) [
+  | inl runs ↦ inl (runs.0, record { is = runs.1; one = λ other also. one_full_run (empty_world, empty_ghost_state) number lines other runs.0 stage_begins also runs.1 })
   | inr clashes ↦ inr clashes
 ]
 
@@ -178,7 +178,7 @@ stage_runs_tell w number (line ∷ lines) ran keeps runs =
     after runs.0 runs.1 runs.2 (stage_decided w (shown line) keeps runs.0 runs.1)
     (λ next output step later more. stage_runs_tell next (number + 1) lines later (stage_keeps w next (shown line) output keeps step) more)
   where
-    after : (outcome : Outcome Played) → StageStep w (shown line) outcome → Follows (λ next. Runs StageStep next (number + 1) lines) number outcome ran → HadMemory w (shown line) outcome ⊎ LacksOrClashes w (shown line) outcome
+    after : (outcome : Outcome Played) → StageStep w (shown line) outcome → RunFollows (λ next. Runs StageStep next (number + 1) lines) number outcome ran → HadMemory w (shown line) outcome ⊎ LacksOrClashes w (shown line) outcome
         → ((next : Played) (output : List ℕ) → StageStep w (shown line) (Goes next output) → (later : Ran) → Runs StageStep next (number + 1) lines later → HasMemoryAlong next (number + 1) lines later ⊎ RunComesTo LacksOrClashes next (number + 1) lines later)
         → HasMemoryAlong w number (line ∷ lines) ran ⊎ RunComesTo LacksOrClashes w number (line ∷ lines) ran
     after outcome step follows (inr lacks) more = inr (run_comes_first LacksOrClashes w number line lines ran outcome step lacks follows)

@@ -19,8 +19,8 @@ use Rattle.dht_ids.specs.declared.ask.AskKind.TheVariants as kind
 use Rattle.dht_ids.specs.declared.ask.Heard.{Heard}
 use Rattle.dht_ids.specs.declared.judge.Judged.{Judged}
 use Rattle.dht_ids.specs.declared.peer.Peer.{Peer}
-use Rattle.dhash_model.specs.Course.{Told, result_of, told_all}
-use Rattle.dhash_model.specs.Course.IsCourse.{no_route, of_owners}
+use Rattle.dhash_model.specs.Execution.{Told, result_of, told_all}
+use Rattle.dhash_model.specs.Execution.IsExecution.{no_route, of_owners}
 use Rattle.dhash_model.specs.GetBlock.{IsGetOfBlock, block_in, is_of_get}
 use Rattle.dhash_model.specs.GetHead.{IsGetOfHead}
 use Rattle.dhash_model.specs.Signed.{hss_judged}
@@ -29,7 +29,7 @@ use Rattle.nfs_model.specs.declared.replies.NfsStatus.{NfsStatus}
 use Rattle.nfs_model.specs.declared.replies.NfsStatus.TheVariants as status
 use Rattle.turn_model.specs.Turn.{Asked}
 use Rattle.agent_model.specs.Standing.{Chain, Refresh}
-use Rattle.session_model.specs.Brought.{BlockOf, Brought, HeadsOf, Part, Want, brought_in}
+use Rattle.session_model.specs.Brought.{BlockOf, Brought, HeadsOf, Part, WantedOfRing, brought_in}
 use Rattle.session_model.specs.Refreshing.{FailsBy, FetchBase, Fetches, FetchesAll, Loaded, LoadsFor, Note, RefreshEnd, Refreshes, end_of_log}
 use Rattle.session_model.specs.Refreshing.Fetches.{wants_heads, no_heads, of_heads, of_own}
 use Rattle.session_model.specs.Refreshing.FetchesAll.{all, stays, goes_on as all_go_on}
@@ -46,8 +46,8 @@ use Rattle.script_model.specs.declared.command.Command.{Command}
 use Rattle.script_model.specs.declared.command.Command.TheVariants as command
 use Rattle.world_model.specs.Calls.{shown_end}
 use Rattle.world_model.specs.Logs.{Played}
-use Rattle.world_model.specs.Steps.{Scene}
-use Rattle.world_model.specs.Story.{HadTurn}
+use Rattle.world_model.specs.Steps.{Configuration}
+use Rattle.world_model.specs.GhostState.{HadTurn}
 use Rattle.world_laws.specs.Causes.{HasCause}
 use Rattle.world_laws.specs.Causes.HasCause.{alone, missed as has_missed, no_memory, turned}
 use Rattle.world_laws.specs.Headline.{IsOnReplay, StepsBeginAt, TurnHolds}
@@ -57,7 +57,7 @@ use Rattle.stage_laws.specs.Given.{EndsInTurn, IsGivenAll, IsGivenRight, Refresh
 use Rattle.stage_laws.specs.Outputs.{ShowsStatus}
 use Rattle.stage_laws.specs.Statuses.{is_of_tree}
 use Rattle.stage_laws.specs.Told.{CameIn, IsTold, PartsCameIn}
-use Rattle.stage_laws.specs.Told.CameIn.{at_hand, by_get}
+use Rattle.stage_laws.specs.Told.CameIn.{available, by_get}
 use Rattle.stage_laws.proofs.Outputs.{own_refusal, refuses, turn_told}
 use Rattle.stage_laws.proofs.Told.{AllCameIn, begins_in, session_in, steps_came}
 
@@ -127,13 +127,13 @@ module _ (r : ℕ) (entries : List Peer) (miss : Miss) where
       by (Damaged node) e ended some = e.0 some
       by (Missing asked) e ended some = e.0 some
 
-  got_right : {want : Want} {asks : List Heard} {brought : Brought} → Gets hss_judged r entries want asks brought → asks ≢ [] → IsGivenRight brought asks → IsMissed miss brought → ⊥
+  got_right : {want : WantedOfRing} {asks : List Heard} {brought : Brought} → Gets hss_judged r entries want asks brought → asks ≢ [] → IsGivenRight brought asks → IsMissed miss brought → ⊥
   got_right (got_heads {owner = owner} {asks = asks} came gets) some right lost = head_right owner asks came gets right lost
   got_right (got_content {key = key} {asks = asks} came gets) some right lost = ⊎_elim (λ none. some none) (λ was. block_right key asks came gets was.0 was.1 was.2 lost) right
 
   -- what came in and was given right isn't missed
   not_missed : (p : Part) → CameIn r entries p → IsGivenRight p.brought p.asks → IsMissed miss p.brought → ⊥
-  not_missed _ (at_hand key bytes) right lost = lost
+  not_missed _ (available key bytes) right lost = lost
   not_missed _ (by_get want brought asks some gets) right lost = got_right gets some right lost
 
 -- ---- what a fetch fails by
@@ -213,7 +213,7 @@ module _ (r : ℕ) (s : Session) (came : AllCameIn r s) (given_all : IsGivenAll 
 
 -- ---- the law
 
-module _ (next : Played) (end : Scene) (r : ℕ) (came : AllCameIn r end.session) (turns : (h : HadTurn) → Contains next.1.turns h → TurnHolds h) (output : List ℕ) (xid : ℕ) (asked : Asked)
+module _ (next : Played) (end : Configuration) (r : ℕ) (came : AllCameIn r end.session) (turns : (h : HadTurn) → Contains next.1.turns h → TurnHolds h) (output : List ℕ) (xid : ℕ) (asked : Asked)
     (asks : Asks end.session.standing.view end.session.message xid asked) (given_all : IsGivenAll end.session) where
   shows_none : (h : HadTurn) (on : IsOnReplay h) (x : ℕ) → output ≡ shown_end end.session (said_of x h.turned.reply) → (s : NfsStatus) → is_of_tree s ≡ false → s ≢ status.RoFs → s ≢ status.ServerFault → ShowsStatus output s → ⊥
   shows_none h on x shown s own no_rofs no_fault shows = ⊎_elim no_rofs no_fault (own_refusal h on s (turn_told h on x end.session s own (record { xid = shows.xid; results = shows.results; rest = shows.rest; is = sym shown ∙ shows.is })))
@@ -237,11 +237,11 @@ module _ (next : Played) (end : Scene) (r : ℕ) (came : AllCameIn r end.session
   comes_of _ (no_memory number also asking) shown = inr (number, refl)
 
 -- all that the line's session was brought came in
-start_came : (w : Played) → PartsCameIn w → (c : Command) (start : Scene) (r : ℕ) → w.0.replicas ≡ Some r → StepsBeginAt w c start → AllCameIn r start.session
-start_came w came (command.As log pieces) start r ringed (s, t, sends, begins, is) = subst (λ (x : Scene). AllCameIn r x.session) (sym is) (begins_in r w.0 s t begins)
+start_came : (w : Played) → PartsCameIn w → (c : Command) (start : Configuration) (r : ℕ) → w.0.replicas ≡ Some r → StepsBeginAt w c start → AllCameIn r start.session
+start_came w came (command.As log pieces) start r ringed (s, t, sends, begins, is) = subst (λ (x : Configuration). AllCameIn r x.session) (sym is) (begins_in r w.0 s t begins)
 start_came w came (command.Finish name) start r ringed (s, named, is) =
     let found = session_in w.0.sessions name s named in
-    subst (λ (x : Scene). AllCameIn r x.session) (sym is) (subst (AllCameIn r) found.2 (came r found.0 ringed found.1))
+    subst (λ (x : Configuration). AllCameIn r x.session) (sym is) (subst (AllCameIn r) found.2 (came r found.0 ringed found.1))
 start_came w came _ start r ringed begins = absurd begins
 
 pub refreshes_are_complete : (w : Played) (line : List ℕ) (outcome : Outcome Played) → IsTold w → ((next : Played) (output : List ℕ) → outcome ≡ Goes next output → IsTold next) → RefreshesAreComplete w line outcome

@@ -11,7 +11,7 @@ use Rattle.hex.proofs.HexLemmas.{decode_of-encode_lower}
 use Rattle.ivy_base.specs.Naming.{root_number}
 use Rattle.tree_model.proofs.Sound.{both_true}
 use Rattle.turn_laws.proofs.Octets.{a_word}
-use Rattle.wire_model.specs.Rpc.{Outcome as RpcOutcome, Success, ProgramUnavailable, ProgramMismatch, ProcedureUnavailable, GarbageArguments, SystemError, RpcMismatch, BadCredential, reply as rpc_reply}
+use Rattle.wire_model.specs.Rpc.{CallOutcome as RpcOutcome, Success, ProgramUnavailable, ProgramMismatch, ProcedureUnavailable, GarbageArguments, SystemError, RpcMismatch, BadCredential, reply as rpc_reply}
 use Rattle.wire_model.specs.Xdr.{word}
 use Rattle.wire_model.proofs.OneReading.{one_word}
 use Rattle.log_model.specs.View.{View}
@@ -36,18 +36,18 @@ use Rattle.script_driver.specs.Run.{Outcome}
 use Rattle.script_model.specs.declared.command.Command.{Command}
 use Rattle.script_model.specs.declared.command.Command.TheVariants as command
 use Rattle.script_model.specs.declared.command.Piece.{Piece}
-use Rattle.world_model.specs.Agents.{inputs}
+use Rattle.world_model.specs.Agents.{hss_inputs}
 use Rattle.world_model.specs.Calls.{reply_line, shown_end, shown_message, shown_miss, shown_note}
 use Rattle.world_model.specs.Keepers.{fails_next}
 use Rattle.world_model.specs.Logs.{Played}
-use Rattle.world_model.specs.Steps.{Scene}
-use Rattle.world_model.specs.Story.{HadTurn}
+use Rattle.world_model.specs.Steps.{Configuration}
+use Rattle.world_model.specs.GhostState.{HadTurn}
 use Rattle.world_laws.specs.Causes.{HasCause}
 use Rattle.world_laws.specs.Causes.HasCause.{alone, missed as has_missed, turned, no_memory}
 use Rattle.world_laws.specs.Headline.{Headline, HoldsOf, IsOnReplay}
-use Rattle.world_laws.specs.Keeps.{Keeps}
+use Rattle.world_laws.specs.Invariant.{Invariant}
 use Rattle.calm_laws.specs.CalmLines.{IsServedWhereCalm}
-use Rattle.calm_laws.specs.Completeness.{IsServed}
+use Rattle.calm_laws.specs.Completeness.{IsLineServed}
 use Rattle.stage_laws.specs.Outputs.{RefusesItself, ShowsStatus, StatusHasCause, StatusesAreCaused, StatusesAreTold}
 use Rattle.stage_laws.specs.Outputs.RefusesItself.{by_key, by_keeper}
 use Rattle.stage_laws.specs.Outputs.StatusHasCause.{missed, refused}
@@ -135,21 +135,21 @@ ok_is x a b e f = cc (sym e ∙ f)
 abbrev line_with : ℕ → ℕ → List ℕ → List ℕ
 line_with xid n results = reply_line (rpc_reply xid (Success (word n ++ results)))
 
-number_told : (k n x y : ℕ) (more behind results rest : List ℕ) → k < 2 ^ 32 → n < 2 ^ 32 → line_with x k more ++ behind ≡ line_with y n results ++ rest → k ≡ n
+number_told : (k n x y : ℕ) (more after results rest : List ℕ) → k < 2 ^ 32 → n < 2 ^ 32 → line_with x k more ++ after ≡ line_with y n results ++ rest → k ≡ n
 unfolding encode_with
-number_told k n x y more behind results rest f g e =
+number_told k n x y more after results rest f g e =
     let same : encode_lower (word k) ≡ encode_lower (word n) = ap (λ (l : List ℕ). take 8 (drop 54 l)) e in
     let words : word k ≡ word n = ok_is (decode_of (encode_lower (word k))) (word k) (word n) (decode_of-encode_lower (word k) (below (word k) (a_word k).each))
     (ap decode_of same ∙ decode_of-encode_lower (word n) (below (word n) (a_word n).each)) in
     (one_word.one k n [] [] f g (ap (λ (w : List ℕ). w ++ []) words)).0
 
 -- a reply without results ends before its status
-nothing_told : (s : NfsStatus) (x y : ℕ) (behind results rest : List ℕ) → IsOwn s → reply_line (rpc_reply x (Success [])) ++ behind ≡ line_with y (status_number s) results ++ rest → ⊥
+nothing_told : (s : NfsStatus) (x y : ℕ) (after results rest : List ℕ) → IsOwn s → reply_line (rpc_reply x (Success [])) ++ after ≡ line_with y (status_number s) results ++ rest → ⊥
 unfolding encode_with byte_at
-nothing_told _ x y behind results rest io e = (let at : 10 ≡ 48 = ap (byte_at 54) e in omega (arith, at))
-nothing_told _ x y behind results rest rofs e = (let at : 10 ≡ 48 = ap (byte_at 54) e in omega (arith, at))
-nothing_told _ x y behind results rest server_fault e = (let at : 10 ≡ 48 = ap (byte_at 54) e in omega (arith, at))
-nothing_told _ x y behind results rest jukebox e = (let at : 10 ≡ 48 = ap (byte_at 54) e in omega (arith, at))
+nothing_told _ x y after results rest io e = (let at : 10 ≡ 48 = ap (byte_at 54) e in omega (arith, at))
+nothing_told _ x y after results rest rofs e = (let at : 10 ≡ 48 = ap (byte_at 54) e in omega (arith, at))
+nothing_told _ x y after results rest server_fault e = (let at : 10 ≡ 48 = ap (byte_at 54) e in omega (arith, at))
+nothing_told _ x y after results rest jukebox e = (let at : 10 ≡ 48 = ap (byte_at 54) e in omega (arith, at))
 
 -- what results begin with
 data Leads (r : Reply) : Type 0 where
@@ -165,25 +165,25 @@ leads reply.NoMounts = with_small 0 [] (omega arith) refl
 leads reply.Exports = with_small 1 _ (omega arith) refl
 leads _ = with_small 0 _ (omega arith) refl
 
-module _ (s : NfsStatus) (own : IsOwn s) (x y : ℕ) (behind results rest : List ℕ) where
-  status_told : (r : Reply) → reply_line (rpc_reply x (Success (result r))) ++ behind ≡ line_with y (status_number s) results ++ rest → (t : Tail) × (r ≡ reply.Refused s t)
+module _ (s : NfsStatus) (own : IsOwn s) (x y : ℕ) (after results rest : List ℕ) where
+  status_told : (r : Reply) → reply_line (rpc_reply x (Success (result r))) ++ after ≡ line_with y (status_number s) results ++ rest → (t : Tail) × (r ≡ reply.Refused s t)
   status_told r e = by (leads r)
     where
-      with_results : (bytes : List ℕ) → result r ≡ bytes → reply_line (rpc_reply x (Success bytes)) ++ behind ≡ line_with y (status_number s) results ++ rest
-      with_results bytes is = subst (λ (b : List ℕ). reply_line (rpc_reply x (Success b)) ++ behind ≡ line_with y (status_number s) results ++ rest) is e
+      with_results : (bytes : List ℕ) → result r ≡ bytes → reply_line (rpc_reply x (Success bytes)) ++ after ≡ line_with y (status_number s) results ++ rest
+      with_results bytes is = subst (λ (b : List ℕ). reply_line (rpc_reply x (Success b)) ++ after ≡ line_with y (status_number s) results ++ rest) is e
 
       by : Leads r → (t : Tail) × (r ≡ reply.Refused s t)
-      by (with_none is) = absurd (nothing_told s x y behind results rest own (with_results [] is))
+      by (with_none is) = absurd (nothing_told s x y after results rest own (with_results [] is))
       by (with_small k more least is) =
-          let same = number_told k (status_number s) x y more behind results rest (omega (arith, least)) (numbered s).small (with_results (word k ++ more) is) in
+          let same = number_told k (status_number s) x y more after results rest (omega (arith, least)) (numbered s).small (with_results (word k ++ more) is) in
           let most = great s own in
           absurd (omega (arith, same, most, least))
       by (with_status other t more is first) =
-          let same = number_told (status_number other) (status_number s) x y more behind results rest (numbered other).small (numbered s).small (with_results (word (status_number other) ++ more) first) in
+          let same = number_told (status_number other) (status_number s) x y more after results rest (numbered other).small (numbered s).small (with_results (word (status_number other) ++ more) first) in
           (t, is ∙ ap (λ (z : NfsStatus). reply.Refused z t) (one_status other s same))
 
   abbrev Shows : Option (List ℕ) → Type 0
-  Shows message = shown_message message ++ behind ≡ line_with y (status_number s) results ++ rest
+  Shows message = shown_message message ++ after ≡ line_with y (status_number s) results ++ rest
 
   none_told : Shows None → ⊥
   unfolding byte_at
@@ -233,12 +233,12 @@ refusal_is s other t u e = cc e
 
 module _ (h : HadTurn) (on : IsOnReplay h) where
   pub refuses : (s : NfsStatus) (t : Tail) → is_of_tree s ≡ false → h.turned.reply ≡ reply.Refused s t → RefusesItself h on s
-  refuses s t own is = by (turns_refuse_so (inputs h.by.agent h.view (fails_next h.by.keeper)) on.taken on.asked h.now)
+  refuses s t own is = by (turns_refuse_so (hss_inputs h.by.agent h.view (fails_next h.by.keeper)) on.taken on.asked h.now)
     where
-      answered : (turn_on (inputs h.by.agent h.view (fails_next h.by.keeper)) on.taken on.asked h.now).reply ≡ reply.Refused s t
+      answered : (turn_on (hss_inputs h.by.agent h.view (fails_next h.by.keeper)) on.taken on.asked h.now).reply ≡ reply.Refused s t
       answered = ap (λ (x : Turned). x.reply) (sym on.is_answer) ∙ is
 
-      by : TurnRefuses (inputs h.by.agent h.view (fails_next h.by.keeper)) on.taken on.asked h.now (turn_on (inputs h.by.agent h.view (fails_next h.by.keeper)) on.taken on.asked h.now).reply → RefusesItself h on s
+      by : TurnRefuses (hss_inputs h.by.agent h.view (fails_next h.by.keeper)) on.taken on.asked h.now (turn_on (hss_inputs h.by.agent h.view (fails_next h.by.keeper)) on.taken on.asked h.now).reply → RefusesItself h on s
       by (of_tree plain) = absurd (not_plain _ s t own answered plain)
       by (of_key ops at spent r) = subst (RefusesItself h on) (refusal_is status.RoFs s (bare_tail on.asked.args) t (sym r ∙ answered)) (by_key ops at spent)
       by (of_keeper r failed) = subst (RefusesItself h on) (refusal_is status.ServerFault s (bare_tail on.asked.args) t (sym r ∙ answered)) (by_keeper failed)
@@ -256,29 +256,29 @@ module _ (h : HadTurn) (on : IsOnReplay h) where
       let told = status_told s (own_of s own) x shows.xid (misses ++ notes) shows.results shows.rest h.turned.reply (sym (append_assoc (reply_line (rpc_reply x (Success (result h.turned.reply)))) misses notes) ∙ shows.is) in
       refuses s told.0 own told.1
 
-module _ (s : NfsStatus) (own : is_of_tree s ≡ false) (y : ℕ) (behind results rest : List ℕ) where
+module _ (s : NfsStatus) (own : is_of_tree s ≡ false) (y : ℕ) (after results rest : List ℕ) where
   -- what a message alone is answered has no such status
-  by_message_told : (view : View) (message : List ℕ) (given : Option (List ℕ)) → IsByMessage view message given → shown_message given ++ behind ≡ line_with y (status_number s) results ++ rest → ⊥
-  by_message_told view message _ (no_call none neither) e = none_told s (own_of s own) 0 y behind results rest e
-  by_message_told view message _ (other_version xid is) e = unserved_told s (own_of s own) xid y behind results rest RpcMismatch tt e
-  by_message_told view message _ (no_program c is none) e = unserved_told s (own_of s own) c.xid y behind results rest ProgramUnavailable tt e
-  by_message_told view message _ (no_version c count is program other) e = unserved_told s (own_of s own) c.xid y behind results rest (ProgramMismatch 3 3) tt e
-  by_message_told view message _ (no_procedure c count is program version many) e = unserved_told s (own_of s own) c.xid y behind results rest ProcedureUnavailable tt e
-  by_message_told view message _ (no_caller c is served none) e = unserved_told s (own_of s own) c.xid y behind results rest BadCredential tt e
-  by_message_told view message _ (no_arguments c who is served caller garbage) e = unserved_told s (own_of s own) c.xid y behind results rest GarbageArguments tt e
+  by_message_told : (view : View) (message : List ℕ) (given : Option (List ℕ)) → IsByMessage view message given → shown_message given ++ after ≡ line_with y (status_number s) results ++ rest → ⊥
+  by_message_told view message _ (no_call none neither) e = none_told s (own_of s own) 0 y after results rest e
+  by_message_told view message _ (other_version xid is) e = unserved_told s (own_of s own) xid y after results rest RpcMismatch tt e
+  by_message_told view message _ (no_program c is none) e = unserved_told s (own_of s own) c.xid y after results rest ProgramUnavailable tt e
+  by_message_told view message _ (no_version c count is program other) e = unserved_told s (own_of s own) c.xid y after results rest (ProgramMismatch 3 3) tt e
+  by_message_told view message _ (no_procedure c count is program version many) e = unserved_told s (own_of s own) c.xid y after results rest ProcedureUnavailable tt e
+  by_message_told view message _ (no_caller c is served none) e = unserved_told s (own_of s own) c.xid y after results rest BadCredential tt e
+  by_message_told view message _ (no_arguments c who is served caller garbage) e = unserved_told s (own_of s own) c.xid y after results rest GarbageArguments tt e
   by_message_told view message _ (by_itself c who args r is served caller are answers) e =
-      let told = status_told s (own_of s own) c.xid y behind results rest r e in
+      let told = status_told s (own_of s own) c.xid y after results rest r e in
       not_plain r s told.0 own told.1 (alone_plain view args r answers)
 
-  cause_told : (next : Played) (end : Scene) (said : Said) → HasCause next.1 end.began.number end.session said → shown_message said.message ++ behind ≡ line_with y (status_number s) results ++ rest → StatusHasCause next end s
+  cause_told : (next : Played) (end : Configuration) (said : Said) → HasCause next.1 end.began.number end.session said → shown_message said.message ++ after ≡ line_with y (status_number s) results ++ rest → StatusHasCause next end s
   cause_told next end _ (alone given is) e = absurd (by_message_told end.session.standing.view end.session.message given is e)
   cause_told next end _ (has_missed xid asked given miss asks refreshed is) e =
-      let told = status_told s (own_of s own) xid y behind results rest (missed_reply asked miss) e in
+      let told = status_told s (own_of s own) xid y after results rest (missed_reply asked miss) e in
       missed miss is (sym (refusal_is (missed_status miss) s (bare_tail asked.args) told.0 told.1))
   cause_told next end _ (turned h xid asked given among of asks refreshed) e =
-      let told = status_told s (own_of s own) xid y behind results rest h.turned.reply e in
+      let told = status_told s (own_of s own) xid y after results rest h.turned.reply e in
       refused h told.0 among of told.1 (λ on. refuses h on s told.0 own told.1)
-  cause_told next end _ (no_memory xid asked asks) e = absurd (unserved_told s (own_of s own) xid y behind results rest SystemError tt e)
+  cause_told next end _ (no_memory xid asked asks) e = absurd (unserved_told s (own_of s own) xid y after results rest SystemError tt e)
 
 -- ---- the laws
 
@@ -289,8 +289,8 @@ statuses_are_caused w c next output caused s own shows =
     cause_told s own shows.xid (misses ++ notes) shows.results shows.rest next caused.end caused.said caused.cause
     (sym (append_assoc (shown_message caused.said.message) misses notes) ∙ sym caused.shown ∙ shows.is)
 
--- a whole call that misses nothing, and before whose turn names tell apart what was met
-module _ (w : Played) (keeps : Keeps w) (name : List ℕ) (pieces : List Piece) (next : Played) (output : List ℕ) (holds : HoldsOf w (command.As name pieces) next output) (served : IsServed w (command.As name pieces) next output) where
+-- a whole call that misses nothing, and before whose turn no names of what was met collide
+module _ (w : Played) (keeps : Invariant w) (name : List ℕ) (pieces : List Piece) (next : Played) (output : List ℕ) (holds : HoldsOf w (command.As name pieces) next output) (served : IsLineServed w (command.As name pieces) next output) where
   not_old : (h : HadTurn) → h.began.number ≡ served.caused.end.began.number → Contains w.1.turns h → ⊥
   not_old h same earlier =
       let before = each (λ (x : HadTurn). x.began.number < w.1.begun) w.1.turns h keeps.numbers.turns earlier in
@@ -312,7 +312,7 @@ module _ (w : Played) (keeps : Keeps w) (name : List ℕ) (pieces : List Piece) 
           let on = on_replay h of.number_is among in
           ⊎_elim (λ rofs. no_rofs rofs) (λ fault. no_fault fault) (own_refusal h on s (refuses_so on))
 
-pub statuses_are_told : (w : Played) (line : List ℕ) (outcome : Outcome Played) → Keeps w → Headline w line outcome → IsServedWhereCalm w line outcome → StatusesAreTold w line outcome
+pub statuses_are_told : (w : Played) (line : List ℕ) (outcome : Outcome Played) → Invariant w → Headline w line outcome → IsServedWhereCalm w line outcome → StatusesAreTold w line outcome
 statuses_are_told w line outcome keeps headline calm = record {
   causes = λ c next output is goes. statuses_are_caused w c next output;
   calm = λ r count lines name pieces next output reached is goes.

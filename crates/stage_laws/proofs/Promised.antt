@@ -4,13 +4,13 @@ use Rattle.script_driver.specs.Run.{Goes, Outcome}
 use Rattle.world_model.specs.Logs.{Played}
 use Rattle.world_model.specs.Step.{IvyStep}
 use Rattle.calm_laws.proofs.CalmLines.{lines_are_served}
-use Rattle.stage_laws.specs.Promise.{PromisedDoesSomething, PromisedKeeps, PromisedLongLinesStop, StagePromises}
+use Rattle.stage_laws.specs.Promise.{PromisedIsTotal, PromisedKeeps, PromisedLongLinesStop, StagePromises}
 use Rattle.stage_laws.specs.Stage.{StageStep}
 use Rattle.stage_laws.proofs.Given.{refreshes_are_complete}
 use Rattle.stage_laws.proofs.Outputs.{statuses_are_told}
 use Rattle.stage_laws.proofs.Replies.{stage_has_headline}
 use Rattle.stage_laws.proofs.Stands.{all_stands}
-use Rattle.stage_laws.proofs.Stage.{long_lines_stop, stage_does_something, stage_keeps, what_goes_is_a_step}
+use Rattle.stage_laws.proofs.Stage.{long_lines_stop, stage_is_total, stage_keeps, what_goes_is_a_step}
 
 -- a line of the stage that goes on is a line of all steps
 goes_on : (w : Played) (line : List ℕ) (outcome : Outcome Played) → StageStep w line outcome → (next : Played) (output : List ℕ) → outcome ≡ Goes next output → IvyStep w line (Goes next output)
@@ -29,8 +29,8 @@ each_promises w line outcome keeps step = record {
 pub promised_keeps : PromisedKeeps
 promised_keeps w next line output keeps step = stage_keeps w next line output keeps step.0
 
-pub promised_does_something : PromisedDoesSomething
-promised_does_something w line keeps = (let does = stage_does_something w line keeps in (does.0, (does.1, each_promises w line does.0 keeps does.1)))
+pub promised_is_total : PromisedIsTotal
+promised_is_total w line keeps = (let does = stage_is_total w line keeps in (does.0, (does.1, each_promises w line does.0 keeps does.1)))
 
 pub promised_long_lines_stop : PromisedLongLinesStop
 promised_long_lines_stop w line next output keeps long step = long_lines_stop w next line output long step.0

@@ -2,7 +2,7 @@
 use Rattle.std.proofs.Common.{ℕ, ◌+◌, List, [], ◌∷◌, refl, subst}
 use Rattle.std.specs.List.{AllByRecursion}
 use Rattle.script_driver.proofs.RunLaws.{runs_with_law}
-use Rattle.script_driver.specs.Run.{Outcome, Goes, Ends, Refuses, Exceeds, Ran, Runs, Follows, shown}
+use Rattle.script_driver.specs.Run.{Outcome, Goes, Ends, Refuses, Exceeds, Ran, Runs, RunFollows, shown}
 use Rattle.world_model.specs.Logs.{Played}
 use Rattle.world_model.specs.Step.{IvyStep}
 use Rattle.world_laws.specs.Headline.{Headline}
@@ -22,7 +22,7 @@ stage_replies_are_on_replay w number script ran keeps runs = runs_with_law Stage
 -- ---- runs of both
 
 follows_so : (number : ℕ) (outcome : Outcome Played) (ran : Ran) (some others : Played → Ran → Type 0) → ((next : Played) (later : Ran) → some next later → others next later)
-    → Follows some number outcome ran → Follows others number outcome ran
+    → RunFollows some number outcome ran → RunFollows others number outcome ran
 follows_so number (Goes next output) ran some others more follows = (follows.0, more next follows.0 follows.1, follows.2)
 follows_so number Ends ran some others more follows = follows
 follows_so number Refuses ran some others more follows = follows

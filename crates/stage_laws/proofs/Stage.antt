@@ -12,12 +12,12 @@ use Rattle.world_model.specs.Step.{IvyStep, MayDoFirst, most_bytes}
 use Rattle.world_model.specs.World.{World}
 use Rattle.world_laws.proofs.AllLines.{does_line}
 use Rattle.world_laws.proofs.EachLine.{each_line_keeps}
-use Rattle.world_laws.proofs.Existing.{each_line_does_something}
+use Rattle.world_laws.proofs.Existing.{each_line_is_total}
 use Rattle.world_laws.proofs.FirstWorld.{empty_keeps}
 use Rattle.world_laws.proofs.NoSnapshotLines.{no_snapshot_comes}
 use Rattle.stage_laws.specs.Stage.{IsOfStage, StageStep, stage_command}
 use Rattle.stage_laws.proofs.Told.{nothing_told, told_stays}
-use Rattle.stage_laws.specs.Laws.{LongLinesStop, OthersAreSteps, StageBegins, StageDoesSomething, StageKeeps, WhatGoesIsAStep}
+use Rattle.stage_laws.specs.Laws.{LongLinesStop, OthersAreSteps, StageBegins, StageIsTotal, StageKeeps, WhatGoesIsAStep}
 
 -- ---- which lines they are
 
@@ -73,12 +73,12 @@ none_does : (full : Bool) → (outcome : Outcome Played) × MatchBool full (outc
 none_does true = (Exceeds, refl)
 none_does false = (Refuses, refl)
 
-pub stage_does_something : StageDoesSomething
-stage_does_something w line keeps = ⊎_elim by_same by_none (taken_or_none w.0 (command_of line))
+pub stage_is_total : StageIsTotal
+stage_is_total w line keeps = ⊎_elim by_same by_none (taken_or_none w.0 (command_of line))
   where
     by_same : IsTakenSo w.0 (command_of line) → (outcome : Outcome Played) × StageStep w line outcome
     by_same taken =
-        let does = (each_line_does_something w.0 line (w.1, keeps.0)).1 w.1 keeps.0 in
+        let does = (each_line_is_total w.0 line (w.1, keeps.0)).1 w.1 keeps.0 in
         (does.0, subst (λ (o : Option Command). MayDoFirst w o does.0) (sym taken.same) does.1)
 
     by_none : stage_command (command_of line) ≡ None → (outcome : Outcome Played) × StageStep w line outcome

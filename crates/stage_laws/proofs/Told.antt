@@ -1,4 +1,5 @@
--- All that open sessions were brought was at hand or came of whole gets, and turns that were had are on the replay: so each line leaves it.
+-- All that open sessions were brought was available or came of whole gets, and turns that were had are on the replay: so each line leaves
+-- it.
 use Rattle.std.proofs.Common.{◌≡◌, ◌≢◌, ◌⊎◌, inl, inr, ⊎_elim, ℕ, Bool, true, false, cond, not, List, [], ◌∷◌, ◌++◌, map, filter, Option, Some, None, refl, sym, ap, ◌∙◌, subst, Contains}
 use Rattle.std.specs.Prelude.{is_some, option_map, if◌then◌else◌}
 use Rattle.std.specs.List.{AllByRecursion, find}
@@ -14,13 +15,13 @@ use Rattle.dht_ids.specs.declared.ask.Heard.{Heard}
 use Rattle.dht_ids.specs.declared.peer.Peer.{Peer}
 use Rattle.dhash_model.specs.Signed.{hss_judged}
 use Rattle.session_model.specs.Asking.{AsksNext}
-use Rattle.session_model.specs.Brought.{Brought, Part, Want}
-use Rattle.session_model.specs.Courses.{Fails, LacksMemory, Settles}
-use Rattle.session_model.specs.Courses.Begins.{alone as begins_alone, refreshes as begins_refreshing}
-use Rattle.session_model.specs.Courses.Fails.{fails, goes_on}
-use Rattle.session_model.specs.Courses.LacksMemory.{lacks as lacks_any}
-use Rattle.session_model.specs.Courses.Settles.{settles as settles_all}
-use Rattle.session_model.specs.Courses.TakesTurn.{answers as turn_answers, begins_anew, gives_up}
+use Rattle.session_model.specs.Brought.{Brought, Part, WantedOfRing}
+use Rattle.session_model.specs.Executions.{Fails, LacksMemory, Settles}
+use Rattle.session_model.specs.Executions.Begins.{alone as begins_alone, refreshes as begins_refreshing}
+use Rattle.session_model.specs.Executions.Fails.{fails, goes_on}
+use Rattle.session_model.specs.Executions.LacksMemory.{lacks as lacks_any}
+use Rattle.session_model.specs.Executions.Settles.{settles as settles_all}
+use Rattle.session_model.specs.Executions.TakesTurn.{answers as turn_answers, begins_again, gives_up}
 use Rattle.session_model.specs.Sessions.{Cache, Hears, IsGet, Said, Session, Takes, TakesSome, wanted_key}
 use Rattle.session_model.specs.Sessions.Hears.{gets_on, got, puts, puts_on}
 use Rattle.session_model.specs.Sessions.Takes.{cached, posted}
@@ -29,19 +30,19 @@ use Rattle.agent_model.specs.Turning.{TurnEnd}
 use Rattle.script_driver.specs.Run.{Goes}
 use Rattle.script_model.specs.Lines.{command_of}
 use Rattle.script_model.specs.declared.command.Command.{Command}
-use Rattle.world_model.specs.Agents.{Agent, Kept, TakesTurn, Turning}
+use Rattle.world_model.specs.Agents.{HssAgent, HssKept, TakesHssTurn, HssTurning}
 use Rattle.world_model.specs.Calls.{BeginsWith, Sending, replied}
 use Rattle.world_model.specs.Logs.{Played, with_view}
 use Rattle.world_model.specs.Step.{Does, IvyStep}
-use Rattle.world_model.specs.Steps.{RunsOut, Scene}
-use Rattle.world_model.specs.Story.{HadTurn, empty_story}
+use Rattle.world_model.specs.Steps.{RunsOut, Configuration}
+use Rattle.world_model.specs.GhostState.{HadTurn, empty_ghost_state}
 use Rattle.world_model.specs.World.{NamedSession, World, empty_world}
 use Rattle.world_laws.specs.Effects.{Effect, LaterEffect, Plays}
 use Rattle.world_laws.specs.Effects.Effect.{comes, loses, makes_view, of_nodes, opens, plays, renews, shows, times, touches}
 use Rattle.world_laws.specs.Effects.LaterEffect.{publishes, replies}
 use Rattle.world_laws.specs.Effects.Plays.{calls, ends, steps}
 use Rattle.world_laws.specs.Headline.{TurnHolds}
-use Rattle.world_laws.specs.Keeps.{HasRing, Keeps}
+use Rattle.world_laws.specs.Invariant.{HasRing, Invariant}
 use Rattle.world_laws.specs.Moves.{Move, Moves}
 use Rattle.world_laws.specs.Moves.Move.{asks, hears, lacks, settles, takes, turns}
 use Rattle.world_laws.proofs.AllLines.{does_line}
@@ -53,7 +54,7 @@ use Rattle.world_laws.proofs.Placed.{found_among}
 use Rattle.world_laws.proofs.RingLines.{fates_rest}
 use Rattle.world_laws.proofs.SignedHeads.{from_map}
 use Rattle.stage_laws.specs.Told.{CameIn, IsTold, PartsCameIn}
-use Rattle.stage_laws.specs.Told.CameIn.{at_hand, by_get}
+use Rattle.stage_laws.specs.Told.CameIn.{available, by_get}
 
 -- ---- a session
 
@@ -76,8 +77,8 @@ module _ (r : ℕ) where
       none_empty (x ∷ xs) h e = cc e
 
   take_in : (s t : Session) (cache after : Cache) → Takes hss_judged r s cache t after → AllCameIn s → AllCameIn t
-  take_in s _ cache _ (posted key bytes wants none is) all = one_more s _ all (at_hand key bytes)
-  take_in s _ cache _ (cached key bytes wants none missing is) all = one_more s _ all (at_hand key bytes)
+  take_in s _ cache _ (posted key bytes wants none is) all = one_more s _ all (available key bytes)
+  take_in s _ cache _ (cached key bytes wants none missing is) all = one_more s _ all (available key bytes)
 
   takes_in : {s t : Session} {cache after : Cache} → TakesSome hss_judged r s cache t after → AllCameIn s → AllCameIn t
   takes_in some_none all = all
@@ -97,12 +98,12 @@ module _ (r : ℕ) where
   lacks_in : (s t : Session) → LacksMemory s t → AllCameIn s → AllCameIn t
   lacks_in s _ (lacks_any notes shown given end xid asked at refreshed asks_it rest front) all = all
 
-  turn_in : (turning : Turning) (s : Session) (end : TurnEnd) (after : Agent) (saving : Option Kept) (t : Session) → TakesTurn turning s end after saving t → AllCameIn s → AllCameIn t
+  turn_in : (turning : HssTurning) (s : Session) (end : TurnEnd) (after : HssAgent) (saving : Option HssKept) (t : Session) → TakesHssTurn turning s end after saving t → AllCameIn s → AllCameIn t
   turn_in turning s _ _ _ _ (turn_answers notes given xid asked reply applied after saving done asks_it turned) all = all
-  turn_in turning s _ _ _ _ (begins_anew notes given xid asked end after saving done asks_it turned refused few) all = tt
+  turn_in turning s _ _ _ _ (begins_again notes given xid asked end after saving done asks_it turned refused few) all = tt
   turn_in turning s _ _ _ _ (gives_up notes given xid asked end after saving done asks_it turned refused many) all = all
 
-  settles_in : (a after : Agent) (s t : Session) → Settles a s after t → AllCameIn s → AllCameIn t
+  settles_in : (a after : HssAgent) (s t : Session) → Settles a s after t → AllCameIn s → AllCameIn t
   settles_in a _ s _ (settles_all said acks at) all = all
 
   pub begins_in : (w : World) (s : Sending) (t : Session) → BeginsWith w s t → AllCameIn t
@@ -112,29 +113,29 @@ module _ (r : ℕ) where
   -- ---- in a world
 
   -- the session's parts came in; the other sessions are as they were, and so is the ring's number
-  record KeepsIn (w : World) (c : Scene) : Type 0 where
+  record KeepsIn (w : World) (c : Configuration) : Type 0 where
     ringed : c.world.replicas ≡ w.replicas
     others : c.world.sessions ≡ w.sessions
     parts : AllCameIn c.session
 
-  asked_in : (w : World) (c : Scene) (next : World) → next ≡ record (c.world) { nodes = next.nodes; asked = next.asked } → KeepsIn w c → KeepsIn w (record c { world = next })
+  asked_in : (w : World) (c : Configuration) (next : World) → next ≡ record (c.world) { nodes = next.nodes; asked = next.asked } → KeepsIn w c → KeepsIn w (record c { world = next })
   asked_in w c next is h = record { ringed = ap (λ (v : World). v.replicas) is ∙ h.ringed; others = ap (λ (v : World). v.sessions) is ∙ h.others; parts = h.parts }
 
-  move_in : (w : World) {name : List ℕ} (c next : Scene) → Move hss_judged r name c next → KeepsIn w c → KeepsIn w next
+  move_in : (w : World) {name : List ℕ} (c next : Configuration) → Move hss_judged r name c next → KeepsIn w c → KeepsIn w next
   move_in w c _ (takes p taken cache is taking) h = record { ringed = h.ringed; others = h.others; parts = takes_in taking h.parts }
   move_in w c _ (asks node question answer next fate) h = asked_in w c next (fate_rest fate) h
   move_in w c _ (hears p node question answer next heard t cache is fate hearing goes) h =
       let asked = asked_in w c next (fate_rest fate) h in
       record { ringed = asked.ringed; others = asked.others; parts = fails_in heard t goes (hears_in c.session p.cache node question answer heard cache hearing h.parts) }
   move_in w c _ (lacks t lacking) h = record { ringed = h.ringed; others = h.others; parts = lacks_in c.session t lacking h.parts }
-  move_in w c _ (turns p view end after saving t work story began is in_view taking told) h = record { ringed = h.ringed; others = h.others; parts = turn_in _ c.session end after saving t taking h.parts }
+  move_in w c _ (turns p view end after saving t work ghost_state began is in_view taking told) h = record { ringed = h.ringed; others = h.others; parts = turn_in _ c.session end after saving t taking h.parts }
   move_in w c _ (settles p after t is settling) h = record { ringed = h.ringed; others = h.others; parts = settles_in p.agent after c.session t settling h.parts }
 
-  moves_in : (w : World) {name : List ℕ} {c end : Scene} → Moves hss_judged r name c end → KeepsIn w c → KeepsIn w end
+  moves_in : (w : World) {name : List ℕ} {c end : Configuration} → Moves hss_judged r name c end → KeepsIn w c → KeepsIn w end
   moves_in w on h = all_moves (KeepsIn w) (move_in w) on h
 
   -- so it is of all that the session has at the end of its steps
-  pub steps_came : {name : List ℕ} {c end : Scene} → RunsOut hss_judged r name c end → AllCameIn c.session → AllCameIn end.session
+  pub steps_came : {name : List ℕ} {c end : Configuration} → RunsOut hss_judged r name c end → AllCameIn c.session → AllCameIn end.session
   steps_came {c = c} runs all = (moves_in c.world (runs_move runs) (record { ringed = refl; others = refl; parts = all })).parts
 
 -- ---- lines
@@ -162,7 +163,7 @@ in_place ss name s x among =
 same_number : (a b : ℕ) → Some a ≡ Some b → a ≡ b
 same_number a b e = cc e
 
-module _ (w : Played) (keeps : Keeps w) (came : PartsCameIn w) where
+module _ (w : Played) (keeps : Invariant w) (came : PartsCameIn w) where
   -- the ring's number is as it was, and each open session was there
   abbrev HasFewer : Played → Type 0
   HasFewer next = (next.0.replicas ≡ w.0.replicas) × ((s : NamedSession) → Contains next.0.sessions s → Contains w.0.sessions s)
@@ -176,11 +177,11 @@ module _ (w : Played) (keeps : Keeps w) (came : PartsCameIn w) where
   ring_came next same (Some k) is ring stays r s ringed among =
       came r s (is ∙ ap Some (same_number k r (sym (stays k is) ∙ ringed))) (subst (λ (l : List NamedSession). Contains l s) same among)
 
-  played_came : {k : Command} {r : ℕ} {name : List ℕ} {c end : Scene} {next : Played} → w.0.replicas ≡ Some r → Plays hss_judged w r k name c end next
+  played_came : {k : Command} {r : ℕ} {name : List ℕ} {c end : Configuration} {next : Played} → w.0.replicas ≡ Some r → Plays hss_judged w r k name c end next
       → (KeepsIn r w.0 c → KeepsIn r w.0 end) → PartsCameIn next
   played_came {r = r} ringed (calls log pieces s t end sends begins runs over) on =
       let after = on (record { ringed = refl; others = refl; parts = begins_in r w.0 s t begins }) in
-      fewer_came (end.world, end.story) (after.ringed, λ x among. subst (λ (l : List NamedSession). Contains l x) after.others among)
+      fewer_came (end.world, end.ghost_state) (after.ringed, λ x among. subst (λ (l : List NamedSession). Contains l x) after.others among)
   played_came {r = r} ringed (steps name count s end is going) on =
       let found = session_in w.0.sessions name s is in
       let before : AllCameIn r s = subst (AllCameIn r) found.2 (came r found.0 ringed found.1) in
@@ -223,7 +224,7 @@ later_came v _ (replies k whole said) came = by (is_some said.message)
 
 -- ---- what is told
 
-pub told_stays : (w next : Played) (line output : List ℕ) → Keeps w → IsTold w → IvyStep w line (Goes next output) → IsTold next
+pub told_stays : (w next : Played) (line output : List ℕ) → Invariant w → IsTold w → IvyStep w line (Goes next output) → IsTold next
 told_stays w next line output keeps told step =
     let done = does_line w next output (command_of line) step in
     let new = headline_holds w line (Goes next output) keeps step done.0 next output done.1 refl in
@@ -232,5 +233,5 @@ told_stays w next line output keeps told step =
       turns = λ h among. ⊎_elim (told.turns h) (new.turns h) (Contains-append_cases w.1.turns new.more h (subst (λ (l : List HadTurn). Contains l h) new.new among));
     }
 
-pub nothing_told : IsTold (empty_world, empty_story)
+pub nothing_told : IsTold (empty_world, empty_ghost_state)
 nothing_told = record { parts = λ r s ringed among. absurd (in_nothing s among); turns = λ h among. absurd (in_nothing h among) }

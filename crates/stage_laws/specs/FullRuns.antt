@@ -1,15 +1,15 @@
--- Runs in which memory is never wanting, by the step of this stage: that each script has one, or names clash on the way, and that any other
--- run tells where memory was wanting.
+-- Runs in which memory never runs out, by the step of this stage: that each script has one, or names clash on the way, and that any other
+-- run tells where memory ran out.
 use Rattle.std.specs.Prelude.{◌≡◌, ◌⊎◌, ℕ, ◌+◌, List, ◌∷◌, ◌++◌, length}
-use Rattle.script_driver.specs.Run.{Outcome, Goes, Follows, Obeys, Ran, Runs, WithLaw, behind, shown}
+use Rattle.script_driver.specs.Run.{Outcome, Goes, RunFollows, Obeys, Ran, Runs, WithLaw, behind, shown}
 use Rattle.world_model.specs.Logs.{Played}
-use Rattle.world_model.specs.Story.{empty_story}
+use Rattle.world_model.specs.GhostState.{empty_ghost_state}
 use Rattle.world_model.specs.World.{empty_world}
 use Rattle.world_laws.specs.FullRuns.{Clashes, LackedMemory}
 use Rattle.world_laws.specs.Laws.{HadMemory}
 use Rattle.stage_laws.specs.Stage.{KeepsAll, StageStep}
 
--- a run in which memory was always there, and names tell apart what was met
+-- a run in which memory was always there, and no names of what was met collide
 abbrev pub HasMemoryAlong : Played → ℕ → List (List ℕ) → Ran → Type 0
 HasMemoryAlong w number lines ran = Runs (WithLaw StageStep HadMemory) w number lines ran
 
@@ -18,7 +18,7 @@ pub record IsTheFullRun (w : Played) (number : ℕ) (lines : List (List ℕ)) (r
   pub is : HasMemoryAlong w number lines ran
   pub one : (other : Ran) → HasMemoryAlong w number lines other → other ≡ ran
 
--- The first lines go on with memory there, and names tell apart; and the line behind them does this.
+-- The first lines go on with memory there, and no names collide; and the line after them does this.
 pub record ComesTo (Law : Played → List ℕ → Outcome Played → Type 0) (w : Played) (lines : List (List ℕ)) : Type 0 where
   pub front : List (List ℕ)
   pub line : List ℕ
@@ -38,14 +38,14 @@ pub record RunComesTo (Law : Played → List ℕ → Outcome Played → Type 0) 
   pub place : ℕ
   pub place_is : place ≡ number + length comes.front
   pub later : Ran
-  pub follows : Follows (λ next. Runs StageStep next (place + 1) comes.rest) place comes.outcome later
+  pub follows : RunFollows (λ next. Runs StageStep next (place + 1) comes.rest) place comes.outcome later
   pub ran_is : ran ≡ behind comes.text later
 
 -- names clash among what was met
 abbrev pub MeetsClash : Played → List ℕ → Outcome Played → Type 0
 MeetsClash w line outcome = Clashes outcome
 
--- memory was wanting for a call, or names clash
+-- memory ran out for a call, or names clash
 abbrev pub LacksOrClashes : Played → List ℕ → Outcome Played → Type 0
 LacksOrClashes w line outcome = LackedMemory w line outcome ⊎ Clashes outcome
 
@@ -55,9 +55,9 @@ HasOneFullRun w number lines = ((ran : Ran) × IsTheFullRun w number lines ran) 
 
 -- So it is of each script from its beginning.
 abbrev pub StageRunsFully : Type 0
-StageRunsFully = (number : ℕ) (lines : List (List ℕ)) → HasOneFullRun (empty_world, empty_story) number lines
+StageRunsFully = (number : ℕ) (lines : List (List ℕ)) → HasOneFullRun (empty_world, empty_ghost_state) number lines
 
--- Each run from such a world is that one, or comes to where memory was wanting for a call, or to where names clash.
+-- Each run from such a world is that one, or comes to where memory ran out for a call, or to where names clash.
 abbrev pub StageRunsTell : Type 0
 StageRunsTell = (w : Played) (number : ℕ) (lines : List (List ℕ)) (ran : Ran) → KeepsAll w → Runs StageStep w number lines ran
     → HasMemoryAlong w number lines ran ⊎ RunComesTo LacksOrClashes w number lines ran

@@ -3,7 +3,7 @@ use Rattle.std.specs.Prelude.{◌≡◌, ◌⊎◌, ℕ, false, List, [], ◌++�
 use Rattle.std.specs.List.{AllByRecursion}
 use Rattle.ivy_base.specs.declared.key.Key.{Key}
 use Rattle.ivy_base.specs.declared.key.PubKey.{PubKey}
-use Rattle.ivy_base.specs.Naming.{NamesTellApart, head_key_of, name}
+use Rattle.ivy_base.specs.Naming.{IsCollisionFree, head_key_of, name}
 use Rattle.dht_ids.specs.declared.ask.Answer.TheVariants as answer
 use Rattle.dht_ids.specs.declared.ask.AskKind.TheVariants as kind
 use Rattle.dht_ids.specs.declared.ask.Heard.{Heard}
@@ -23,8 +23,8 @@ use Rattle.script_driver.specs.Run.{Goes, Outcome}
 use Rattle.script_model.specs.Lines.{command_of}
 use Rattle.script_model.specs.declared.command.Command.{Command}
 use Rattle.world_model.specs.Logs.{Played}
-use Rattle.world_model.specs.Steps.{Scene}
-use Rattle.world_model.specs.Story.{HadTurn}
+use Rattle.world_model.specs.Steps.{Configuration}
+use Rattle.world_model.specs.GhostState.{HadTurn}
 use Rattle.world_laws.specs.Causes.{IsOf}
 use Rattle.world_laws.specs.Headline.{IsCaused, IsOnReplay, TurnHolds}
 use Rattle.stage_laws.specs.Outputs.{RefusesItself, ShowsStatus}
@@ -36,7 +36,7 @@ use Rattle.stage_laws.specs.Statuses.{is_of_tree}
 abbrev pub WasGiven : List Heard → List ℕ → Type 0
 WasGiven asks bytes = (h : Heard) × Contains asks h × (h.kind ≡ kind.Get) × (h.got ≡ answer.Found bytes)
 
--- A block is given right if its name is the key. Nobody is asked for one that is at hand, in the cache or the pending posts.
+-- A block is given right if its name is the key. Nobody is asked for one that is available, in the cache or the pending posts.
 -- A head is given right if its log's judge takes it: its signature is accepted.
 abbrev pub IsGivenRight : Brought → List Heard → Type 0
 IsGivenRight (HeadsOf owner came) asks =
@@ -60,7 +60,7 @@ IsGivenAll s = (needed : List Part) → HasAskedFor s needed → AllByRecursion 
 -- What the session says is the reply of a turn of its own. If no two different blocks that were met before the turn have one name, it is
 -- on the replay: the file system's reply, or ROFS or SERVERFAULT for a cause of the turn's own. Then the line shows neither JUKEBOX nor
 -- IO.
-pub record EndsInTurn (next : Played) (end : Scene) (said : Said) (output : List ℕ) : Type 0 where
+pub record EndsInTurn (next : Played) (end : Configuration) (said : Said) (output : List ℕ) : Type 0 where
   pub turn : HadTurn
   pub had : Contains next.1.turns turn
   pub its : IsOf turn end.began.number end.session
@@ -69,14 +69,14 @@ pub record EndsInTurn (next : Played) (end : Scene) (said : Said) (output : List
   pub holds : TurnHolds turn
   pub itself : (on : IsOnReplay turn) (s : NfsStatus) (t : Tail) → is_of_tree s ≡ false → turn.turned.reply ≡ reply.Refused s t
       → RefusesItself turn on s
-  pub shows : NamesTellApart turn.met → (ShowsStatus output status.Jukebox → ⊥) × (ShowsStatus output status.Io → ⊥)
+  pub shows : IsCollisionFree turn.met → (ShowsStatus output status.Jukebox → ⊥) × (ShowsStatus output status.Io → ⊥)
 
--- The session says SYSTEM_ERR: memory was wanting.
+-- The session says SYSTEM_ERR: memory ran out.
 abbrev pub SaysNoMemory : Said → Type 0
 SaysNoMemory said = (xid : ℕ) × (said ≡ said_no_memory xid)
 
--- Say that a line shows the reply to a call that wants a turn, and that each head and record that its refresh needed was given right.
--- Then the refresh ended in the call's turn, unless memory was wanting.
+-- Say that a line shows the reply to a call that wants a turn, and that each head and record that its refresh needed was given right. Then
+-- the refresh ended in the call's turn, unless memory ran out.
 abbrev pub RefreshesAreComplete : Played → List ℕ → Outcome Played → Type 0
 RefreshesAreComplete w line outcome = (c : Command) (next : Played) (output : List ℕ) → command_of line ≡ Some c
     → outcome ≡ Goes next output → (caused : IsCaused w c next output) (xid : ℕ) (asked : Asked)

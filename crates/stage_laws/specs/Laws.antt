@@ -4,7 +4,7 @@ use Rattle.std.specs.List.{AllByRecursion}
 use Rattle.script_driver.specs.Run.{Outcome, Goes, Ran, Runs, WithLaw, line_limit, shown}
 use Rattle.world_model.specs.Logs.{Played}
 use Rattle.world_model.specs.Step.{IvyStep}
-use Rattle.world_model.specs.Story.{empty_story}
+use Rattle.world_model.specs.GhostState.{empty_ghost_state}
 use Rattle.world_model.specs.World.{empty_world}
 use Rattle.world_laws.specs.Headline.{Headline}
 use Rattle.stage_laws.specs.Stage.{IsOfStage, KeepsAll, StageStep}
@@ -13,14 +13,14 @@ use Rattle.stage_laws.specs.Stage.{IsOfStage, KeepsAll, StageStep}
 
 -- a script begins in such a world, and each line leaves one
 abbrev pub StageBegins : Type 0
-StageBegins = KeepsAll (empty_world, empty_story)
+StageBegins = KeepsAll (empty_world, empty_ghost_state)
 
 abbrev pub StageKeeps : Type 0
 StageKeeps = (w next : Played) (line output : List ℕ) → KeepsAll w → StageStep w line (Goes next output) → KeepsAll next
 
 -- each line has an outcome
-abbrev pub StageDoesSomething : Type 0
-StageDoesSomething = (w : Played) (line : List ℕ) → KeepsAll w → (outcome : Outcome Played) × StageStep w line outcome
+abbrev pub StageIsTotal : Type 0
+StageIsTotal = (w : Played) (line : List ℕ) → KeepsAll w → (outcome : Outcome Played) × StageStep w line outcome
 
 -- a line that is too long doesn't go on
 abbrev pub LongLinesStop : Type 0

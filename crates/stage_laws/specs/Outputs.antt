@@ -16,12 +16,12 @@ use Rattle.script_model.specs.Lines.{command_of}
 use Rattle.script_model.specs.declared.command.Command.{Command}
 use Rattle.script_model.specs.declared.command.Command.TheVariants as command
 use Rattle.script_model.specs.declared.command.Piece.{Piece}
-use Rattle.world_model.specs.Agents.{inputs}
+use Rattle.world_model.specs.Agents.{hss_inputs}
 use Rattle.world_model.specs.Calls.{reply_line}
 use Rattle.world_model.specs.Keepers.{fails_next}
 use Rattle.world_model.specs.Logs.{Played}
-use Rattle.world_model.specs.Steps.{Scene}
-use Rattle.world_model.specs.Story.{HadTurn}
+use Rattle.world_model.specs.Steps.{Configuration}
+use Rattle.world_model.specs.GhostState.{HadTurn}
 use Rattle.calm_laws.specs.Calm.{IsCalmAt, Stopped}
 use Rattle.world_laws.specs.Causes.{IsOf}
 use Rattle.world_laws.specs.Headline.{IsCaused, IsOnReplay}
@@ -38,13 +38,13 @@ pub record ShowsStatus (output : List ℕ) (s : NfsStatus) : Type 0 where
 -- Why a turn refuses what its tree allows: ROFS because its key has no signature or its log no number left, or SERVERFAULT because a save
 -- failed, now or before.
 pub data RefusesItself (h : HadTurn) (on : IsOnReplay h) : NfsStatus → Type 0 where
-  by_key : (ops : List Op) → plan_of_turn (inputs h.by.agent h.view (fails_next h.by.keeper)) on.taken on.asked h.now ≡ Operations ops
-      → IsSpent (inputs h.by.agent h.view (fails_next h.by.keeper)) on.taken ops → RefusesItself h on status.RoFs
-  by_keeper : (inputs h.by.agent h.view (fails_next h.by.keeper)).has_failed ≡ true → RefusesItself h on status.ServerFault
+  by_key : (ops : List Op) → plan_of_turn (hss_inputs h.by.agent h.view (fails_next h.by.keeper)) on.taken on.asked h.now ≡ Operations ops
+      → IsSpent (hss_inputs h.by.agent h.view (fails_next h.by.keeper)) on.taken ops → RefusesItself h on status.RoFs
+  by_keeper : (hss_inputs h.by.agent h.view (fails_next h.by.keeper)).has_failed ≡ true → RefusesItself h on status.ServerFault
 
 -- Why a session's reply has JUKEBOX, IO, ROFS or SERVERFAULT. Its refresh needed a thing that couldn't be had: JUKEBOX where no owner gave
 -- it, IO where one gave wrong bytes and none right ones. Or its turn refused, and where that is on the replay, it did so itself.
-pub data StatusHasCause (next : Played) (end : Scene) (s : NfsStatus) : Type 0 where
+pub data StatusHasCause (next : Played) (end : Configuration) (s : NfsStatus) : Type 0 where
   missed : (miss : Miss) → end.session.missed ≡ Some miss → s ≡ missed_status miss → StatusHasCause next end s
   refused : (h : HadTurn) (tail : Tail) → Contains next.1.turns h → IsOf h end.began.number end.session
       → h.turned.reply ≡ answer.Refused s tail

@@ -38,8 +38,8 @@ abbrev pub PromisedKeeps : Type 0
 PromisedKeeps = (w next : Played) (line output : List ℕ) → KeepsAll w → PromisedStep w line (Goes next output) → KeepsAll next
 
 -- it is total (each line has an outcome),
-abbrev pub PromisedDoesSomething : Type 0
-PromisedDoesSomething = (w : Played) (line : List ℕ) → KeepsAll w → (outcome : Outcome Played) × PromisedStep w line outcome
+abbrev pub PromisedIsTotal : Type 0
+PromisedIsTotal = (w : Played) (line : List ℕ) → KeepsAll w → (outcome : Outcome Played) × PromisedStep w line outcome
 
 -- and a line that is too long doesn't go on.
 abbrev pub PromisedLongLinesStop : Type 0

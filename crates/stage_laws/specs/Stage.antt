@@ -6,7 +6,7 @@ use Rattle.script_model.specs.declared.command.Command.TheVariants as command
 use Rattle.script_model.specs.Lines.{command_of}
 use Rattle.world_model.specs.Logs.{Played}
 use Rattle.world_model.specs.Step.{MayDoFirst}
-use Rattle.world_laws.specs.Keeps.{HasNoSnapshot, Keeps}
+use Rattle.world_laws.specs.Invariant.{HasNoSnapshot, Invariant}
 use Rattle.stage_laws.specs.Told.{IsTold}
 
 -- the command that a line is for now: that one is none
@@ -22,6 +22,6 @@ StageStep w line outcome = MayDoFirst w (stage_command (command_of line)) outcom
 abbrev pub IsOfStage : List ℕ → Type 0
 IsOfStage line = (log : List ℕ) → command_of line ≢ Some (command.Snap log)
 
--- a world that keeps what it should, without a snapshot, and what is told of its sessions and turns
+-- a world in which the invariant holds, without a snapshot, and what is told of its sessions and turns
 abbrev pub KeepsAll : Played → Type 0
-KeepsAll w = Keeps w × HasNoSnapshot w.0 × IsTold w
+KeepsAll w = Invariant w × HasNoSnapshot w.0 × IsTold w

@@ -1,7 +1,7 @@
 -- What stands in each world that a script comes to: the ring of a calm script, the heads that left, and one truth of each log.
 use Rattle.std.specs.Prelude.{◌≡◌, ◌⊎◌, ◌<◌, ℕ, List, [], ◌∷◌, ◌++◌, map, take, Contains, Some}
 use Rattle.std.specs.List.{AllByRecursion}
-use Rattle.ivy_base.specs.Naming.{NamesTellApart, head_key_of}
+use Rattle.ivy_base.specs.Naming.{IsCollisionFree, head_key_of}
 use Rattle.log_model.specs.Chain.{LinkedFrom}
 use Rattle.log_model.specs.Closed.{log_of}
 use Rattle.log_model.specs.Record.{Record}
@@ -14,10 +14,10 @@ use Rattle.hash_signature_model.specs.declared.set.Set.{Set}
 use Rattle.hash_signature_model.specs.declared.keys.PrivateKey.{PrivateKey}
 use Rattle.hash_signature_model.specs.Signer.{Signer, leaf_used, lower_key, tree_public}
 use Rattle.agent_model.specs.Agent.{own_key}
-use Rattle.world_model.specs.Agents.{IsKept, Kept, hss, kept_bytes, own, sealed}
+use Rattle.world_model.specs.Agents.{IsHssKept, HssKept, hss_signing, hss_kept_bytes, own_hss_key, hss_sealed}
 use Rattle.world_model.specs.Logs.{Played}
 use Rattle.world_model.specs.Steps.{heads_by}
-use Rattle.world_model.specs.Story.{known_of}
+use Rattle.world_model.specs.GhostState.{known_of}
 use Rattle.world_model.specs.World.{Participant, World, named_bytes}
 use Rattle.world_laws.specs.Laws.{IsHonest}
 use Rattle.calm_laws.specs.Readable.{KeepsItsRing}
@@ -25,10 +25,10 @@ use Rattle.calm_laws.specs.Readable.{KeepsItsRing}
 -- ---- what is saved
 
 -- The participant's keeper holds the bytes of this, and of nothing else that may be saved.
-pub record IsSavedAs (p : Participant) (k : Kept) : Type 0 where
-  pub whole : IsKept k
-  pub bytes : p.keeper.kept ≡ Some (kept_bytes k)
-  pub one : (other : Kept) → IsKept other → kept_bytes other ≡ kept_bytes k → other ≡ k
+pub record IsSavedAs (p : Participant) (k : HssKept) : Type 0 where
+  pub whole : IsHssKept k
+  pub bytes : p.keeper.kept ≡ Some (hss_kept_bytes k)
+  pub one : (other : HssKept) → IsHssKept other → hss_kept_bytes other ≡ hss_kept_bytes k → other ≡ k
 
 -- ---- heads
 
@@ -38,7 +38,7 @@ Sealing = ℕ × Stamp
 
 -- Its block.
 abbrev pub head_of : Signer → Sealing → List ℕ
-head_of signer h = sealed (record signer { made = h.0 }) h.1
+head_of signer h = hss_sealed (record signer { made = h.0 }) h.1
 
 -- What the leaves of signature n of a message sign, from the top level down, each leaf by its number in its tree.
 -- A leaf signs the public key of the tree below it, and at the lowest level the message (RFC 8554, section 6.2).
@@ -54,7 +54,7 @@ signed_by_leaves id seed (set ∷ lower) n message = leaves_sign (record { set =
 
 -- So of a head.
 abbrev pub signed_in : Signer → Sealing → List (ℕ × List ℕ)
-signed_in signer h = signed_by_leaves signer.id signer.seed signer.sets h.0 (head_message (own_key hss signer) h.1)
+signed_in signer h = signed_by_leaves signer.id signer.seed signer.sets h.0 (head_message (own_key hss_signing signer) h.1)
 
 -- No leaf of any level signs two things: two heads with the same leaves down to a level have the same signed by them.
 abbrev pub NoLeafSignsTwo : Signer → List Sealing → Type 0
@@ -63,7 +63,7 @@ NoLeafSignsTwo signer heads = (g h : Sealing) (level : ℕ) → Contains heads g
     → take level (signed_in signer g) ≡ take level (signed_in signer h)
 
 -- The heads that left an agent, by what its keeper has saved.
-pub record HeadsAreSafe (p : Participant) (k : Kept) : Type 0 where
+pub record HeadsAreSafe (p : Participant) (k : HssKept) : Type 0 where
   pub heads : List Sealing
   pub left : p.left ≡ map (head_of k.signer) heads
   -- Those that it has still to publish count with them.
@@ -78,27 +78,27 @@ pub record HeadsAreSafe (p : Participant) (k : Kept) : Type 0 where
 
 -- The chain of the participant's log that the saved bytes name: it ends at the record of their floor.
 -- Its records stand among the blocks that were met and those that are saved.
-pub record IsNamedChain (w : World) (q : Participant) (k : Kept) (chain : List Record) : Type 0 where
-  pub linked : LinkedFrom (own q.agent) 1 no_name chain
-  pub ends : EndsAt (stamp_at k.floor (head_key_of (own q.agent))) chain
+pub record IsNamedChain (w : World) (q : Participant) (k : HssKept) (chain : List Record) : Type 0 where
+  pub linked : LinkedFrom (own_hss_key q.agent) 1 no_name chain
+  pub ends : EndsAt (stamp_at k.floor (head_key_of (own_hss_key q.agent))) chain
   pub stand : Stand (w.met ++ map (λ post. post.bytes) k.pending) chain
 
 -- There is one such chain, and what an agent knows of the log is a beginning of it.
-pub record HasOneTruth (w : Played) (q : Participant) (k : Kept) : Type 0 where
+pub record HasOneTruth (w : Played) (q : Participant) (k : HssKept) : Type 0 where
   pub chain : List Record
   pub named : IsNamedChain w.0 q k chain
   pub one : (other : List Record) → IsNamedChain w.0 q k other → other ≡ chain
-  pub beginnings : (p : Participant) → Contains w.0.participants p → IsPrefixOf (log_of (own q.agent) (known_of w.1 p.name)) chain
+  pub beginnings : (p : Participant) → Contains w.0.participants p → IsPrefixOf (log_of (own_hss_key q.agent) (known_of w.1 p.name)) chain
 
 -- ---- the whole
 
 -- Of a participant. Its log has one truth where each log has a key of its own, each judged head that was met was made by its log's
 -- agent, and no two different blocks, of those that were met and those that are saved, have one name.
 pub record ParticipantStands (w : Played) (p : Participant) : Type 0 where
-  pub kept : Kept
+  pub kept : HssKept
   pub saved : IsSavedAs p kept
   pub heads : HeadsAreSafe p kept
-  pub truth : IsHonest w.0 → NamesTellApart (named_bytes w.0 ++ map (λ post. post.bytes) kept.pending) → HasOneTruth w p kept
+  pub truth : IsHonest w.0 → IsCollisionFree (named_bytes w.0 ++ map (λ post. post.bytes) kept.pending) → HasOneTruth w p kept
 
 pub record Stands (w : Played) : Type 0 where
   pub ring : KeepsItsRing w

@@ -5,17 +5,17 @@ use Rattle.ivy_base.specs.declared.key.Key.{Key}
 use Rattle.dht_ids.specs.declared.ask.Heard.{Heard}
 use Rattle.dht_ids.specs.declared.peer.Peer.{Peer}
 use Rattle.dhash_model.specs.Signed.{hss_judged}
-use Rattle.session_model.specs.Brought.{Brought, BlockOf, Part, Want}
+use Rattle.session_model.specs.Brought.{Brought, BlockOf, Part, WantedOfRing}
 use Rattle.session_model.specs.Sessions.{Gets}
 use Rattle.world_model.specs.Logs.{Played}
-use Rattle.world_model.specs.Story.{HadTurn}
+use Rattle.world_model.specs.GhostState.{HadTurn}
 use Rattle.world_model.specs.World.{NamedSession}
 use Rattle.world_laws.specs.Headline.{TurnHolds}
 
--- What came in is a block that was at hand, or what a whole get brought.
+-- What came in is a block that was available, or what a whole get brought.
 pub data CameIn (r : ℕ) (entries : List Peer) : Part → Type 0 where
-  at_hand : (key : Key) (bytes : List ℕ) → CameIn r entries (record { brought = BlockOf key (Ok bytes); asks = [] })
-  by_get : (want : Want) (brought : Brought) (asks : List Heard) → asks ≢ [] → Gets hss_judged r entries want asks brought
+  available : (key : Key) (bytes : List ℕ) → CameIn r entries (record { brought = BlockOf key (Ok bytes); asks = [] })
+  by_get : (want : WantedOfRing) (brought : Brought) (asks : List Heard) → asks ≢ [] → Gets hss_judged r entries want asks brought
       → CameIn r entries (record { brought = brought; asks = asks })
 
 -- So it is of all that an open session was brought.

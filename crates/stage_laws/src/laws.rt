@@ -1,13 +1,13 @@
 //! What holds of the step of this stage.
 
 ghost use Rattle.stage_laws.specs.FullRuns.{StageRunsFully, StageRunsTell};
-ghost use Rattle.stage_laws.specs.Promise.{PromisedDoesSomething, PromisedKeeps, PromisedLongLinesStop, StagePromises};
+ghost use Rattle.stage_laws.specs.Promise.{PromisedIsTotal, PromisedKeeps, PromisedLongLinesStop, StagePromises};
 ghost use Rattle.stage_laws.specs.Laws.{
   LongLinesStop,
   OthersAreSteps,
   RunsAreRuns,
   StageBegins,
-  StageDoesSomething,
+  StageIsTotal,
   StageHasHeadline,
   StageKeeps,
   StageRepliesAreOnReplay,
@@ -15,12 +15,12 @@ ghost use Rattle.stage_laws.specs.Laws.{
 };
 ghost use Rattle.stage_laws.specs.Statuses.{AnswersAreByTree, FinishesAreByTree, PlansAreByTree, TurnsRefuseSo};
 
-/// Laws and no code: a script begins in a world that keeps what it should, without a snapshot; each line of this stage that goes
-/// on leaves such a world, each has an outcome in such a world, and one that is too long doesn't go on.
+/// Laws and no code: a script begins in a world in which the invariant holds, without a snapshot; each line of this stage that
+/// goes on leaves such a world, each has an outcome in such a world, and one that is too long doesn't go on.
 pub fn stage_lines_keep()
     ensures begins { StageBegins }
     ensures keeps { StageKeeps }
-    ensures does { StageDoesSomething }
+    ensures does { StageIsTotal }
     ensures stops { LongLinesStop }
 {}
 
@@ -38,8 +38,8 @@ pub fn stage_has_headline()
     ensures runs { StageRepliesAreOnReplay }
 {}
 
-/// Laws and no code: each script has exactly one run by this step in which memory is always there and names tell apart what was met,
-/// or names clash on the way; and any other run comes to a line where memory was wanting for a call, or names clash.
+/// Laws and no code: each script has exactly one run by this step in which memory is always there and no names of what was met
+/// collide, or names clash on the way; and any other run comes to a line where memory ran out for a call, or names clash.
 pub fn stage_runs_fully()
     ensures fully { StageRunsFully }
     ensures tell { StageRunsTell }
@@ -52,7 +52,7 @@ pub fn stage_runs_fully()
 pub fn stage_lines_are_promised()
     ensures promises { StagePromises }
     ensures keeps { PromisedKeeps }
-    ensures does { PromisedDoesSomething }
+    ensures does { PromisedIsTotal }
     ensures stops { PromisedLongLinesStop }
 {}
 

@@ -97,7 +97,7 @@ not_below p (e ∷ es) x h g = by (not_below p es x) (both_true (is_lt (place_cm
     by again h true e g = let n = less_is_not_equal _ h.0 in cc
     by again h false e g = again h.1 g
 
--- what is found behind the first entry is found in the whole
+-- what is found after the first entry is found in the whole
 pub found_behind : (e : Place × Key) (es : List (Place × Key)) (p : Place) (x : Key) → below_all place_cmp e.0 es ≡ true → value_at place_cmp p es ≡ Some x → (b : Bool) → eq_by_cmp place_cmp p e.0 ≡ b → cond b (Some e.1) (value_at place_cmp p es) ≡ Some x
 found_behind e es p x below found true tied = absurd (not_below e.0 es x below (subst (λ (q : Place). value_at place_cmp q es ≡ Some x) (same_place_is p e.0 tied) found))
 found_behind e es p x below found false tied = found

@@ -38,7 +38,7 @@ impl Drop for Trials {
 }
 
 impl Trials {
-    /// Each at its beginning, and lines are of trees. The error is want of memory.
+    /// Each at its beginning, and lines are of trees. The error is: out of memory.
     pub fn new(alloc: Global) -> Result<Trials, Memory> {
         Ok(Trials {
             family: Family::Trees,

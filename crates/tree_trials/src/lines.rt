@@ -58,7 +58,7 @@ impl<'a> Line<'a> {
         }
     }
 
-    /// Notes that there is no answer, be it for want of memory.
+    /// Notes that there is no answer, be it that memory ran out.
     pub fn fail(&mut self) {
         self.answer.fail();
     }
@@ -93,7 +93,7 @@ impl<'a> Line<'a> {
         is_comment
     }
 
-    /// Lets the line be read anew.
+    /// Lets the line be read again.
     pub fn begin(&mut self) {
         self.rest = self.line;
     }

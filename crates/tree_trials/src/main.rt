@@ -1,6 +1,6 @@
 //! Runs operations of records on trees, and what stands on trees, a step for each line of the standard input. A line `== FAMILY`
-//! says of which family the lines behind it are; at first it is `trees`. `no answer` stands for a line that is none of its
-//! family's, and for want of memory.
+//! says of which family the lines after it are; at first it is `trees`. `no answer` stands for a line that is none of its
+//! family's, and when out of memory.
 //!
 //! Of `== trees`: an inode has a number up to 11, the root 0, and a moment is `SECONDS:NANOSECONDS`.
 //!
@@ -39,8 +39,8 @@
 //! nothing.
 //!
 //! - `start`: a new engine
-//! - `append N`: so many records, each behind all others, by a call each
-//! - `row N`: so many records behind all others, by one call; 0 is an empty one
+//! - `append N`: so many records, each after all others, by a call each
+//! - `row N`: so many records after all others, by one call; 0 is an empty one
 //! - `read N`: so many empty calls
 //! - `absorb P ..`: by one call, a record for each of these places among those that are held, which ascend; none is an
 //!   empty call
@@ -61,7 +61,7 @@
 //! - `many DIR FIRST COUNT`: makes so many files, and names each by its number
 //! - `cover BLOCK`: from now on snapshots cover what that root block says, which is given by hexadecimal digits
 //! - `snapshot`: makes a snapshot, and tells how many blocks it has and its root's name
-//! - `load`: loads it block by block, and tells what that came to; of a basis the name of the root of a snapshot made anew
+//! - `load`: loads it block by block, and tells what that came to; of a basis the name of the root of a snapshot made again
 //! - `lack`: loads it without each block in turn, and tells how often that came to what; of bases how many gave the same root
 //! - `spoil`: the same with the first, the middle and the last byte of each block changed in turn
 //! - `forge`: the same, and each such block has its new name, by which those name it that named it before

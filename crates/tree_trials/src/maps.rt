@@ -30,7 +30,7 @@ fn number_of(key: &Key) -> u32 {
 }
 
 impl Trial {
-    /// One empty map. The error is want of memory.
+    /// One empty map. The error is: out of memory.
     pub fn new(alloc: Global) -> Result<Trial, Memory> {
         Ok(Trial {
             maps: vec![in alloc; SharedMap::new()]?,

@@ -87,7 +87,7 @@ fn set_attributes(line: &mut Line<'_>) -> Op
     Op::SetAttrs { ino, change }
 }
 
-/// The operation that the word and those behind it ask for; where they ask for none, that is noted.
+/// The operation that the word and those after it ask for; where they ask for none, that is noted.
 pub fn operation(line: &mut Line<'_>, word: &str) -> Op
     ensures { IsApplicable result }
 {

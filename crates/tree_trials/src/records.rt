@@ -26,8 +26,8 @@ fn block(alloc: Global, seq: u32, moment: Moment, op: Op) -> Result<Bytes, Memor
     block
 }
 
-/// The owner's record of that number, which does the operation at that moment. It is read from its block, so it has one; the error
-/// comes where it has none, and for want of memory.
+/// The owner's record of that number, which does the operation at that moment. It is read from its block, so it has one; the
+/// error comes where it has none, and when out of memory.
 pub fn record(alloc: Global, seq: u32, moment: Moment, op: Op) -> Result<Record, Memory>
     ensures { IfOk result (λ r. HasSpelling (record_of r)) }
 {

@@ -5,8 +5,8 @@ use ivy_base::{Bytes, Key, Moment};
 use std::alloc::Global;
 use std::fmt::Write;
 
-/// A text that is put together piece by piece. Want of memory, and that there is nothing to tell, are noted in it and asked for
-/// where the text is read, so that no piece has an error of its own.
+/// A text that is put together piece by piece. Running out of memory, and that there is nothing to tell, are noted in it and
+/// asked for where the text is read, so that no piece has an error of its own.
 #[derive(Drop)]
 pub struct Text {
     /// What memory is taken from.

@@ -78,7 +78,7 @@ impl Trees {
         self.names.apply_names(alloc, op)
     }
 
-    /// Does the operation, and says what that did. The error is want of memory.
+    /// Does the operation, and says what that did. The error is: out of memory.
     fn perform(&mut self, line: &mut Line<'_>, moment: Moment, op: &Op) -> Result<Effect, Memory>
         requires { IsApplicable op.now }
     {

@@ -23,7 +23,7 @@ impl Drop for Trial {
 }
 
 impl Trial {
-    /// The root alone, twice. The error is want of memory.
+    /// The root alone, twice. The error is: out of memory.
     pub fn new(alloc: Global) -> Result<Trial, Memory> {
         Ok(Trial {
             trees: Trees::empty(alloc)?,

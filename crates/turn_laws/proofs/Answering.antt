@@ -9,7 +9,7 @@ use Rattle.ivy_base.specs.declared.key.Key.{Key}
 use Rattle.ivy_base.specs.declared.key.PubKey.{PubKey}
 use Rattle.ivy_base.specs.declared.operation.Moment.{Moment}
 use Rattle.ivy_base.specs.declared.operation.Op.{Op}
-use Rattle.ivy_base.specs.Naming.{NamesTellApart, head_key_of}
+use Rattle.ivy_base.specs.Naming.{IsCollisionFree, head_key_of}
 use Rattle.tree_model.specs.Apply.{apply_all}
 use Rattle.tree_model.specs.Tree.{Tree}
 use Rattle.wire_model.specs.Rpc.{IsIdentity}
@@ -128,7 +128,7 @@ module _ {S : Type 0} (signs : Signing S) (a : Agent S) (view : View) (brought :
 
   -- ---- whatever the agent may know
 
-  module _ (grounds : Grounds) (known : List Record) (apart : NamesTellApart grounds.met) (knows : Knows view a.floor a.holding known) (may : MayTurn grounds view mine known brought) where
+  module _ (grounds : Grounds) (known : List Record) (apart : IsCollisionFree grounds.met) (knows : Knows view a.floor a.holding known) (may : MayTurn grounds view mine known brought) where
     pub its : (taken : List Record) × IsTakenBy (record { grounds = grounds; started = brought.started }) view known held taken
     its = (_, is_taken grounds view mine a.floor a.holding (going_on a brought.basis) known brought apart well knows (going_is_gone_on a brought.basis) may takes.caught_up takes.above new takes.part)
 

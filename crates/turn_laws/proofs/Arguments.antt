@@ -12,8 +12,8 @@ use Rattle.nfs_model.specs.declared.arguments.SetTime.TheVariants.{Keep, Server,
 use Rattle.nfs_model.specs.declared.arguments.SetWhat.{SetWhat}
 use Rattle.nfs_model.specs.declared.arguments.How.{How}
 use Rattle.nfs_model.specs.declared.arguments.How.TheVariants.{Unchecked, Guarded, Exclusive}
-use Rattle.nfs_model.specs.declared.arguments.Node.{Node}
-use Rattle.nfs_model.specs.declared.arguments.Node.TheVariants.{Plain, Device, Other}
+use Rattle.nfs_model.specs.declared.arguments.SpecialNode.{SpecialNode}
+use Rattle.nfs_model.specs.declared.arguments.SpecialNode.TheVariants.{Plain, Device, Other}
 use Rattle.nfs_model.specs.Arguments.{nfs_program, program_of, procedure_of, arguments, set_time, set_what, create_how, special_node, IsHandle, IsShortText, IsTime, IsSetWhat, IsVerifier, IsHow, IsPlainKind, IsDeviceKind, IsOtherKind, IsNode, ArgumentsFit, AreArguments}
 use Rattle.nfs_model.proofs.OneArguments.{one_set_time, one_set_what, one_how, one_node}
 use Rattle.turn_laws.proofs.Deciding.{Reads, IsReadable, ◌then◌, HasParts, a_word, a_double_word, a_moment, a_front, a_data, a_raw, an_optional, reads_then, reads_fewer, reads_parts, reads_either, fronts, whole_or_not}
@@ -161,23 +161,23 @@ other_fits n (inr e) = omega (arith, e)
 abbrev Device4 : Type 0
 Device4 = ((ℕ × SetWhat) × ℕ) × ℕ
 
-abbrev IsSpecial : Node → Type 0
+abbrev IsSpecial : SpecialNode → Type 0
 IsSpecial (Plain kind) = ⊥
 IsSpecial (Device kind what major minor) = IsDeviceKind kind × IsSetWhat what × (major < 2 ^ 32) × (minor < 2 ^ 32)
 IsSpecial (Other kind what) = IsOtherKind kind × IsSetWhat what
 
-plain_parts : (n : Node) → IsNode n → HasParts IsPlainKind word (special_node n) ⊎ HasParts IsSpecial special_node (special_node n)
+plain_parts : (n : SpecialNode) → IsNode n → HasParts IsPlainKind word (special_node n) ⊎ HasParts IsSpecial special_node (special_node n)
 plain_parts (Plain kind) f = inl (record { part = kind; fits = f; spelled = refl })
 plain_parts (Device kind what major minor) f = inr (record { part = Device kind what major minor; fits = f; spelled = refl })
 plain_parts (Other kind what) f = inr (record { part = Other kind what; fits = f; spelled = refl })
 
-special_parts : (n : Node) → IsSpecial n → HasParts {A = Device4} (λ p. ((IsDeviceKind p.0.0.0 × IsSetWhat p.0.0.1) × (p.0.1 < 2 ^ 32)) × (p.1 < 2 ^ 32)) (λ p. word p.0.0.0 ++ set_what p.0.0.1 ++ word p.0.1 ++ word p.1) (special_node n)
+special_parts : (n : SpecialNode) → IsSpecial n → HasParts {A = Device4} (λ p. ((IsDeviceKind p.0.0.0 × IsSetWhat p.0.0.1) × (p.0.1 < 2 ^ 32)) × (p.1 < 2 ^ 32)) (λ p. word p.0.0.0 ++ set_what p.0.0.1 ++ word p.0.1 ++ word p.1) (special_node n)
     ⊎ HasParts {A = ℕ × SetWhat} (λ p. IsOtherKind p.0 × IsSetWhat p.1) (λ p. word p.0 ++ set_what p.1) (special_node n)
 special_parts (Plain kind) f = absurd f
 special_parts (Device kind what major minor) f = inl (record { part = (((kind, what), major), minor); fits = (((f.0, f.1), f.2), f.3); spelled = refl })
 special_parts (Other kind what) f = inr (record { part = (kind, what); fits = f; spelled = refl })
 
-any_node : (n : Node) → IsSpecial n → IsNode n
+any_node : (n : SpecialNode) → IsSpecial n → IsNode n
 any_node (Plain kind) f = absurd f
 any_node (Device kind what major minor) f = f
 any_node (Other kind what) f = f
@@ -187,7 +187,7 @@ specials = reads_either {written = special_node} (λ (p : Device4). Device p.0.0
     (fewer_words IsDeviceKind device_fits (λ n. one_of_two n 3 4) then a_set_what then a_word then a_word).1 (fewer_words IsOtherKind other_fits (λ n. one_of_two n 6 7) then a_set_what).1
 
 a_node : IsReadable IsNode special_node
-a_node = (one_node, reads_either {written = special_node} (λ (kind : ℕ). Plain kind) (λ (n : Node). n) (λ kind f. (f, refl)) (λ n f. (any_node n f, refl)) plain_parts (fewer_words IsPlainKind plain_fits plain_or_not).1 specials)
+a_node = (one_node, reads_either {written = special_node} (λ (kind : ℕ). Plain kind) (λ (n : SpecialNode). n) (λ kind f. (f, refl)) (λ n f. (any_node n f, refl)) plain_parts (fewer_words IsPlainKind plain_fits plain_or_not).1 specials)
 
 -- ---- the arguments of each procedure
 
@@ -281,12 +281,12 @@ symlink_parts args p q f = absurd (omega (arith, p, q))
 symlink_known : (bytes : List ℕ) → Known 10 bytes
 symlink_known = known 10 (a_handle then a_text then a_set_what then a_text) (λ (p : ((List ℕ × List ℕ) × SetWhat) × List ℕ). call.SymLink p.0.0.0 p.0.0.1 p.0.1 p.1) (λ p f. (refl, refl, (f.0.0.0, f.0.0.1, f.0.1, f.1), refl)) symlink_parts
 
-mknod_parts : (args : Args) → program_of args ≡ nfs_program → procedure_of args ≡ 11 → ArgumentsFit args → HasParts {A = (List ℕ × List ℕ) × Node} (λ p. (((IsHandle p.0.0) × (IsShortText p.0.1)) × (IsNode p.1))) (λ p. opaque p.0.0 ++ opaque p.0.1 ++ special_node p.1) (arguments args)
+mknod_parts : (args : Args) → program_of args ≡ nfs_program → procedure_of args ≡ 11 → ArgumentsFit args → HasParts {A = (List ℕ × List ℕ) × SpecialNode} (λ p. (((IsHandle p.0.0) × (IsShortText p.0.1)) × (IsNode p.1))) (λ p. opaque p.0.0 ++ opaque p.0.1 ++ special_node p.1) (arguments args)
 mknod_parts (call.MkNod dir name node) p q f = record { part = ((dir, name), node); fits = ((f.0, f.1), f.2); spelled = refl }
 mknod_parts args p q f = absurd (omega (arith, p, q))
 
 mknod_known : (bytes : List ℕ) → Known 11 bytes
-mknod_known = known 11 (a_handle then a_text then a_node) (λ (p : (List ℕ × List ℕ) × Node). call.MkNod p.0.0 p.0.1 p.1) (λ p f. (refl, refl, (f.0.0, f.0.1, f.1), refl)) mknod_parts
+mknod_known = known 11 (a_handle then a_text then a_node) (λ (p : (List ℕ × List ℕ) × SpecialNode). call.MkNod p.0.0 p.0.1 p.1) (λ p f. (refl, refl, (f.0.0, f.0.1, f.1), refl)) mknod_parts
 
 remove_parts : (args : Args) → program_of args ≡ nfs_program → procedure_of args ≡ 12 → ArgumentsFit args → HasParts {A = List ℕ × List ℕ} (λ p. ((IsHandle p.0) × (IsShortText p.1))) (λ p. opaque p.0 ++ opaque p.1) (arguments args)
 remove_parts (call.Remove dir name) p q f = record { part = (dir, name); fits = (f.0, f.1); spelled = refl }

@@ -1,4 +1,4 @@
--- Of records it is known whether they keep the rules of a log, one by one and one behind another.
+-- Of records it is known whether they keep the rules of a log, one by one and one after another.
 use Rattle.std.proofs.Common.{◌≡◌, inl, inr, ℕ, ◌+◌, [], ◌∷◌, refl, ap}
 use Rattle.std.specs.Prelude.{IsTrue}
 use Rattle.std.specs.List.{AllByRecursion}

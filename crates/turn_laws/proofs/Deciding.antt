@@ -123,7 +123,7 @@ module _ (most : ℕ) (small : most < 2 ^ 32) where
   abbrev IsDataRead : List ℕ → Type 0
   IsDataRead = IsRead (λ (b : List ℕ). length b ≤ most) opaque
 
-  -- behind a count
+  -- after a count
   data_behind : (n : ℕ) (rest : List ℕ) → n < 2 ^ 32 → n ≤ most → (length rest < n) ⊎ (n ≤ length rest) → IsDataRead (word n ++ rest) ⊎ (IsDataRead (word n ++ rest) → ⊥)
   data_behind n rest fits few (inl short) = inr (λ z.
       let p = one_word.one n (length z.value) rest ((z.value ++ padding (length z.value)) ++ z.rest) fits (omega (arith, z.fits, small)) (z.spelled ∙ append_assoc (word (length z.value)) (z.value ++ padding (length z.value)) z.rest) in

@@ -5,7 +5,7 @@ use Rattle.std.specs.List.{AllByRecursion}
 use Rattle.std.proofs.lemmas.List.Elements.{Contains-append_right}
 use Rattle.ivy_base.specs.declared.operation.Moment.{Moment}
 use Rattle.ivy_base.specs.declared.operation.Op.{Op}
-use Rattle.ivy_base.specs.Naming.{NamesTellApart, head_key_of}
+use Rattle.ivy_base.specs.Naming.{IsCollisionFree, head_key_of}
 use Rattle.wire_model.specs.Rpc.{IsIdentity}
 use Rattle.log_model.specs.Chain.{IsGood}
 use Rattle.log_model.specs.Rank.{own_entry}
@@ -59,7 +59,7 @@ ends_so (x ∷ xs) = ⊎_elim
     (ends_so xs)
 
 module _ {S : Type 0} (signs : Signing S) (a : Agent S) (view : View) (brought : Refresh) (fails : Bool) (asked : Asked) (now : Moment) (m : MayAnswer signs view a asked now)
-    (grounds : Grounds) (known : List Record) (apart : NamesTellApart grounds.met) (knows : Knows view a.floor a.holding known) (may : MayTurn grounds view (own signs a) known brought) where
+    (grounds : Grounds) (known : List Record) (apart : IsCollisionFree grounds.met) (knows : Knows view a.floor a.holding known) (may : MayTurn grounds view (own signs a) known brought) where
   -- how it ends, the agent then, and what is to be saved
   abbrev pub HasTurn : Type 0
   HasTurn = (end : TurnEnd) × (after : Agent S) × (saving : Option (Kept S)) × Turns signs brought (record { agent = a; view = view; now = now; fails = fails }) asked end after saving

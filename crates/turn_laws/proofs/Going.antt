@@ -5,7 +5,7 @@ use Rattle.std.specs.Option.{option_map_or}
 use Rattle.std.proofs.lemmas.List.Elements.{Contains-append_left, Contains-append_right, Contains-append_cases}
 use Rattle.ivy_base.specs.declared.key.Key.{Key}
 use Rattle.ivy_base.specs.declared.key.PubKey.{PubKey}
-use Rattle.ivy_base.specs.Naming.{NamesTellApart, head_key_of}
+use Rattle.ivy_base.specs.Naming.{IsCollisionFree, head_key_of}
 use Rattle.tree_model.specs.Tree.{same_key}
 use Rattle.tree_model.proofs.Keys.{same_key_is, same_key_itself}
 use Rattle.tree_model.proofs.Sound.{both_true}
@@ -27,7 +27,7 @@ use Rattle.turn_model.specs.Known.{EndsAt, IsKnown}
 use Rattle.turn_model.specs.Turn.{IsPrefixOf}
 use Rattle.turn_laws.proofs.Heads.{one_member}
 use Rattle.turn_laws.proofs.Starts.{front_dominates}
-use Rattle.causal_order.specs.AtHand.{held_to, above, news, Extends}
+use Rattle.causal_order.specs.Available.{held_to, above, news, Extends}
 use Rattle.causal_order.specs.Over.{GoesOnFrom}
 use Rattle.agent_model.specs.Agent.{joined}
 use Rattle.agent_model.specs.Standing.{Chain, Refresh, dominates, go_on_from, beyond, new_in, new_records}
@@ -42,7 +42,7 @@ use Rattle.turn_laws.proofs.Rows.{IsRow, is_above as row_is_above, row_above, ro
 -- brought, a member's, and all of it counts.
 pub record IsGoing (view : View) (met : List (List ℕ)) (own : PubKey) (floor : Vector) (known : List Record) (h : Holding) (brought : Refresh) (part : List Record) : Type 0 where
   pub well : IsView view
-  pub apart : NamesTellApart met
+  pub apart : IsCollisionFree met
   pub closed : IsClosed view known
   pub by_floor : IsKnown view floor known
   pub stand : Stand met known
@@ -197,7 +197,7 @@ module _ {view : View} {met : List (List ℕ)} {own : PubKey} {floor : Vector} {
   -- ---- a chain that was brought
 
   module _ (c : Chain) (stands : Contains brought.chains c) where
-    -- how far its log is held; what it has beyond that; and that behind what is held
+    -- how far its log is held; what it has beyond that; and that after what is held
     abbrev pub to : ℕ
     to = seq_of (joined h) (head_key_of c.owner)
 

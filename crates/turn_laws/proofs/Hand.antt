@@ -1,4 +1,4 @@
--- What is at hand by what is held is what is at hand by what is known and the candidates.
+-- What is available by what is held is what is available by what is known and the candidates.
 use Rattle.std.proofs.Common.{◌≡◌, ◌⊎◌, inl, inr, ⊎_elim, ℕ, ◌≤◌, not, List, [], ◌∷◌, ◌++◌, map, Option, Some, None, refl, sym, ap, ◌∙◌, subst, append_assoc, arith, Contains}
 use Rattle.std.proofs.lemmas.List.Elements.{Contains-append_right, Contains-append_cases}
 use Rattle.ivy_base.specs.declared.key.PubKey.{PubKey}
@@ -15,8 +15,8 @@ use Rattle.turn_model.specs.Basis.{Holding, IsAboveTide}
 use Rattle.turn_model.specs.Candidates.{PassesThrough, MakeChain}
 use Rattle.turn_model.specs.Known.{EndsAt, IsKnown}
 use Rattle.turn_model.specs.Turn.{IsPrefixOf}
-use Rattle.causal_order.specs.AtHand.{above, news, Extends}
-use Rattle.causal_order.specs.AtHand as over
+use Rattle.causal_order.specs.Available.{above, news, Extends}
+use Rattle.causal_order.specs.Available as over
 use Rattle.causal_order.specs.Over.{GoesOnFrom}
 use Rattle.turn_laws.proofs.OneChain.{one_chain}
 use Rattle.agent_model.specs.Agent.{joined}
@@ -47,7 +47,7 @@ passes_by (Some t) front chain ends p = (front, p.0, sym p.1, ends)
 module _ {view : View} {met : List (List ℕ)} {own : PubKey} {floor : Vector} {known : List Record} {h : Holding} {brought : Refresh} {part : List Record}
     (g : IsGoing view met own floor known h brought part) where
   abbrev pub Hand : Record → Type 0
-  Hand r = over.IsAtHand view h.basis.front h.held (map (within own floor) brought.chains) r
+  Hand r = over.IsAvailable view h.basis.front h.held (map (within own floor) brought.chains) r
 
   abbrev Below : Record → Type 0
   Below r = Contains g.holds.below r ⊎ Hand r
@@ -55,7 +55,7 @@ module _ {view : View} {met : List (List ℕ)} {own : PubKey} {floor : Vector} {
   pub of_held : (r : Record) → Contains part r → Below r
   of_held r c = ⊎_elim (λ d. inl d) (λ d. inr (inl d)) (in_part g r c)
 
-  -- a record of a chain that extends what is held is at hand
+  -- a record of a chain that extends what is held is available
   pub chain_hand : (c : Chain) (stands : Contains brought.chains c) → Extends view h.basis.front h.held c.owner c.records → (r : Record) → r.owner ≡ c.owner
       → Contains (rest g c stands) r → Hand r
   chain_hand c stands ext r owned d =
@@ -97,9 +97,9 @@ module _ {view : View} {met : List (List ℕ)} {own : PubKey} {floor : Vector} {
       (λ b. found r k none b.0 b.1 b.2 b.3 b.4)
       (floor_met g r.owner member t e)
 
-  -- what is known is below the basis, or at hand
-  pub known_at_hand : (r : Record) → Contains known r → Below r
-  known_at_hand r k = ⊎_elim
+  -- what is known is below the basis, or available
+  pub known_available : (r : Record) → Contains known r → Below r
+  known_available r k = ⊎_elim
       (λ all. of_held r (all r k))
       (λ none. by_floor r k none (stamp_at floor (head_key_of r.owner)) refl (g.by_floor.ends r.owner (each (λ q. Contains view.members q.owner) known r g.closed.members k)))
       g.all_or_none
@@ -147,13 +147,13 @@ module _ {view : View} {met : List (List ℕ)} {own : PubKey} {floor : Vector} {
         (λ e. of_chain c stands extends r (row_good view c.owner chain (chain_row view c.owner chain of_log) r d).owned (subst (λ (l : List Record). Contains l r) (sym rest_is) e))
         (Contains-append_cases (log_of c.owner part) longer.0 r (subst (λ (l : List Record). Contains l r) (sym longer.1) d))
 
-  pub candidate_at_hand : (owner : PubKey) (chain : List Record) → IsBrought view own brought owner chain → IsPrefixOf (log_of owner known) chain → (r : Record) → Contains chain r → Below r
-  candidate_at_hand owner chain b goes_on r d = of_candidate b.carried b.stands chain
+  pub candidate_available : (owner : PubKey) (chain : List Record) → IsBrought view own brought owner chain → IsPrefixOf (log_of owner known) chain → (r : Record) → Contains chain r → Below r
+  candidate_available owner chain b goes_on r d = of_candidate b.carried b.stands chain
       (subst (λ (o : PubKey). IsChain view o chain) (sym b.owned) b.chain_of_log)
       (subst (λ (o : PubKey). b.carried.records ≡ records_above brought.started o chain) (sym b.owned) b.above)
       (subst (λ (o : PubKey). IsPrefixOf (log_of o known) chain) (sym b.owned) goes_on) r d
 
-  -- ---- what is at hand is known, or of a candidate
+  -- ---- what is available is known, or of a candidate
 
   -- the record is held, or of a chain that was brought and extends what is held
   abbrev pub IsOfBrought : Record → Type 0
@@ -181,14 +181,14 @@ module _ {view : View} {met : List (List ℕ)} {own : PubKey} {floor : Vector} {
       (subst (λ (l : List Record). Extends view h.basis.front h.held r.owner l) (sym same) ext)
       (subst (λ (l : List Record). Contains (news h.basis.front h.held r.owner l) r) (sym same) c))
 
-  -- what is at hand is above the basis
+  -- what is available is above the basis
   pub hand_above : (r : Record) → Hand r → IsAboveTide h.basis r
   hand_above r hand = ⊎_elim
       (λ c. each (IsAboveTide h.basis) h.held r g.holds.above c)
       (λ b. rest_above g b.0 b.1 b.2 r b.3)
       (hand_cases r hand)
 
-  -- what is at hand is known, or of the candidate of its log, which goes on from what is known
+  -- what is available is known, or of the candidate of its log, which goes on from what is known
   module _ (knew : List Record) (before : Vector) (by_before : IsKnown view before knew) (knew_known : (r : Record) → Contains knew r → Contains known r) where
     -- the chain that extends what is held is one to the head
     makes : (c : Chain) (stands : Contains brought.chains c) → Extends view h.basis.front h.held c.owner c.records → (r : Record) → Contains (rest g c stands) r

@@ -1,9 +1,10 @@
--- Two logs of one owner that are linked from the first record on, stand among blocks that names tell apart, and end at one stamp are one log.
+-- Two logs of one owner that are linked from the first record on, stand among blocks whose names don't collide, and end at one stamp are
+-- one log.
 use Rattle.std.proofs.Common.{◌≡◌, ◌⊎◌, inl, inr, ⊎_elim, ℕ, ◌+◌, ◌<◌, List, [], ◌∷◌, ◌++◌, length, Option, Some, None, refl, sym, ap, ◌∙◌, subst, arith, Contains, append_assoc}
 use Rattle.std.proofs.lemmas.List.Elements.{Contains-append_right}
 use Rattle.ivy_base.specs.declared.key.Key.{Key}
 use Rattle.ivy_base.specs.declared.key.PubKey.{PubKey}
-use Rattle.ivy_base.specs.Naming.{NamesTellApart}
+use Rattle.ivy_base.specs.Naming.{IsCollisionFree}
 use Rattle.log_model.specs.Chain.{GoesOn, IsChain, LinkedFrom}
 use Rattle.log_model.specs.Record.{Record}
 use Rattle.log_model.specs.Spelling.{HasSpelling, no_name}
@@ -15,7 +16,7 @@ use Rattle.log_records.proofs.OneRecord.{one_among}
 use Rattle.turn_model.specs.Known.{EndsAt}
 use Rattle.turn_model.specs.Turn.{IsPrefixOf}
 
--- what stands before a record of the list, and behind it
+-- what stands before a record of the list, and after it
 pub divided : (xs : List Record) (r : Record) → Contains xs r → (before : List Record) × (after : List Record) × (xs ≡ before ++ r ∷ after)
 divided [] r c = absurd (in_nothing r c)
 divided (x ∷ xs) r c = ⊎_elim
@@ -61,9 +62,9 @@ module _ (owner : PubKey) where
       (λ more. let low = short_seq (n + 1) x.name xs r h.4 more in omega (arith, low))
       (in_cons x xs r c)
 
--- ---- where names tell the blocks apart
+-- ---- where no names collide
 
-module _ (blocks : List (List ℕ)) (apart : NamesTellApart blocks) (owner : PubKey) where
+module _ (blocks : List (List ℕ)) (apart : IsCollisionFree blocks) (owner : PubKey) where
   one_of_name : (p q : Record) → (p.owner ≡ owner) × HasSpelling p → (q.owner ≡ owner) × HasSpelling q → StandsAmong blocks p → StandsAmong blocks q → p.name ≡ q.name → p ≡ q
   one_of_name p q f g stands_p stands_q same = one_among owner blocks apart p q f.0 g.0 f.1 g.1 stands_p stands_q same
 

@@ -1,8 +1,8 @@
--- Chains by the names of their records: where names tell the blocks apart, a chain that has another one's last record has all of it.
+-- Chains by the names of their records: where no names collide, a chain that has another one's last record has all of it.
 use Rattle.std.proofs.Common.{◌≡◌, ◌⊎◌, inl, inr, ⊎_elim, ℕ, List, [], ◌∷◌, ◌++◌, Some, refl, sym, ap, ◌∙◌, subst, Contains}
 use Rattle.std.proofs.lemmas.List.Elements.{Contains-append_left, Contains-append_right}
 use Rattle.ivy_base.specs.declared.key.PubKey.{PubKey}
-use Rattle.ivy_base.specs.Naming.{NamesTellApart}
+use Rattle.ivy_base.specs.Naming.{IsCollisionFree}
 use Rattle.log_model.specs.View.{View}
 use Rattle.log_model.specs.Vector.{Stamp}
 use Rattle.log_model.specs.Record.{Record}
@@ -33,7 +33,7 @@ has_end t xs e = (e.1, subst (λ (l : List Record). Contains l e.1) (sym e.2) (C
 pub prefix_has : (xs ys : List Record) → IsPrefixOf xs ys → (r : Record) → Contains xs r → Contains ys r
 prefix_has xs ys p r c = subst (λ (l : List Record). Contains l r) p.1 (Contains-append_left xs p.0 r c)
 
-module _ (blocks : List (List ℕ)) (apart : NamesTellApart blocks) (view : View) (owner : PubKey) where
+module _ (blocks : List (List ℕ)) (apart : IsCollisionFree blocks) (view : View) (owner : PubKey) where
   pub one_of_name : (p q : Record) → IsGood view owner p → IsGood view owner q → StandsAmong blocks p → StandsAmong blocks q → p.name ≡ q.name → p ≡ q
   one_of_name p q good_p good_q in_p in_q e = one_among owner blocks apart p q good_p.owned good_q.owned good_p.spelled good_q.spelled in_p in_q e
 

@@ -24,7 +24,7 @@ use Rattle.log_model.specs.Vector.{Vector}
 use Rattle.log_model.specs.View.{View}
 use Rattle.log_model.proofs.Lists.{both}
 use Rattle.nfs_model.specs.Arguments.{arguments, set_what, create_how}
-use Rattle.nfs_model.specs.Changing.{Nothing, Operations, Plan, Refuse, about, plan, plan_create, plan_file, plan_file_at, plan_rename_between, unless, directory_checks, name_checks, invalid_times, too_large, inode_under, may_cut, may_change, same_target, move_checks, is_empty_under, set_attribute_checks, taken}
+use Rattle.nfs_model.specs.Changing.{Nothing, Operations, Plan, Refuse, plan_about, plan, plan_create, plan_file, plan_file_at, plan_rename_between, plan_unless, directory_checks, name_checks, invalid_times, too_large, inode_under, may_cut, may_change, same_target, move_checks, is_empty_under, set_attribute_checks, taken}
 use Rattle.nfs_model.specs.Checks.{Check, is_dot, is_dot_dot}
 use Rattle.nfs_model.specs.Objects.{Object, object_of, may_write, is_owner}
 use Rattle.nfs_model.specs.declared.arguments.Args.{Args}
@@ -144,15 +144,15 @@ HaveOctets (Refuse reply) = Unit {0}
 HaveOctets (Nothing reply) = Unit {0}
 HaveOctets (Operations ops) = AllByRecursion HasOctets ops
 
-by_check : (b : Bool) (fault : NfsStatus) (checks : List Check) (with : Tail) (p : Plan) → HaveOctets (unless checks with p) → HaveOctets (unless ((b, fault) ∷ checks) with p)
+by_check : (b : Bool) (fault : NfsStatus) (checks : List Check) (with : Tail) (p : Plan) → HaveOctets (plan_unless checks with p) → HaveOctets (plan_unless ((b, fault) ∷ checks) with p)
 by_check true fault checks with p h = tt
 by_check false fault checks with p h = h
 
-by_unless : (checks : List Check) (with : Tail) (p : Plan) → HaveOctets p → HaveOctets (unless checks with p)
+by_unless : (checks : List Check) (with : Tail) (p : Plan) → HaveOctets p → HaveOctets (plan_unless checks with p)
 by_unless [] with p h = h
 by_unless (c ∷ checks) with p h = by_check c.0 c.1 checks with p (by_unless checks with p h)
 
-by_about : (r : Result Object NfsStatus) (none : Tail) (p : Object → Plan) → ((o : Object) → HaveOctets (p o)) → HaveOctets (about r none p)
+by_about : (r : Result Object NfsStatus) (none : Tail) (p : Object → Plan) → ((o : Object) → HaveOctets (p o)) → HaveOctets (plan_about r none p)
 by_about (Err fault) none p h = tt
 by_about (Ok o) none p h = h o
 

@@ -6,14 +6,14 @@ use Rattle.std.specs.Ordering.{is_lt, nat_cmp, ordering_reverse}
 use Rattle.std.specs.declared.cmp.Ordering.{Ordering}
 use Rattle.std.specs.declared.cmp.Ordering.TheVariants.{Less, Equal, Greater}
 use Rattle.ivy_base.specs.declared.key.PubKey.{PubKey}
-use Rattle.ivy_base.specs.Naming.{NamesTellApart, head_key_of, key_cmp}
+use Rattle.ivy_base.specs.Naming.{IsCollisionFree, head_key_of, key_cmp}
 use Rattle.tree_model.proofs.Keys.{keys_total, exact_keys}
 use Rattle.log_model.specs.Vector.{Stamp}
 use Rattle.log_model.specs.Record.{Record}
 use Rattle.log_model.specs.Closed.{log_of}
 use Rattle.turn_model.specs.Turn.{Candidate}
 use Rattle.turn_model.specs.Candidates.{IsTriedBefore, IsTried, IsPassedOver, MakeChain, Evidence, IsCandidate, reading, own_log, newest, as_known}
-use Rattle.turn_laws.specs.One.{CandidatesAreOne}
+use Rattle.turn_laws.specs.One.{CandidatesAreUnique}
 use Rattle.turn_laws.proofs.OneChain.{one_chain}
 
 -- of two heads one is tried before the other, or they are one
@@ -58,10 +58,10 @@ module _ (e : Evidence) where
   cases_of owner _ (newest head chain apart tried makes first) = inr (apart, inl (head, tried, makes, first))
   cases_of owner _ (as_known apart none) = inr (apart, inr (none, refl))
 
-  module _ (tells : NamesTellApart e.blocks) where
+  module _ (tells : IsCollisionFree e.blocks) where
     one_newest : (owner : PubKey) (chain other : List Record) (n : IsNewest owner chain) (m : IsNewest owner other) → AreOrdered n.0 m.0 → chain ≡ other
     one_newest owner chain other n m (inl before) = absurd (m.3 n.0 n.1 before chain n.2)
-    one_newest owner chain other n m (inr (inl behind)) = absurd (n.3 m.0 m.1 behind other m.2)
+    one_newest owner chain other n m (inr (inl after)) = absurd (n.3 m.0 m.1 after other m.2)
     one_newest owner chain other n m (inr (inr same)) =
         one_chain (reading e) tells owner m.0 chain other (subst (λ (t : Stamp). MakeChain (reading e) owner t chain) same n.2) m.2
 
@@ -91,6 +91,6 @@ module _ (e : Evidence) where
         let same : c ≡ d = λ i. record { owner = owner i; chain = chain i } in
         ap (λ (x : Candidate). x ∷ one) same ∙ ap (λ (l : List Candidate). d ∷ l) (one_list one other rest f.1 g.1)
 
-pub candidates_are_one : CandidatesAreOne
-candidates_are_one e one other tells a b =
+pub candidates_are_unique : CandidatesAreUnique
+candidates_are_unique e one other tells a b =
     one_list e tells one other (a.of_members ∙ sym b.of_members) a.each b.each

@@ -35,7 +35,7 @@ module _ (view : View) (b : Basis) (below : List Record) (well : IsView view) (s
       let more = ltb-true (seq_of (front below) (head_key_of r.owner)) r.seq e in
       absurd (omega (arith, reach, le, more))
 
-  -- What is at hand over the front is above the basis. What is at hand of the whole is below the basis, or at hand over the front.
+  -- What is available over the front is above the basis. What is available of the whole is below the basis, or available over the front.
   module _ (Hand All : Record → Type 0) (above : (r : Record) → Hand r → IsAboveTide b r) (of_below : (r : Record) → Contains below r → All r) (of_hand : (r : Record) → Hand r → All r)
       (of_all : (r : Record) → All r → Contains below r ⊎ Hand r) where
     is_high : (r : Record) → Hand r → is_beyond r ≡ true
@@ -44,32 +44,32 @@ module _ (view : View) (b : Basis) (below : List Record) (well : IsView view) (s
     over_front : (t : List Record) → over.IsClosed view b.front t → over.IsClosed view (front below) t
     over_front t c = subst (λ (v : Vector). over.IsClosed view v t) stands.front c
 
-    -- what is at hand over the front, of what is at hand of the whole
+    -- what is available over the front, of what is available of the whole
     beyond_hand : (r : Record) → All r → is_beyond r ≡ true → Hand r
     beyond_hand r a beyond = ⊎_elim (λ low. absurd (not_beyond r low beyond)) (λ e. e) (of_all r a)
 
     beyond_closed : (t : List Record) → ((r : Record) → Contains t r → All r) → plain.IsClosed view t → over.IsClosed view b.front (filter is_beyond t)
-    beyond_closed t at_hand closed = subst (λ (v : Vector). over.IsClosed view v (filter is_beyond t)) (sym stands.front)
-        (over_is_closed view below well stands.closed t closed (λ q d. ⊎_elim (λ e. inl e) (λ e. inr (above_of q (above q e))) (of_all q (at_hand q d))))
+    beyond_closed t available closed = subst (λ (v : Vector). over.IsClosed view v (filter is_beyond t)) (sym stands.front)
+        (over_is_closed view below well stands.closed t closed (λ q d. ⊎_elim (λ e. inl e) (λ e. inr (above_of q (above q e))) (of_all q (available q d))))
 
     module _ (s : List Record) (p : over.IsClosedPart view b.front Hand s) where
       beyond_taken : (t : List Record) → ((r : Record) → Contains t r → All r) → plain.IsClosed view t → (r : Record) → Contains t r → Hand r → Contains s r
-      beyond_taken t at_hand closed r c a =
-          p.largest (filter is_beyond t) (λ q d. let w = from_filter is_beyond t q d in beyond_hand q (at_hand q w.0) w.1) (beyond_closed t at_hand closed) r (in_filter is_beyond t r c (is_high r a))
+      beyond_taken t available closed r c a =
+          p.largest (filter is_beyond t) (λ q d. let w = from_filter is_beyond t q d in beyond_hand q (available q w.0) w.1) (beyond_closed t available closed) r (in_filter is_beyond t r c (is_high r a))
 
       pub whole_part : plain.IsClosedPart view All (below ++ s)
       whole_part = record {
         part = λ r c. ⊎_elim (λ d. of_below r d) (λ d. of_hand r (p.part r d)) (Contains-append_cases below s r c);
         closed = whole_is_closed view below well stands.closed s (over_front s p.closed) (λ r c. above_of r (above r (p.part r c)));
-        largest = λ t at_hand closed r c. ⊎_elim
+        largest = λ t available closed r c. ⊎_elim
             (λ d. Contains-append_left below s r d)
-            (λ a. Contains-append_right below s r (beyond_taken t at_hand closed r c a))
-            (of_all r (at_hand r c));
+            (λ a. Contains-append_right below s r (beyond_taken t available closed r c a))
+            (of_all r (available r c));
       }
 
     -- and back: what the largest closed part of the whole has beyond the front
     module _ (s : List Record) (p : plain.IsClosedPart view All s) where
-      -- these are it, and have all of the whole's that is at hand over the front
+      -- these are it, and have all of the whole's that is available over the front
       pub record IsOverPart (t : List Record) : Type 0 where
         pub largest : over.IsClosedPart view b.front Hand t
         pub has : (r : Record) → Contains s r → Hand r → Contains t r
@@ -81,10 +81,10 @@ module _ (view : View) (b : Basis) (below : List Record) (well : IsView view) (s
           largest = record {
             part = λ r c. let w = from_filter is_beyond s r c in beyond_hand r (p.part r w.0) w.1;
             closed = beyond_closed s p.part p.closed;
-            largest = λ t at_hand closed r c. in_filter is_beyond s r
-                (p.largest (below ++ t) (λ q d. ⊎_elim (λ e. of_below q e) (λ e. of_hand q (at_hand q e)) (Contains-append_cases below t q d))
-                (whole_is_closed view below well stands.closed t (over_front t closed) (λ q d. above_of q (above q (at_hand q d)))) r (Contains-append_right below t r c))
-                (is_high r (at_hand r c));
+            largest = λ t available closed r c. in_filter is_beyond s r
+                (p.largest (below ++ t) (λ q d. ⊎_elim (λ e. of_below q e) (λ e. of_hand q (available q e)) (Contains-append_cases below t q d))
+                (whole_is_closed view below well stands.closed t (over_front t closed) (λ q d. above_of q (above q (available q d)))) r (Contains-append_right below t r c))
+                (is_high r (available r c));
           };
           has = λ r c a. in_filter is_beyond s r c (is_high r a);
         },

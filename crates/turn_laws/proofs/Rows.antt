@@ -13,7 +13,7 @@ use Rattle.log_model.proofs.Lists.{here, there, in_cons, in_nothing, each, in_fi
 use Rattle.log_model.proofs.Part.{Numbered, numbers_from, numbers_below}
 use Rattle.turn_model.specs.Turn.{IsPrefixOf}
 use Rattle.turn_model.specs.Known.{EndsAt}
-use Rattle.causal_order.specs.AtHand.{above}
+use Rattle.causal_order.specs.Available.{above}
 use Rattle.causal_order.specs.Over.{GoesOnFrom}
 
 -- ---- what passes a test
@@ -146,7 +146,7 @@ module _ (view : View) (owner : PubKey) where
 
 -- ---- where records go on from
 
--- the stamp that a log ends at behind that stamp, with these records
+-- the stamp that a log ends at after that stamp, with these records
 abbrev pub last_from : Option Stamp → List Record → Option Stamp
 last_from o [] = o
 last_from o (r ∷ rs) = last_from (Some (own_entry r).1) rs

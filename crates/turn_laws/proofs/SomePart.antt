@@ -22,7 +22,7 @@ use Rattle.log_model.proofs.Owners.{owners_total, owner_itself}
 use Rattle.log_model.proofs.Part.{chain_good, numbered, closed_part_is}
 use Rattle.log_model.proofs.Sets.{in_order_ascends, in_order_in, in_order_has, same_list, chain_ascends, filter_ascends, numbered_one, same_rank_is}
 use Rattle.log_records.proofs.OneRecord.{one_record}
-use Rattle.turn_model.specs.Turn.{Candidate, IsPrefixOf, IsAtHand}
+use Rattle.turn_model.specs.Turn.{Candidate, IsPrefixOf, IsAvailable}
 use Rattle.turn_model.specs.Candidates.{Evidence, IsCandidate, own_log, newest, as_known}
 use Rattle.turn_laws.proofs.Deciding.{same_or_not}
 use Rattle.turn_laws.specs.Some.{ThereIsALargestPart}
@@ -88,7 +88,7 @@ apart_owners (o ∷ os) (x ∷ xs) up e c d in_c in_d same = by (in_cons x xs c 
     by (inr f) (inl g) again = absurd (other c f (ap (λ (w : Candidate). w.owner) g ∙ sym same))
     by (inr f) (inr g) again = again f g
 
--- ---- what is at hand, as a list
+-- ---- what is available, as a list
 
 module _ (view : View) (known : List Record) (closed : IsClosed view known) where
   abbrev IsOurs : Candidate → Type 0
@@ -214,21 +214,21 @@ module _ (view : View) (known : List Record) (closed : IsClosed view known) wher
       | inr new ↦ (let w = n.from r new in subst (λ (o : PubKey). Contains view.members o) (sym (in_chain_owned w.0 w.1 r w.3)) (each IsOurs candidates w.0 ours w.1).0)
     ])
 
-    at_hand : (q : Record) → Contains (in_order Gathered) q → IsAtHand known candidates q
-    at_hand q c = elim (Contains-append_cases known n.news q (in_order_in Gathered q c)) [
+    available : (q : Record) → Contains (in_order Gathered) q → IsAvailable known candidates q
+    available q c = elim (Contains-append_cases known n.news q (in_order_in Gathered q c)) [
       | inl old ↦ inl old
       | inr new ↦ (let w = n.from q new in inr (w.0, w.1, w.2, w.3))
     ]
 
-    gathered : (q : Record) → IsAtHand known candidates q → Contains (in_order Gathered) q
+    gathered : (q : Record) → IsAvailable known candidates q → Contains (in_order Gathered) q
     gathered q (inl old) = in_all q (Contains-append_left known n.news q old)
     gathered q (inr w) = in_all q (Contains-append_right known n.news q (n.has w.0 w.1 w.2 q w.3))
 
-    largest : IsClosedPart view (IsAtHand known candidates) (closed_part view (in_order Gathered))
+    largest : IsClosedPart view (IsAvailable known candidates) (closed_part view (in_order Gathered))
     largest =
         let part = closed_part_is view (in_order Gathered) (in_order_ascends Gathered) all_members all_chains in
         record {
-          part = λ r c. at_hand r (part.part r c);
+          part = λ r c. available r (part.part r c);
           closed = part.closed;
           largest = λ t within t_closed r c. part.largest t (λ q d. gathered q (within q d)) t_closed r c;
         }

@@ -5,7 +5,7 @@ use Rattle.std.specs.List.{AllByRecursion}
 use Rattle.std.specs.Ordering.{eq_by_cmp}
 use Rattle.std.proofs.lemmas.List.{append-nil}
 use Rattle.ivy_base.specs.declared.key.PubKey.{PubKey}
-use Rattle.ivy_base.specs.Naming.{NamesTellApart, head_key_of, owner_cmp}
+use Rattle.ivy_base.specs.Naming.{IsCollisionFree, head_key_of, owner_cmp}
 use Rattle.log_model.specs.View.{View, IsView}
 use Rattle.log_model.specs.Vector.{Stamp, Vector, stamp_at, reach, seq_of}
 use Rattle.log_model.specs.Record.{Record}
@@ -17,8 +17,8 @@ use Rattle.log_model.proofs.Opening.{same_owner}
 use Rattle.log_model.proofs.Sets.{same_list, chain_ascends}
 use Rattle.turn_model.specs.Basis.{Basis, Holding, HoldsAll, Knows, IsAboveTide, nothing_held}
 use Rattle.turn_model.specs.Known.{EndsAt}
-use Rattle.turn_model.specs.Turn.{Candidate, IsAtHand, IsPrefixOf}
-use Rattle.causal_order.specs.AtHand.{above, IsNewPart}
+use Rattle.turn_model.specs.Turn.{Candidate, IsAvailable, IsPrefixOf}
+use Rattle.causal_order.specs.Available.{above, IsNewPart}
 use Rattle.agent_model.specs.Agent.{Agent, joined}
 use Rattle.agent_model.specs.Standing.{Chain, Refresh, dominates, go_on_from, going_on, beyond}
 use Rattle.agent_model.specs.Candidates.{Grounds, MayTurn, StandsWithin, IsCandidateOf, BringsOf}
@@ -27,7 +27,7 @@ use Rattle.agent_model.specs.Turning.{is_behind, is_below_tide}
 use Rattle.turn_laws.specs.Laws.{IsGoneOn, IsTakenBy, OwnLogEndsAtFloor, TakenIsByDefinition}
 use Rattle.turn_laws.proofs.Brought.{IsTold, IsOfHead, choose, brought_row}
 use Rattle.turn_laws.proofs.Going.{IsGoing, below_known}
-use Rattle.turn_laws.proofs.Hand.{Hand, ends_last, known_at_hand, candidate_at_hand, hand_above, hand_is_known}
+use Rattle.turn_laws.proofs.Hand.{Hand, ends_last, known_available, candidate_available, hand_above, hand_is_known}
 use Rattle.turn_laws.proofs.Lists.{from_map}
 use Rattle.turn_laws.proofs.Over.{whole_part}
 use Rattle.turn_laws.proofs.Fronts.{in_log, from_log, front_is_joined, stamp_of_log}
@@ -104,7 +104,7 @@ ends_from None xs ends = ap (last_from None) ends
 ends_from (Some t) xs ends = ap (last_from None) ends.2 ∙ last_from-append None ends.0 (ends.1 ∷ []) ∙ ap Some ends.3
 
 module _ (grounds : Grounds) (view : View) (own : PubKey) (floor : Vector) (holding h : Holding) (known : List Record)
-    (brought : Refresh) (apart : NamesTellApart grounds.met) (well : IsView view) (k : Knows view floor holding known) (gone : IsGoneOn holding brought.basis h) (may : MayTurn grounds view own known brought)
+    (brought : Refresh) (apart : IsCollisionFree grounds.met) (well : IsView view) (k : Knows view floor holding known) (gone : IsGoneOn holding brought.basis h) (may : MayTurn grounds view own known brought)
     (caught_up : is_behind view own floor h brought ≡ false) (none_below : is_below_tide own floor h brought ≡ false) where
   pub held : IsHeldPart view known h
   held = held_part view floor known holding h brought.basis k gone may.loaded
@@ -120,7 +120,7 @@ module _ (grounds : Grounds) (view : View) (own : PubKey) (floor : Vector) (hold
   member_of : (c : Chain) → Contains brought.chains c → Contains view.members c.owner
   member_of c stands = each (λ (x : Chain). Contains view.members x.owner) brought.chains c may.brings.members stands
 
-  -- what was brought of a log is known, or of a head that its candidate is told by
+  -- what was brought of a log is known, or of a head that its candidate is determined by
   abbrev Told : PubKey → List Record → List Record → Type 0
   Told owner chain records = ((r : Record) → Contains records r → Contains known r) ⊎ IsOfHead grounds.met view own grounds.standing.floor owner chain records
 
@@ -177,7 +177,7 @@ module _ (grounds : Grounds) (view : View) (own : PubKey) (floor : Vector) (hold
         (beyond_of (go_on_from (stamp_at (joined h) (head_key_of c.owner)) (above (seq_of (joined h) (head_key_of c.owner)) c.records)) (seq_of (joined h) (head_key_of c.owner)) c.records r d));
   }
 
-  -- ---- what is at hand
+  -- ---- what is available
 
   abbrev below : List Record
   below = going.holds.below
@@ -185,7 +185,7 @@ module _ (grounds : Grounds) (view : View) (own : PubKey) (floor : Vector) (hold
   abbrev OverFront : Record → Type 0
   OverFront r = Hand going r
 
-  hand_to : (r : Record) → OverFront r → IsAtHand known chosen.0 r
+  hand_to : (r : Record) → OverFront r → IsAvailable known chosen.0 r
   hand_to r hand = ⊎_elim
       (λ c. inl c)
       (λ w.
@@ -194,16 +194,16 @@ module _ (grounds : Grounds) (view : View) (own : PubKey) (floor : Vector) (hold
       (hand_is_known going grounds.knew grounds.standing.floor may.by_floor may.knew_before r hand
       (λ c stands. let t = told_of c stands in (t.0.chain, t.3)))
 
-  to_hand : (r : Record) → IsAtHand known chosen.0 r → Contains below r ⊎ OverFront r
-  to_hand r (inl c) = known_at_hand going r c
+  to_hand : (r : Record) → IsAvailable known chosen.0 r → Contains below r ⊎ OverFront r
+  to_hand r (inl c) = known_available going r c
   to_hand r (inr (d, stands, goes_on, c)) = ⊎_elim
-      (λ all. known_at_hand going r (all r c))
-      (λ b. candidate_at_hand going d.owner d.chain b goes_on r c)
+      (λ all. known_available going r (all r c))
+      (λ b. candidate_available going d.owner d.chain b goes_on r c)
       (is_told d stands).goes_back
 
   -- ---- the own log
 
-  own_known : (r : Record) → r.owner ≡ own → IsAtHand known chosen.0 r → Contains known r
+  own_known : (r : Record) → r.owner ≡ own → IsAvailable known chosen.0 r → Contains known r
   own_known r mine (inl c) = c
   own_known r mine (inr (d, stands, goes_on, c)) = ⊎_elim
       (λ all. all r c)
@@ -216,8 +216,8 @@ module _ (grounds : Grounds) (view : View) (own : PubKey) (floor : Vector) (hold
     abbrev taken : List Record
     taken = below ++ in_order (h.held ++ new)
 
-    largest_part : IsClosedPart view (IsAtHand known chosen.0) taken
-    largest_part = whole_part view h.basis below well going.holds.stands OverFront (IsAtHand known chosen.0)
+    largest_part : IsClosedPart view (IsAvailable known chosen.0) taken
+    largest_part = whole_part view h.basis below well going.holds.stands OverFront (IsAvailable known chosen.0)
         (hand_above going)
         (λ r c. inl (below_known going r c))
         hand_to to_hand (in_order (h.held ++ new)) part.largest

@@ -15,7 +15,7 @@ use Rattle.log_model.proofs.Opening.{same_owner}
 use Rattle.log_model.proofs.Part.{chain_good}
 use Rattle.log_model.proofs.Sets.{same_list, filter_ascends}
 use Rattle.turn_model.specs.Known.{IsBacked}
-use Rattle.turn_model.specs.Turn.{Candidate, IsAtHand}
+use Rattle.turn_model.specs.Turn.{Candidate, IsAvailable}
 use Rattle.turn_model.specs.Candidates.{AreCandidates, Evidence, IsCandidate}
 use Rattle.turn_laws.specs.Verified.{WereReceived, by_front, TakenIsVerified, OwnLogIsKnown}
 use Rattle.turn_laws.proofs.OneCandidate.{IsNewest, IsOne, cases_of}
@@ -45,8 +45,8 @@ module _ (e : Evidence) where
   of_candidate owner chain r (inr (apart, inl n)) c = inr ((each (IsGood e.view owner) chain r (chain_good e.view owner chain n.2.chain_of_log) c).owned, apart, n)
   of_candidate owner chain r (inr (apart, inr k)) c = inl (in_log owner chain r k.1 c)
 
-  -- so is each record at hand
-  pub of_hand : (candidates : List Candidate) → AreCandidates (by_front e) candidates → (r : Record) → IsAtHand e.known candidates r
+  -- so is each available record
+  pub of_hand : (candidates : List Candidate) → AreCandidates (by_front e) candidates → (r : Record) → IsAvailable e.known candidates r
       → Contains e.known r ⊎ ((c : Candidate) × Contains c.chain r × IsNew c.owner c.chain r)
   of_hand candidates are r (inl k) = inl k
   of_hand candidates are r (inr (c, within, goes_on, in_chain)) =

@@ -1,4 +1,4 @@
--- What a turn takes that isn't refused: there is a largest closed part of what is at hand.
+-- What a turn takes that isn't refused: there is a largest closed part of what is available.
 use Rattle.std.proofs.Common.{◌≡◌, ◌⊎◌, inl, inr, ⊎_elim, ℕ, ◌+◌, Bool, true, false, not, filter, List, [], ◌∷◌, ◌++◌, map, Option, Some, None, refl, sym, ap, ◌∙◌, subst, Contains}
 use Rattle.std.specs.Cmp.{tied_itself}
 use Rattle.std.specs.List.{AllByRecursion, list_any}
@@ -21,7 +21,7 @@ use Rattle.log_model.proofs.Lists.{here, there, in_cons, in_nothing, each, each_
 use Rattle.log_model.proofs.Owners.{records_total}
 use Rattle.log_model.proofs.Sets.{in_order_ascends, in_order_has, in_order_in, same_list, filter_ascends}
 use Rattle.turn_model.specs.Basis.{Holding}
-use Rattle.causal_order.specs.AtHand.{Extends, IsNewPart, above, held_to, news}
+use Rattle.causal_order.specs.Available.{Extends, IsNewPart, above, held_to, news}
 use Rattle.causal_order.specs.Over as causal
 use Rattle.causal_order.specs.Over.{GoesOnFrom}
 use Rattle.turn_laws.proofs.ChainRules.{first_known, follows_known}
@@ -110,15 +110,15 @@ module _ {view : View} {met : List (List ℕ)} {own : PubKey} {floor : Vector} {
       (each_from (IsGood view c.owner) (log_of c.owner h.held) (λ r d. let w = from_log c.owner h.held r d in subst (λ (o : PubKey). IsGood view o r) w.1 (good_of view part r g.part_closed (held_part r w.0))))
       (each_from (IsGood view c.owner) (news h.basis.front h.held c.owner c.records) (λ r d. row_good view c.owner c.records (g.rows c stands) r (is_above (held_to h.basis.front h.held c.owner) c.records r d).0)))
 
-  -- ---- what is at hand, as a list
+  -- ---- what is available, as a list
 
-  abbrev AtHand : Record → Type 0
-  AtHand r = Contains (below g) r ⊎ Hand g r
+  abbrev Available : Record → Type 0
+  Available r = Contains (below g) r ⊎ Hand g r
 
-  at_part : (r : Record) → Contains part r → AtHand r
+  at_part : (r : Record) → Contains part r → Available r
   at_part r c = ⊎_elim (λ d. inl d) (λ d. inr (inl d)) (in_part g r c)
 
-  sides : (r : Record) → AtHand r → Contains part r ⊎ IsOfBrought g r
+  sides : (r : Record) → Available r → Contains part r ⊎ IsOfBrought g r
   sides r (inl c) = inl (below_part r c)
   sides r (inr hand) = ⊎_elim (λ c. inl (held_part r c)) (λ b. inr b) (hand_cases g r hand)
 
@@ -164,27 +164,27 @@ module _ {view : View} {met : List (List ℕ)} {own : PubKey} {floor : Vector} {
   abbrev all : List Record
   all = part ++ gathered_news.records
 
-  from_all : (r : Record) → Contains all r → AtHand r
+  from_all : (r : Record) → Contains all r → Available r
   from_all r c = elim (Contains-append_cases part gathered_news.records r c) [
     | inl d ↦ at_part r d
     | inr d ↦ (let b = gathered_news.from r d in inr (chain_hand g b.0 b.1 b.2 r b.4 b.3))
   ]
 
-  in_all : (r : Record) → AtHand r → Contains all r
+  in_all : (r : Record) → Available r → Contains all r
   in_all r a = elim (sides r a) [
     | inl c ↦ Contains-append_left part gathered_news.records r c
     | inr b ↦ Contains-append_right part gathered_news.records r (gathered_news.has b.0 b.1 b.2 r b.3)
   ]
 
-  members : (r : Record) → AtHand r → Contains view.members r.owner
+  members : (r : Record) → Available r → Contains view.members r.owner
   members r a = elim (sides r a) [
     | inl c ↦ each (λ q. Contains view.members q.owner) part r g.part_closed.members c
     | inr b ↦ subst (λ (o : PubKey). Contains view.members o) (sym b.4) (g.members b.0 b.1)
   ]
 
-  -- ---- the logs of what is at hand
+  -- ---- the logs of what is available
 
-  log_with : (owner : PubKey) (c : Chain) (stands : Contains brought.chains c) → c.owner ≡ owner → Goes c → IsLog view AtHand owner (full g c stands)
+  log_with : (owner : PubKey) (c : Chain) (stands : Contains brought.chains c) → c.owner ≡ owner → Goes c → IsLog view Available owner (full g c stands)
   log_with owner c stands same goes = record {
     chain = subst (λ (o : PubKey). IsChain view o (full g c stands)) same (full_chain g c stands goes);
     in_log = λ r a mine. elim (sides r a) [
@@ -199,7 +199,7 @@ module _ {view : View} {met : List (List ℕ)} {own : PubKey} {floor : Vector} {
     ];
   }
 
-  log_without : (owner : PubKey) → ((c : Chain) × Contains brought.chains c × ((c.owner ≡ owner) × Goes c) → ⊥) → IsLog view AtHand owner (log_of owner part)
+  log_without : (owner : PubKey) → ((c : Chain) × Contains brought.chains c × ((c.owner ≡ owner) × Goes c) → ⊥) → IsLog view Available owner (log_of owner part)
   log_without owner none = record {
     chain = g.part_closed.chains owner;
     in_log = λ r a mine. elim (sides r a) [
@@ -209,7 +209,7 @@ module _ {view : View} {met : List (List ℕ)} {own : PubKey} {floor : Vector} {
     from_log = λ r d. (let w = from_log owner part r d in (at_part r w.0, w.1));
   }
 
-  a_log : (owner : PubKey) → (log : List Record) × IsLog view AtHand owner log
+  a_log : (owner : PubKey) → (log : List Record) × IsLog view Available owner log
   a_log owner = elim (some_in brought.chains (λ c. (c.owner ≡ owner) × Goes c) (λ c stands. both_known (owner_known c.owner owner) (goes_known c stands))) [
     | inl z ↦ (full g z.0 z.1, log_with owner z.0 z.1 z.2.0 z.2.1)
     | inr none ↦ (log_of owner part, log_without owner none)
@@ -217,14 +217,14 @@ module _ {view : View} {met : List (List ℕ)} {own : PubKey} {floor : Vector} {
 
   -- ---- the largest closed part
 
-  whole : IsClosedPart view AtHand (closed_part view (in_order all))
-  whole = largest_part view AtHand all from_all in_all members a_log
+  whole : IsClosedPart view Available (closed_part view (in_order all))
+  whole = largest_part view Available all from_all in_all members a_log
 
-  one : (q r : Record) → AtHand q → AtHand r → record_cmp q r ≡ Equal → q ≡ r
-  one q r a b rank = one_each view AtHand all from_all in_all members a_log q r a b rank
+  one : (q r : Record) → Available q → Available r → record_cmp q r ≡ Equal → q ≡ r
+  one q r a b rank = one_each view Available all from_all in_all members a_log q r a b rank
 
-  over : (t : List Record) × IsOverPart view h.basis (below g) g.well g.holds.stands (Hand g) AtHand (hand_above g) (λ r c. inl c) (λ r c. inr c) (λ r a. a) (closed_part view (in_order all)) whole t
-  over = over_part view h.basis (below g) g.well g.holds.stands (Hand g) AtHand (hand_above g) (λ r c. inl c) (λ r c. inr c) (λ r a. a) (closed_part view (in_order all)) whole
+  over : (t : List Record) × IsOverPart view h.basis (below g) g.well g.holds.stands (Hand g) Available (hand_above g) (λ r c. inl c) (λ r c. inr c) (λ r a. a) (closed_part view (in_order all)) whole t
+  over = over_part view h.basis (below g) g.well g.holds.stands (Hand g) Available (hand_above g) (λ r c. inl c) (λ r c. inr c) (λ r a. a) (closed_part view (in_order all)) whole
 
   abbrev taken : List Record
   taken = over.0

@@ -117,7 +117,7 @@ from_good view owner (Some t) (r ∷ rs) g = (g.0.good, goes_good view owner r r
 abbrev beyond : ℕ → List Record → List Record
 beyond n rs = filter (λ r. nat_lt n r.seq) rs
 
--- behind a record of a greater number all have one
+-- after a record of a greater number all have one
 all_beyond : (view : View) (owner : PubKey) (p : Record) (rs : List Record) (n : ℕ) → n ≤ p.seq → GoesOn view owner p rs → beyond n rs ≡ rs
 all_beyond view owner p [] n le g = refl
 all_beyond view owner p (r ∷ rs) n le g =

@@ -1,4 +1,4 @@
--- There are candidates, and of what is at hand with them there is a largest closed part.
+-- There are candidates, and of what is available with them there is a largest closed part.
 use Rattle.std.specs.Prelude.{◌⊎◌, ℕ, List}
 use Rattle.ivy_base.specs.declared.key.PubKey.{PubKey}
 use Rattle.log_model.specs.Closed.{IsClosed, IsClosedPart}
@@ -6,7 +6,7 @@ use Rattle.log_model.specs.Record.{Record}
 use Rattle.log_model.specs.Spelling.{IsRecordOf}
 use Rattle.log_model.specs.View.{IsView}
 use Rattle.turn_model.specs.Candidates.{AreCandidates, Evidence}
-use Rattle.turn_model.specs.Turn.{Candidate, IsAtHand}
+use Rattle.turn_model.specs.Turn.{Candidate, IsAvailable}
 
 -- Any bytes are a record of an owner's, or they are none of its.
 abbrev pub EachBlockIsKnown : Type 0
@@ -20,4 +20,4 @@ ThereAreCandidates = (e : Evidence) → (candidates : List Candidate) × AreCand
 -- Of what is known, where that is closed, and of candidates there is a largest closed part.
 abbrev pub ThereIsALargestPart : Type 0
 ThereIsALargestPart = (e : Evidence) (candidates : List Candidate) → IsView e.view → IsClosed e.view e.known → AreCandidates e candidates
-    → (s : List Record) × IsClosedPart e.view (IsAtHand e.known candidates) s
+    → (s : List Record) × IsClosedPart e.view (IsAvailable e.known candidates) s

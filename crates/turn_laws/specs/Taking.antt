@@ -1,5 +1,4 @@
--- What a turn takes of what a refresh brought, by what is held alone: whatever the agent knows, and whether or not names tell the blocks
--- apart.
+-- What a turn takes of what a refresh brought, by what is held alone: whatever the agent knows, and whether or not names collide.
 use Rattle.std.specs.Prelude.{◌≡◌, false, List, ◌++◌, filter, map, nat_le, Option, if◌then◌else◌}
 use Rattle.std.specs.Ordering.{eq_by_cmp}
 use Rattle.ivy_base.specs.declared.key.PubKey.{PubKey}
@@ -9,7 +8,7 @@ use Rattle.log_model.specs.Vector.{Vector, seq_of}
 use Rattle.log_model.specs.Record.{Record}
 use Rattle.log_model.specs.Replay.{in_order}
 use Rattle.log_records.specs.Batches.{Batch}
-use Rattle.causal_order.specs.AtHand.{IsNewPart}
+use Rattle.causal_order.specs.Available.{IsNewPart}
 use Rattle.turn_model.specs.Basis.{Basis, Holding}
 use Rattle.agent_model.specs.Standing.{Chain, Refresh, chain_of}
 use Rattle.agent_model.specs.Turning.{is_behind, is_below_tide}

@@ -9,7 +9,7 @@ use Rattle.log_model.specs.Record.{Record}
 use Rattle.log_model.specs.Vector.{Stamp, Entry, Vector}
 use Rattle.turn_model.specs.Candidates.{AreCandidates, Evidence}
 use Rattle.turn_model.specs.Known.{IsBacked, IsVerified}
-use Rattle.turn_model.specs.Turn.{Inputs, Asked, Candidate, IsAtHand, turn_on}
+use Rattle.turn_model.specs.Turn.{Inputs, Asked, Candidate, IsAvailable, turn_on}
 
 -- all these are among those
 abbrev pub AreAmong : {A : Type 0} → List A → List A → Type 0
@@ -28,13 +28,13 @@ abbrev pub TakenIsVerified : Type 0
 TakenIsVerified = (e : Evidence) (candidates : List Candidate) (received : List Entry) (taken : List Record)
     → AreCandidates (by_front e) candidates → WereReceived e.heads received
     → IsClosed e.view e.known → AllByRecursion (IsBacked e.blocks e.own (front e.known) received) e.known
-    → IsClosedPart e.view (IsAtHand e.known candidates) taken → IsVerified e.blocks e.view e.own (front e.known) received taken
+    → IsClosedPart e.view (IsAvailable e.known candidates) taken → IsVerified e.blocks e.view e.own (front e.known) received taken
 
 -- Of the own log it has just what was known.
 abbrev pub OwnLogIsKnown : Type 0
 OwnLogIsKnown = (e : Evidence) (candidates : List Candidate) (taken : List Record)
     → AreCandidates (by_front e) candidates → IsClosed e.view e.known
-    → IsClosedPart e.view (IsAtHand e.known candidates) taken → log_of e.own taken ≡ log_of e.own e.known
+    → IsClosedPart e.view (IsAvailable e.known candidates) taken → log_of e.own taken ≡ log_of e.own e.known
 
 -- What is known after the turn, its own new records included, is backed by the floor of that, the same heads and blocks and whatever came
 -- to these.

@@ -11,20 +11,20 @@ use Rattle.ivy_base.specs.Naming.{owner_cmp}
 use Rattle.turn_model.specs.Candidates.{Evidence, IsCandidate, own_log, newest, as_known, OnlyMemberHasNothingNew}
 use Rattle.log_model.proofs.Lists.{here, there, in_cons, in_nothing, each, from_filter}
 use Rattle.log_model.proofs.Sets.{same_list}
-use Rattle.turn_model.specs.Turn.{Inputs, Asked, Candidate, Turned, IsAtHand, IsTurn, BringNothing, TurnIsOne, TurnIsOnKnown, turn_on}
+use Rattle.turn_model.specs.Turn.{Inputs, Asked, Candidate, Turned, IsAvailable, IsTurn, BringNothing, TurnIsUnique, TurnIsOnKnown, turn_on}
 
-at_hand_known : (known : List Record) (candidates : List Candidate) → BringNothing known candidates → (r : Record) → IsAtHand known candidates r → Contains known r
-at_hand_known known candidates nothing r h = ⊎_elim (λ k. k) (λ c. nothing c.0 c.1 r c.3) h
+available_known : (known : List Record) (candidates : List Candidate) → BringNothing known candidates → (r : Record) → IsAvailable known candidates r → Contains known r
+available_known known candidates nothing r h = ⊎_elim (λ k. k) (λ c. nothing c.0 c.1 r c.3) h
 
-pub part_is_known : (view : View) (known : List Record) (candidates : List Candidate) → IsClosed view known → BringNothing known candidates → IsClosedPart view (IsAtHand known candidates) known
+pub part_is_known : (view : View) (known : List Record) (candidates : List Candidate) → IsClosed view known → BringNothing known candidates → IsClosedPart view (IsAvailable known candidates) known
 part_is_known view known candidates closed nothing = record {
   part = λ r c. inl c;
   closed = closed;
-  largest = λ t within closed_t r c. at_hand_known known candidates nothing r (within r c);
+  largest = λ t within closed_t r c. available_known known candidates nothing r (within r c);
 }
 
-pub turn_is_one : TurnIsOne
-turn_is_one a known candidates asked now one other t u =
+pub turn_is_unique : TurnIsUnique
+turn_is_unique a known candidates asked now one other t u =
     let same : t.taken ≡ u.taken = same_list t.taken u.taken t.largest.closed.ascending u.largest.closed.ascending
     (u.largest.largest t.taken t.largest.part t.largest.closed)
     (t.largest.largest u.taken u.largest.part u.largest.closed) in
@@ -38,7 +38,7 @@ pub turn_is_of_known : (a : Inputs) (known : List Record) (candidates : List Can
     → IsTurn a known candidates asked now turned → turned ≡ turn_on a known asked now
 turn_is_of_known a known candidates asked now turned closed nothing turn =
     let same : turn.taken ≡ known = same_list turn.taken known turn.largest.closed.ascending closed.ascending
-    (λ r c. at_hand_known known candidates nothing r (turn.largest.part r c))
+    (λ r c. available_known known candidates nothing r (turn.largest.part r c))
     (λ r c. turn.largest.largest known (λ q d. inl d) closed r c) in
     turn.by_set ∙ ap (λ (s : List Record). turn_on a s asked now) same
 

@@ -35,7 +35,7 @@ use Rattle.nfs_model.specs.declared.replies.Tail.{Tail}
 use Rattle.nfs_model.specs.Arguments.{ArgumentsFit, IsSetWhat, IsTime, IsHow}
 use Rattle.nfs_model.specs.Checks.{Check, same_bytes, is_dot, is_dot_dot, too_long_name, invalid_name}
 use Rattle.nfs_model.specs.Objects.{Object, object_of, may_write, is_owner, handle_tag}
-use Rattle.nfs_model.specs.Changing.{Plan, Refuse, Nothing, Operations, unless, about, plan, make, given_mode, new_owner, given_time, is_invalid_time, set_times, plan_directory, plan_symbolic_link, plan_file, plan_file_at, plan_create, plan_attributes, plan_write, plan_remove, plan_remove_directory, plan_rename, plan_rename_between, plan_link, directory_checks, set_attribute_checks, move_checks, inode_under, is_empty_under, same_target, may_change, may_cut, is_positive, permission_bits, invalid_times, too_large, taken, name_checks}
+use Rattle.nfs_model.specs.Changing.{Plan, Refuse, Nothing, Operations, plan_unless, plan_about, plan, make, given_mode, new_owner, given_time, is_invalid_time, set_times, plan_directory, plan_symbolic_link, plan_file, plan_file_at, plan_create, plan_attributes, plan_write, plan_remove, plan_remove_directory, plan_rename, plan_rename_between, plan_link, directory_checks, set_attribute_checks, move_checks, inode_under, is_empty_under, same_target, may_change, may_cut, is_positive, permission_bits, invalid_times, too_large, taken, name_checks}
 use Rattle.turn_model.specs.Turn.{PlanMayBeWritten}
 
 -- the part of `MayBeWritten` that a plan gives
@@ -63,15 +63,15 @@ Fits own seq (Operations ops) = AllFit own seq ops
 
 fits_check : (own : PubKey) (seq : ℕ) (b : Bool) (fault : NfsStatus) (checks : List Check) (with : Tail) (p : Plan)
     → (((b ≡ false) × AllByRecursion (λ c. c.0 ≡ false) checks) → Fits own seq p)
-    → ((AllByRecursion (λ c. c.0 ≡ false) checks → Fits own seq p) → Fits own seq (unless checks with p)) → Fits own seq (unless ((b, fault) ∷ checks) with p)
+    → ((AllByRecursion (λ c. c.0 ≡ false) checks → Fits own seq p) → Fits own seq (plan_unless checks with p)) → Fits own seq (plan_unless ((b, fault) ∷ checks) with p)
 fits_check own seq true fault checks with p fit again = tt
 fits_check own seq false fault checks with p fit again = again (λ rest. fit (refl, rest))
 
-fits_unless : (own : PubKey) (seq : ℕ) (checks : List Check) (with : Tail) (p : Plan) → (AllByRecursion (λ c. c.0 ≡ false) checks → Fits own seq p) → Fits own seq (unless checks with p)
+fits_unless : (own : PubKey) (seq : ℕ) (checks : List Check) (with : Tail) (p : Plan) → (AllByRecursion (λ c. c.0 ≡ false) checks → Fits own seq p) → Fits own seq (plan_unless checks with p)
 fits_unless own seq [] with p fit = fit tt
 fits_unless own seq (c ∷ checks) with p fit = fits_check own seq c.0 c.1 checks with p fit (λ g. fits_unless own seq checks with p g)
 
-fits_about : (own : PubKey) (seq : ℕ) (r : Result Object NfsStatus) (none : Tail) (p : Object → Plan) → ((o : Object) → r ≡ Ok o → Fits own seq (p o)) → Fits own seq (about r none p)
+fits_about : (own : PubKey) (seq : ℕ) (r : Result Object NfsStatus) (none : Tail) (p : Object → Plan) → ((o : Object) → r ≡ Ok o → Fits own seq (p o)) → Fits own seq (plan_about r none p)
 fits_about own seq (Err fault) none p fit = tt
 fits_about own seq (Ok o) none p fit = fit o refl
 

@@ -43,8 +43,8 @@ abbrev pub IsPrefixOf : List Record → List Record → Type 0
 IsPrefixOf xs ys = (rest : List Record) × (xs ++ rest ≡ ys)
 
 -- what is known, and the candidates that go on from what is known of their log
-abbrev pub IsAtHand : List Record → List Candidate → Record → Type 0
-IsAtHand known candidates r = Contains known r
+abbrev pub IsAvailable : List Record → List Candidate → Record → Type 0
+IsAvailable known candidates r = Contains known r
     ⊎ ((c : Candidate) × Contains candidates c × IsPrefixOf (log_of c.owner known) c.chain × Contains c.chain r)
 
 -- ---- the call
@@ -135,11 +135,11 @@ abbrev pub tries_save : Inputs → List Record → Asked → Moment → Bool
 tries_save a s asked now = is_changing asked.args
     && may_save a s (plan (replay s) a.view asked.caller asked.args now a.own (own_seq a.own s + 1))
 
--- the turn of an agent that knows these records and has these candidates: it is on the largest closed part of what is at hand
+-- the turn of an agent that knows these records and has these candidates: it is on the largest closed part of what is available
 pub record IsTurn (a : Inputs) (known : List Record) (candidates : List Candidate) (asked : Asked) (now : Moment)
     (turned : Turned) : Type 0 where
   pub taken : List Record
-  pub largest : IsClosedPart a.view (IsAtHand known candidates) taken
+  pub largest : IsClosedPart a.view (IsAvailable known candidates) taken
   pub by_set : turned ≡ turn_on a taken asked now
 
 -- ---- laws
@@ -151,8 +151,8 @@ PlanMayBeWritten = (t : Tree) (view : View) (who : Identity) (args : Args) (now 
     → seq + length ops ≤ most_records + 1 → AllMayBeWritten own seq ops
 
 -- From what is known, the candidates, the call and the moment there is one turn at most.
-abbrev pub TurnIsOne : Type 0
-TurnIsOne = (a : Inputs) (known : List Record) (candidates : List Candidate) (asked : Asked) (now : Moment) (one other : Turned)
+abbrev pub TurnIsUnique : Type 0
+TurnIsUnique = (a : Inputs) (known : List Record) (candidates : List Candidate) (asked : Asked) (now : Moment) (one other : Turned)
     → IsTurn a known candidates asked now one → IsTurn a known candidates asked now other → one ≡ other
 
 -- A turn's set has all that was known, where that is closed.

@@ -11,7 +11,7 @@
 #![tactic(auto)]
 
 ghost use Rattle.turn_model.specs.Basis.{KeptTreeIsReplay};
-ghost use Rattle.turn_model.specs.Turn.{PlanMayBeWritten, TurnIsOne, TurnKeepsKnown, TurnIsOnKnown};
+ghost use Rattle.turn_model.specs.Turn.{PlanMayBeWritten, TurnIsUnique, TurnKeepsKnown, TurnIsOnKnown};
 ghost use Rattle.turn_model.specs.Candidates.{OnlyMemberHasNothingNew};
 
 /// An agent that holds all that it knows, below its basis or as records above it, keeps the tree that
@@ -30,7 +30,7 @@ pub fn planned_records()
 /// the agent knew. Where nothing new is available the turn is on just that; so it is for its view's only
 /// member.
 pub fn known_sets()
-    ensures one { TurnIsOne }
+    ensures one { TurnIsUnique }
     ensures kept { TurnKeepsKnown }
     ensures on_known { TurnIsOnKnown }
     ensures alone { OnlyMemberHasNothingNew }

@@ -19,7 +19,7 @@ use Rattle.version_vectors.specs.Entries.{vector_of}
 use Rattle.log_records.specs.declared.record.Record as kept
 use Rattle.log_model.specs.Fetched.{owner_of}
 use Rattle.log_records.specs.Records.{record_of, records_of}
-use Rattle.causal_order.specs.AtHand.{IsLinked}
+use Rattle.causal_order.specs.Available.{IsLinked}
 use Rattle.agent_model.specs.Standing.{beyond, dominates}
 use Rattle.turn_taking.specs.Chains.{AreNumbered, as_chain, is_over}
 use Rattle.turn_taking.proofs.Counting.{counted}
@@ -82,7 +82,7 @@ first_tells view owner base r rs owned g = by (is_over base r) refl
     by true e = sym (after_over view owner base r rs owned g e)
     by false e = refl
 
--- ---- what is left of a chain behind a number
+-- ---- what is left of a chain after a number
 
 dropped : (view : View) (owner : PubKey) (p : Record) (xs : List Record) (k : ℕ) (r : Record) (rs : List Record) → IsGood view owner p → GoesOn view owner p xs → drop k (p ∷ xs) ≡ r ∷ rs → IsGood view owner r × GoesOn view owner r rs
 dropped view owner p xs zero r rs good g e =

@@ -7,12 +7,12 @@ use Rattle.ivy_base.specs.Naming.{head_key_of}
 use Rattle.log_model.specs.View.{View}
 use Rattle.log_model.specs.Vector.{Stamp, Vector, reach, seq_of}
 use Rattle.log_model.specs.Record.{Record}
-use Rattle.log_model.specs.Fetched.{Edge, EndsAt, GoesOnFrom, owner_of, stamp_in}
+use Rattle.log_model.specs.Fetched.{Edge, EndsAtStamp, GoesOnFrom, owner_of, stamp_in}
 use Rattle.log_records.specs.declared.batch.Chain.{Chain}
 use Rattle.log_records.specs.Batches.{AreUnder, Batch, Extends, IsBatch}
 use Rattle.log_records.specs.Kept.{chain_of, chains_of}
 use Rattle.log_records.specs.Records.{records_of}
-use Rattle.causal_order.specs.AtHand.{BeginsBy, IsFetched, held_to}
+use Rattle.causal_order.specs.Available.{BeginsBy, IsFetched, held_to}
 use Rattle.causal_order.specs.Kept.{newest_name}
 use Rattle.causal_order.proofs.Beginning.{are_fetched}
 use Rattle.causal_order.proofs.Fetched.{batches_are_fetched}
@@ -41,7 +41,7 @@ module _ (view : View) (edges : Key → Option Edge) (b : Batch) (base : Vector)
     fetched : AllByRecursion (λ (c : Chain). IsFetched view base held (records_of c.records)) kept
     fetched = are_fetched view base held kept b.chains same (batches_are_fetched view edges b base held legal under members pairs_near)
 
-    newest : (head : Stamp) (chain : List Record) → EndsAt head chain → newest_name None chain ≡ Some head.name
+    newest : (head : Stamp) (chain : List Record) → EndsAtStamp head chain → newest_name None chain ≡ Some head.name
     newest head chain e = ap (newest_name None) e.2 ∙ newest_push None e.0 e.1 ∙ ap (λ (s : Stamp). Some s.name) e.3
 
     pub brought_whole : AllByRecursion (IsWhole view) kept

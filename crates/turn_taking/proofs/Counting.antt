@@ -7,7 +7,7 @@ use Rattle.ivy_base.specs.declared.key.PubKey.{PubKey}
 use Rattle.log_model.specs.View.{View}
 use Rattle.log_model.specs.Record.{Record}
 use Rattle.log_model.specs.Chain.{GoesOn}
-use Rattle.causal_order.specs.AtHand.{IsLinked}
+use Rattle.causal_order.specs.Available.{IsLinked}
 use Rattle.agent_model.specs.Turning.{AreNext}
 use Rattle.turn_taking.specs.Chains.{AreNumbered}
 

@@ -14,7 +14,7 @@ use Rattle.log_model.specs.Closed.{log_of}
 use Rattle.log_model.proofs.Lists.{each, each_from}
 use Rattle.log_model.proofs.Part.{found_stamp, numbers_below}
 use Rattle.log_model.proofs.Weights.{Sorted}
-use Rattle.causal_order.specs.AtHand.{held_to}
+use Rattle.causal_order.specs.Available.{held_to}
 use Rattle.causal_order.specs.Over.{HasCauses, IsClosed, IsMet}
 use Rattle.causal_order.proofs.Fronts.{stamp_there}
 use Rattle.causal_order.proofs.Logs.{good_over, numbers_over}

@@ -14,7 +14,7 @@ use Rattle.log_model.specs.Record.{Record}
 use Rattle.log_model.specs.Chain.{IsGood}
 use Rattle.log_model.proofs.Lists.{here, each, from_filter}
 use Rattle.log_model.specs.Fetched.{owner_of}
-use Rattle.causal_order.specs.AtHand.{IsLinked, BeginsBy}
+use Rattle.causal_order.specs.Available.{IsLinked, BeginsBy}
 use Rattle.causal_order.specs.Started.{HaveOwnOwners}
 use Rattle.turn_model.specs.Basis.{Holding}
 use Rattle.agent_model.specs.Agent.{joined}

@@ -21,7 +21,7 @@ use Rattle.log_model.proofs.Weights.{Sorted}
 use Rattle.log_records.specs.declared.batch.Chain.{Chain}
 use Rattle.log_model.specs.Fetched.{owner_of}
 use Rattle.log_records.specs.Records.{records_of}
-use Rattle.causal_order.specs.AtHand.{BeginsBy, IsAtHand, IsFetched, IsLinked, IsNewPart, held_to}
+use Rattle.causal_order.specs.Available.{BeginsBy, IsAvailable, IsFetched, IsLinked, IsNewPart, held_to}
 use Rattle.causal_order.specs.Kept.{newest_name}
 use Rattle.causal_order.specs.Over.{IsClosed}
 use Rattle.causal_order.specs.Started.{HaveOwnOwners}
@@ -158,10 +158,10 @@ module _ (f : List Record → List Record) where
     };
   }
     where
-      onto : (r : Record) → IsAtHand view base held (flat_map (λ d. some_of (f d)) cs) r → IsAtHand view base held (map f cs) r
+      onto : (r : Record) → IsAvailable view base held (flat_map (λ d. some_of (f d)) cs) r → IsAvailable view base held (map f cs) r
       onto r (inl old) = inl old
       onto r (inr w) = inr (w.0, from_some cs w.0 w.1, w.2, w.3)
 
-      back : (r : Record) → IsAtHand view base held (map f cs) r → IsAtHand view base held (flat_map (λ d. some_of (f d)) cs) r
+      back : (r : Record) → IsAvailable view base held (map f cs) r → IsAvailable view base held (flat_map (λ d. some_of (f d)) cs) r
       back r (inl old) = inl old
       back r (inr w) = inr (w.0, to_some cs w.0 r (from_filter (λ (q : Record). nat_lt (held_to base held r.owner) q.seq) w.0 r w.3).0 w.1, w.2, w.3)

@@ -7,7 +7,7 @@ use Rattle.log_model.specs.View.{View}
 use Rattle.log_model.specs.Record.{Record}
 use Rattle.log_model.specs.Chain.{IsGood, GoesOn}
 use Rattle.log_model.specs.Fetched.{owner_of}
-use Rattle.causal_order.specs.AtHand.{IsLinked}
+use Rattle.causal_order.specs.Available.{IsLinked}
 use Rattle.causal_order.specs.Kept.{newest_name}
 use Rattle.agent_model.specs.Turning.{AreNext}
 use Rattle.turn_taking.specs.Chains.{AreNamed, AreNumbered}

@@ -19,7 +19,7 @@ use Rattle.log_model.proofs.Lists.{each, each_from, from_filter, in_nothing, who
 use Rattle.log_records.specs.declared.record.Record as kept
 use Rattle.log_model.specs.Fetched.{owner_of}
 use Rattle.log_records.specs.Records.{record_of, records_of}
-use Rattle.causal_order.specs.AtHand.{IsLinked}
+use Rattle.causal_order.specs.Available.{IsLinked}
 use Rattle.turn_laws.proofs.Heads.{one_member}
 use Rattle.agent_model.specs.Standing.{beyond, go_on_from}
 use Rattle.agent_model.specs.Turning.{AreNext, is_there}

@@ -21,7 +21,7 @@ use Rattle.tree_model.proofs.Keys.{same_key_itself}
 use Rattle.log_model.specs.Fetched.{owner_of}
 use Rattle.log_records.specs.Batches.{Batch}
 use Rattle.log_records.specs.Records.{records_of}
-use Rattle.causal_order.specs.AtHand.{IsLinked, IsNewPart, held_to}
+use Rattle.causal_order.specs.Available.{IsLinked, IsNewPart, held_to}
 use Rattle.causal_order.specs.Over.{IsClosed}
 use Rattle.causal_order.proofs.Meeting.{from_map}
 use Rattle.turn_model.specs.Basis.{Holding}

@@ -17,7 +17,7 @@ use Rattle.log_records.specs.declared.batch.Chain.{Chain}
 use Rattle.log_records.specs.declared.record.Record as kept
 use Rattle.log_model.specs.Fetched.{owner_of}
 use Rattle.log_records.specs.Records.{record_of, records_of}
-use Rattle.causal_order.specs.AtHand.{IsLinked}
+use Rattle.causal_order.specs.Available.{IsLinked}
 use Rattle.dht_ids.specs.declared.judge.Judged.{Judged}
 use Rattle.turn_laws.specs.Taking.{within}
 use Rattle.turn_taking.specs.Chains.{AreNamed, AreNumbered, IsRow, IsWhole, IsLeft, IsLeftRow, all_within, as_chain, chains_in, some_of}

@@ -10,7 +10,7 @@ use Rattle.log_model.specs.Rank.{full_vector}
 use Rattle.log_model.specs.Fetched.{owner_of}
 use Rattle.log_records.specs.declared.batch.Chain.{Chain}
 use Rattle.log_records.specs.Records.{records_of}
-use Rattle.causal_order.specs.AtHand.{IsLinked}
+use Rattle.causal_order.specs.Available.{IsLinked}
 use Rattle.agent_model.specs.Standing.{Chain as Brought, beyond, dominates}
 use Rattle.turn_laws.specs.Taking.{within}
 use Rattle.agent_model.specs.Turning.{AreNext}

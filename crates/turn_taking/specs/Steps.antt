@@ -7,7 +7,7 @@ use Rattle.log_model.specs.Rank.{full_vector}
 use Rattle.log_model.specs.Vector.{Vector, join}
 use Rattle.log_model.specs.Fetched.{owner_of}
 use Rattle.log_records.specs.Records.{records_of}
-use Rattle.causal_order.specs.AtHand.{BeginsBy, IsNewPart, held_to}
+use Rattle.causal_order.specs.Available.{BeginsBy, IsNewPart, held_to}
 use Rattle.agent_model.specs.Turning.{lacks}
 use Rattle.turn_taking.specs.Chains.{all_within, is_over, new_of}
 use Rattle.turn_taking.specs.declared.taking.Held.{Held}

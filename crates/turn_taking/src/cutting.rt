@@ -15,7 +15,7 @@ use ivy_base::{Memory, head_key};
 use log_records::{Chain, Records};
 use std::alloc::Global;
 
-/// What is left of each chain within the floor, without the chains of which nothing is left. The error is want of memory.
+/// What is left of each chain within the floor, without the chains of which nothing is left. The error is: out of memory.
 pub fn all_within(alloc: Global, held: &Held<'_>, chains: Vec<Chain>) -> Result<Vec<Chain>, Memory>
     requires { AllByRecursion (IsWhole held.now.view.now) chains.items }
     ensures within { IfOk result (λ left. chains_in left.items ≡ all_within held.now.own.now held.now.floor.now (chains_in chains.items)) }

@@ -17,7 +17,7 @@ use log_records::Record;
 use std::alloc::Global;
 use version_vectors::{Entry, Vector};
 
-/// The front joined with what each of the records knows. The error is want of memory.
+/// The front joined with what each of the records knows. The error is: out of memory.
 pub fn front_with(
     alloc: Global,
     front: &Vector,
@@ -35,7 +35,7 @@ pub fn front_with(
     Ok(joined)
 }
 
-/// The record's vector with the record itself, of which the names have the name. The error is want of memory.
+/// The record's vector with the record itself, of which the names have the name. The error is: out of memory.
 fn full_vector(alloc: Global, names: &[Names], record: &Record) -> Result<Vector, Memory>
     requires named { HasNameOf names.now (record_of «record».now) }
     requires spelled { HasSpelling (record_of «record».now) }

@@ -34,7 +34,7 @@ impl Names {
     }
 }
 
-/// The names of each chain's records. The error is want of memory.
+/// The names of each chain's records. The error is: out of memory.
 pub fn all_names(alloc: Global, chains: &[Chain]) -> Result<Vec<Names>, Memory>
     requires { AllByRecursion IsRow chains.now }
     ensures { IfOk result (λ all. AllNamesOf all.items (chains_in chains.now)) }
@@ -46,7 +46,7 @@ pub fn all_names(alloc: Global, chains: &[Chain]) -> Result<Vec<Names>, Memory>
     Ok(all)
 }
 
-/// The names of the chain's records. The error is want of memory.
+/// The names of the chain's records. The error is: out of memory.
 fn names_in(alloc: Global, chain: &Chain) -> Result<Names, Memory>
     requires { IsRow chain.now }
     ensures { IfOk result (λ names. AreNamesOf names (records_of chain.now.records)) }

@@ -66,7 +66,7 @@ pub enum Taken {
 /// `records` are closed over `base`, and `front` is that of both. `base` and `front` name logs of the view alone, and of the own
 /// log they go no further than the floor; so does the front that is given back.
 ///
-/// The error is want of memory; what is held has not changed, whatever comes.
+/// The error is: out of memory; what is held has not changed, whatever comes.
 pub fn take(alloc: Global, held: &Held<'_>, batch: Batch) -> Result<Taken, Memory>
     requires closed { IsClosed held.now.view.now held.now.base.now (records_of held.now.records.now) }
     requires front { (h : Holding) → IsHeld held.now h → held.now.front.now ≡ joined h }
@@ -96,7 +96,7 @@ fn is_caught_up(held: &Held<'_>, batch: &Batch) -> bool
     held.front.dominates(started)
 }
 
-/// What a turn takes of the chains, where what is held goes as far as what the refresh began with. The error is want of
+/// What a turn takes of the chains, where what is held goes as far as what the refresh began with. The error is: out of
 /// memory.
 fn take_chains(alloc: Global, held: &Held<'_>, chains: Vec<Chain>) -> Result<Taken, Memory>
     requires closed { IsClosed held.now.view.now held.now.base.now (records_of held.now.records.now) }
@@ -116,7 +116,7 @@ fn take_chains(alloc: Global, held: &Held<'_>, chains: Vec<Chain>) -> Result<Tak
     Ok(Taken::New(records, front))
 }
 
-/// The new records of the chains, and the front of all that is held with them. The error is want of memory.
+/// The new records of the chains, and the front of all that is held with them. The error is: out of memory.
 fn take_new(
     alloc: Global,
     held: &Held<'_>,

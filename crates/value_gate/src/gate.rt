@@ -60,8 +60,8 @@ pub struct Unclosed<A: Sequential> {
 }
 
 impl<A: Sequential> Gate<A> {
-    /// A gate over this value, which stands for no turns yet, and the first pass, which has all parts. `Err` is want of
-    /// memory.
+    /// A gate over this value, which stands for no turns yet, and the first pass, which has all parts. `Err` means out
+    /// of memory.
     pub fn make(alloc: Global, value: A) -> Result<(Gate<A>, Pass<A>), AllocError>
         requires { A.stands value [] value }
         ensures pass { IfOk result (λ made. IsPassOf made.0 made.1 × (made.0.opening ≡ value)) }

@@ -35,7 +35,7 @@ more_entries {rest} {done} {e} f g before = record {
   spelled = f.spelled ∙ ap (λ (s : List ℕ). entries_bytes done ++ s) g.spelled ∙ bytes_more done e rest;
 }
 
--- what stands behind the first entries of a vector
+-- what stands after the first entries of a vector
 pub record Continues (done v : Vector) (left rest : List ℕ) : Type 0 where
   pub entry : Entry
   pub more : Vector
@@ -86,7 +86,7 @@ too_few_bytes count bytes few = record {
       absurd (omega (arith, few, long, size, g.fits.size));
 }
 
--- ---- behind the count
+-- ---- after the count
 
 pub counted : {most count : ℕ} {bytes middle rest : List ℕ} {v : Vector} → IsFront IsWord word bytes count middle → count ≤ most
     → IsFront (EntriesFit count) entries_bytes middle v rest → IsFront (VectorFits most) (array vector_entry) bytes v rest
@@ -100,7 +100,7 @@ no_count most few absent = record {
   none = λ v rest g. absent.none (length v) (entries_bytes v ++ rest) (record { fits = omega (arith, g.fits.short, few); spelled = g.spelled ∙ append_assoc (word (length v)) (entries_bytes v) rest });
 }
 
--- what the count in front says of a vector behind it
+-- what the count in front says of a vector after it
 the_count : {most count : ℕ} {bytes middle rest : List ℕ} {v : Vector} → most < 2 ^ 32 → IsFront IsWord word bytes count middle
     → IsFront (VectorFits most) (array vector_entry) bytes v rest → (count ≡ length v) × (middle ≡ entries_bytes v ++ rest)
 the_count {count} {middle = middle} {rest = rest} {v = v} few f g =

@@ -41,7 +41,7 @@ pub each_behind : (k : Key) (w : Vector) → below_all key_cmp k w ≡ true → 
 each_behind k [] h = tt
 each_behind k (d ∷ w) h = let parts = both_true (is_lt (key_cmp k d.0)) (below_all key_cmp k w) h in (parts.0, each_behind k w parts.1)
 
--- behind an entry
+-- after an entry
 pub sorted_behind : (v : Vector) (e : Entry) (w : Vector) → is_sorted key_cmp (v ++ e ∷ w) ≡ true → AreBehind e.0 w
 sorted_behind [] e w h = each_behind e.0 w (both_true (below_all key_cmp e.0 w) (is_sorted key_cmp w) h).0
 sorted_behind (d ∷ v) e w h = sorted_behind v e w (both_true (below_all key_cmp d.0 (v ++ e ∷ w)) (is_sorted key_cmp (v ++ e ∷ w)) h).1

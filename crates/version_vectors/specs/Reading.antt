@@ -13,7 +13,7 @@ use Rattle.version_vectors.specs.Vectors.{VectorFits, EntriesFit}
 abbrev pub entries_bytes : Vector → List ℕ
 entries_bytes v = flat_map vector_entry v
 
--- no vector stands there; want of memory tells nothing of the bytes
+-- no vector stands there; running out of memory tells nothing of the bytes
 abbrev pub ReadFault : ℕ → List ℕ → BlockFault → Type 0
 ReadFault most bytes Malformed = HasNoFront (VectorFits most) (array vector_entry) bytes
 ReadFault most bytes Memory = ⊤

@@ -19,7 +19,7 @@ pub fn place_of(entries: &[Entry], log: &Key) -> Result<usize, usize>
     entries.binary_search_by_key(log, |entry| entry.log)
 }
 
-/// The entries of the logs before that one, and those behind it. The entries ascend by log.
+/// The entries of the logs before that one, and those after it. The entries ascend by log.
 pub fn around<'a>(entries: &'a [Entry], log: &Key) -> (&'a [Entry], &'a [Entry])
     requires { IsTrue (is_sorted key_cmp (vector_of entries.now)) }
     ensures { IsAround log.now (vector_of entries.now) (vector_of result.0.now) (vector_of result.1.now) }
@@ -30,7 +30,7 @@ pub fn around<'a>(entries: &'a [Entry], log: &Key) -> (&'a [Entry], &'a [Entry])
     }
 }
 
-/// Takes an entry in: of two entries of one log the later stays. The error is want of memory, and then nothing has
+/// Takes an entry in: of two entries of one log the later stays. The error is: out of memory, and then nothing has
 /// changed.
 pub fn take_in(entries: &mut Vec<Entry>, entry: Entry) -> Result<(), Memory>
     requires { IsTrue (is_sorted key_cmp (vector_of entries.old.items)) }
@@ -48,7 +48,7 @@ pub fn take_in(entries: &mut Vec<Entry>, entry: Entry) -> Result<(), Memory>
     Ok(())
 }
 
-/// Takes each of these entries in. After the error, want of memory, some of them may be in.
+/// Takes each of these entries in. After the error, running out of memory, some of them may be in.
 pub fn take_all_in(entries: &mut Vec<Entry>, others: &[Entry]) -> Result<(), Memory>
     requires whole { IsVector (vector_of entries.old.items) }
     requires others { IsVector (vector_of others.now) }

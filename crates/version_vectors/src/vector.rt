@@ -81,7 +81,7 @@ impl Vector {
         }
     }
 
-    /// The vector with that entry in place of its log's, whichever of the two is newer. The error is want of memory.
+    /// The vector with that entry in place of its log's, whichever of the two is newer. The error is: out of memory.
     pub fn with(&self, alloc: Global, entry: Entry) -> Result<Vector, Memory>
         requires { 1 ≤ entry.seq }
         ensures { IfOk result (λ v. v ≡ put key_cmp entry.log (stamped entry).1 self.now) }
@@ -95,7 +95,7 @@ impl Vector {
         Ok(Vector { entries })
     }
 
-    /// The vector without the log's entry. The error is want of memory.
+    /// The vector without the log's entry. The error is: out of memory.
     pub fn without(&self, alloc: Global, log: &Key) -> Result<Vector, Memory>
         ensures { IfOk result (λ v. v ≡ without_log log.now self.now) }
     {
@@ -107,7 +107,7 @@ impl Vector {
     }
 
     /// Of each log the later of the two vectors' entries: the one of the greater number, and of equal numbers the
-    /// one of the least name. The error is want of memory.
+    /// one of the least name. The error is: out of memory.
     pub fn join(&self, alloc: Global, other: &Vector) -> Result<Vector, Memory>
         ensures { IfOk result (λ v. v ≡ join self.now other.now) }
     {
@@ -131,7 +131,7 @@ impl Vector {
         entries.iter().all(|e: &Entry| e.seq <= self.seq_of(&e.log))
     }
 
-    /// An equal vector. The error is want of memory.
+    /// An equal vector. The error is: out of memory.
     pub fn copy(&self, alloc: Global) -> Result<Vector, Memory>
         ensures { IfOk result (λ v. v ≡ self.now) }
     {
@@ -167,8 +167,8 @@ impl Vector {
     /// The vector at the front of the bytes, of at most `most` entries: their count (RFC 4506, section 4.13), and of
     /// each entry the head key, the number and the name, ascending strictly by head key.
     ///
-    /// The error is `Malformed` exactly where no such vector stands there, and else want of memory. Memory is taken
-    /// only where bytes for so many entries are left. After an error the reader may stand anywhere.
+    /// The error is `Malformed` exactly where no such vector stands there, and else running out of memory. Memory is
+    /// taken only where bytes for so many entries are left. After an error the reader may stand anywhere.
     pub fn read(alloc: Global, reader: &mut XdrRead<'_>, most: u32) -> Result<Vector, BlockFault>
         ensures ok { IfOk result (λ v. IsFront (VectorFits most) (array vector_entry) reader.old v reader.new) }
         ensures err { IfErr result (ReadFault most reader.old) }

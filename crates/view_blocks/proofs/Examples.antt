@@ -11,7 +11,7 @@ low = record { 0 = 1 ∷ 9 ∷ [] }
 abbrev high : PubKey
 high = record { 0 = 2 ∷ 0 ∷ [] }
 
--- the mark, and each list behind its count
+-- the mark, and each list after its count
 a_block : view_block (record { members = low ∷ high ∷ []; former = low ∷ [] }) ≡ 73 ∷ 86 ∷ 86 ∷ 49 ∷ 0 ∷ 0 ∷ 0 ∷ 2 ∷ 1 ∷ 9 ∷ 2 ∷ 0 ∷ 0 ∷ 0 ∷ 0 ∷ 1 ∷ 1 ∷ 9 ∷ []
 a_block = refl
 

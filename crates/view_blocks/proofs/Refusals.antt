@@ -5,7 +5,7 @@ use Rattle.log_model.specs.ViewKeys.{HasKeys}
 use Rattle.view_blocks.specs.declared.fault.ViewFault.{ViewFault}
 use Rattle.view_blocks.specs.declared.fault.ViewFault.TheVariants.{Malformed, NoMember, TooMany, Order, Overlap, Memory}
 use Rattle.view_blocks.specs.Faults.{FitsBlock, HasFewKeys, FailsAs, BlockFailsAs}
-use Rattle.view_blocks.specs.Laws.{LegalViewsPass, FaultsAreOne}
+use Rattle.view_blocks.specs.Laws.{LegalViewsPass, FaultsAreUnique}
 use Rattle.view_blocks.proofs.OneView.{fits_block, one_view_of_block}
 
 some_members : (view : View) → IsView view → view.members ≢ []
@@ -95,5 +95,5 @@ legal_block_passes view Overlap legal keys h = legal_passes view Overlap legal (
 pub legal_views_pass : LegalViewsPass
 legal_views_pass = record { made = legal_passes; read = legal_block_passes }
 
-pub faults_are_one : FaultsAreOne
-faults_are_one = record { made = one_fault; read = one_fault_of_bytes }
+pub faults_are_unique : FaultsAreUnique
+faults_are_unique = record { made = one_fault; read = one_fault_of_bytes }

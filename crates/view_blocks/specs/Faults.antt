@@ -46,7 +46,7 @@ CountsFailAs members former NoMember = members ≡ 0
 CountsFailAs members former TooMany = (members ≢ 0) × ((most_members < members) ⊎ (most_former < former))
 CountsFailAs members former fault = ⊥
 
--- why a view of these keys can't be made: the first test that fails. Want of memory isn't tied to a cause
+-- why a view of these keys can't be made: the first test that fails. Running out of memory isn't tied to a cause
 abbrev pub FailsAs : View → ViewFault → Type 0
 FailsAs view Malformed = ⊥
 FailsAs view NoMember = view.members ≡ []

@@ -33,14 +33,14 @@ pub fn key_lists(bytes: &[u8]) -> Option<(&[[u8; KEY_LEN]], &[[u8; KEY_LEN]])>
     }
 }
 
-/// The bytes behind the mark, if it stands in front.
+/// The bytes after the mark, if it stands in front.
 fn behind_mark(bytes: &[u8]) -> Option<&[u8]>
     ensures { MatchOption result ((rest : List ℕ) → bytes.now ≢ MARK ++ rest) (λ rest. bytes.now ≡ MARK ++ rest.now) }
 {
     bytes.strip_prefix(MARK.as_slice())
 }
 
-/// The bytes of the keys in the list of public keys that stands in front, and the bytes behind it.
+/// The bytes of the keys in the list of public keys that stands in front, and the bytes after it.
 fn keys(bytes: &[u8]) -> Option<(&[[u8; KEY_LEN]], &[u8])>
     ensures some { IfSome result (λ p. IsFront AreKeys keys_block bytes.now (keys_of p.0.now) p.1.now) }
     ensures none { IfNone result (HasNoFront AreKeys keys_block bytes.now) }
@@ -51,7 +51,7 @@ fn keys(bytes: &[u8]) -> Option<(&[[u8; KEY_LEN]], &[u8])>
     Some((keys, reader.rest()))
 }
 
-/// The block of these two lists of public keys. The error is want of memory.
+/// The block of these two lists of public keys. The error is: out of memory.
 pub fn block_of(alloc: Global, members: &[PubKey], former: &[PubKey]) -> Result<Bytes, Memory>
     requires members { length members.now < 2 ^ 32 }
     requires former { length former.now < 2 ^ 32 }

@@ -34,7 +34,7 @@ impl Model for Owners {
 }
 
 impl Owners {
-    /// These keys, which are not copied. The error is want of memory.
+    /// These keys, which are not copied. The error is: out of memory.
     pub fn of(alloc: Global, keys: Vec<PubKey>) -> Result<Owners, Memory>
         ensures ok { IfOk result (λ owners. owners ≡ keys.items) }
         ensures keys { IfOk result (AllByRecursion IsPubKey) }
@@ -47,7 +47,7 @@ impl Owners {
         Ok(Owners { keys, heads })
     }
 
-    /// A copy. The error is want of memory.
+    /// A copy. The error is: out of memory.
     pub fn copy(&self, alloc: Global) -> Result<Owners, Memory>
         ensures { IfOk result (λ copy. copy ≡ self.now) }
     {
@@ -129,14 +129,14 @@ pub fn ascend(keys: &[PubKey]) -> bool
     keys.is_sorted_by(|a, b| a < b)
 }
 
-/// The keys of these bytes each. The error is want of memory.
+/// The keys of these bytes each. The error is: out of memory.
 pub fn keys_of(alloc: Global, each: &[[u8; KEY_LEN]]) -> Result<Vec<PubKey>, Memory>
     ensures { IfOk result (λ keys. keys.items ≡ keys_of each.now) }
 {
     Ok(each.iter().map(|bytes| PubKey(*bytes)).collect(alloc)?)
 }
 
-/// A copy of the keys. The error is want of memory.
+/// A copy of the keys. The error is: out of memory.
 pub fn copy_of(alloc: Global, keys: &[PubKey]) -> Result<Vec<PubKey>, Memory>
     ensures { IfOk result (λ copy. copy.items ≡ keys.now) }
 {

@@ -52,7 +52,8 @@ impl Model for View {
 impl View {
     /// The view of these members and former members, which each ascend by their bytes.
     ///
-    /// The fault is the first test that fails, `NoMember`, `TooMany`, `Order` or `Overlap`, or want of memory.
+    /// The fault is the first test that fails, `NoMember`, `TooMany`, `Order` or `Overlap`, or running out of
+    /// memory.
     pub fn make(alloc: Global, members: &[PubKey], former: &[PubKey]) -> Result<View, ViewFault>
         ensures ok { IfOk result (λ view. view ≡ record { members = members.now; former = former.now }) }
         ensures legal { IfOk result IsView }
@@ -97,7 +98,7 @@ impl View {
         })
     }
 
-    /// The view's block. The error is want of memory.
+    /// The view's block. The error is: out of memory.
     pub fn write(&self, alloc: Global) -> Result<Bytes, Memory>
         ensures { IfOk result (λ block. block ≡ view_block self.now) }
     {
@@ -150,7 +151,7 @@ impl View {
         self.former.has(log)
     }
 
-    /// A copy. The error is want of memory.
+    /// A copy. The error is: out of memory.
     pub fn copy(&self, alloc: Global) -> Result<View, Memory>
         ensures { IfOk result (λ copy. copy ≡ self.now) }
     {

@@ -11,7 +11,7 @@ use Rattle.dht_ids.specs.declared.peer.Peer.{Peer}
 use Rattle.dhash_client.specs.GetHead.{Judges}
 use Rattle.agent_model.specs.Standing.{Standing}
 use Rattle.session_model.specs.Asking.{AsksNext}
-use Rattle.session_model.specs.Brought.{Brought, Part, Want, Heads, Content}
+use Rattle.session_model.specs.Brought.{Brought, Part, WantedOfRing, Heads, Content}
 use Rattle.session_model.specs.Sessions.{IsGet, wanted_key}
 use Rattle.log_fetch.specs.declared.fetch.State.{State}
 use Rattle.log_fetch.specs.declared.fetch.State.TheVariants as state
@@ -30,36 +30,36 @@ same_some : {T : Type 0} (x y : T) → Some x ≡ Some y → x ≡ y
 same_some x y e = cc e
 
 -- that is the next ask of a get for that want
-abbrev pub GetAsksNext : (Key → List ℕ → Option Judged) → ℕ → List Peer → Want → List Heard → Peer → Ask → Type 0
+abbrev pub GetAsksNext : (Key → List ℕ → Option Judged) → ℕ → List Peer → WantedOfRing → List Heard → Peer → Ask → Type 0
 GetAsksNext judged replicas entries want = AsksNext (wanted_key want) (ask.Get (wanted_key want)) (IsGet judged replicas entries want)
 
 module _ {J : Type 0} (judges : Judges J) (judge : J) (replicas : ℕ) (entries : List Peer) (at : Stage) (current : List Heard) (node : Peer) (question : Ask) where
   get_next : (x : Get J) → IsFor judge replicas at x → GetIsAfter judges entries current x → get_awaited x ≡ Some (node, question) → GetAsksNext (judges judge) replicas entries (aim x) current node question
   get_next (get.Heads owner s) fits h waits =
       subst (λ (r : ℕ). AsksNext (head_key_of owner) (ask.Get (head_key_of owner)) (IsGet (judges judge) r entries (Heads owner)) current node question) fits.2
-      (subst (λ (j : J). AsksNext (head_key_of owner) (ask.Get (head_key_of owner)) (IsGet (judges j) s.course.replicas entries (Heads owner)) current node question) fits.1
+      (subst (λ (j : J). AsksNext (head_key_of owner) (ask.Get (head_key_of owner)) (IsGet (judges j) s.execution.replicas entries (Heads owner)) current node question) fits.1
       (heads_are_asked_next judges entries current s owner node question h.0 h.1 waits))
   get_next (get.Block s) fits h waits =
-      subst (λ (r : ℕ). AsksNext s.course.look.key (ask.Get s.course.look.key) (IsGet (judges judge) r entries (Content s.course.look.key)) current node question) fits.1
+      subst (λ (r : ℕ). AsksNext s.execution.look.key (ask.Get s.execution.look.key) (IsGet (judges judge) r entries (Content s.execution.look.key)) current node question) fits.1
       (content_is_asked_next (judges judge) entries current s node question h waits)
 
 module _ {J : Type 0} (judges : Judges J) (judge : J) (replicas : ℕ) (entries : List Peer) (s : Standing) (start : Vector) (brought : List Brought) (current : List Heard) (node : Peer) (question : Ask) where
-  next_in : (st : State J) (want : Want) → IsSound judge replicas st → IsAsking judges entries s start brought current st → awaited_in st ≡ Some (node, question) → aim_in st ≡ Some want
+  next_in : (st : State J) (want : WantedOfRing) → IsSound judge replicas st → IsAsking judges entries s start brought current st → awaited_in st ≡ Some (node, question) → aim_in st ≡ Some want
       → GetAsksNext (judges judge) replicas entries want current node question
   next_in (state.Free g) want sound h waits aims = absurd (some_or_none (node, question) (sym waits))
   next_in (state.Asking g x) want sound h waits aims =
-      subst (λ (w : Want). GetAsksNext (judges judge) replicas entries w current node question) (same_some (aim x.get) want aims)
+      subst (λ (w : WantedOfRing). GetAsksNext (judges judge) replicas entries w current node question) (same_some (aim x.get) want aims)
       (get_next judges judge replicas entries g.stage current node question x.get sound.0 h.2 waits)
   next_in (state.Ended fetched) want sound h waits aims = absurd (some_or_none (node, question) (sym waits))
   next_in state.Over want sound h waits aims = absurd h
 
 -- a fetch is to ask this next of a get of what it is for
-pub fetch_asks_next : {J : Type 0} (judges : Judges J) (s : Standing) (start : Vector) (f : Fetching J) {parts : List Part} (current : List Heard) (node : Peer) (question : Ask) (want : Want) → FetchIsAfter judges s start parts current f
+pub fetch_asks_next : {J : Type 0} (judges : Judges J) (s : Standing) (start : Vector) (f : Fetching J) {parts : List Part} (current : List Heard) (node : Peer) (question : Ask) (want : WantedOfRing) → FetchIsAfter judges s start parts current f
     → fetch_awaited f ≡ Some (node, question) → fetch_aim f ≡ Some want → GetAsksNext (judges f.judge) f.replicas f.entries want current node question
 fetch_asks_next judges s start f current node question want h waits aims = next_in judges f.judge f.replicas f.entries s start _ current node question f.state want h.sound h.asking waits aims
 
 -- by the same judge, from as many owners and the same nodes on
-pub next_as : {J : Type 0} (judges : Judges J) {judge other : J} {replicas many : ℕ} {entries nodes : List Peer} (want : Want) (current : List Heard) (node : Peer) (question : Ask) → judge ≡ other → replicas ≡ many → entries ≡ nodes
+pub next_as : {J : Type 0} (judges : Judges J) {judge other : J} {replicas many : ℕ} {entries nodes : List Peer} (want : WantedOfRing) (current : List Heard) (node : Peer) (question : Ask) → judge ≡ other → replicas ≡ many → entries ≡ nodes
     → GetAsksNext (judges judge) replicas entries want current node question → GetAsksNext (judges other) many nodes want current node question
 next_as {J} judges {judge} {other} {replicas} {many} {entries} {nodes} want current node question j r e next =
     subst (λ (es : List Peer). GetAsksNext (judges other) many es want current node question) e
@@ -73,5 +73,5 @@ pub load_asks_next : {J : Type 0} (judges : Judges J) (judged : Key → List ℕ
 load_asks_next judges judged replicas entries key (get.Heads owner s) current node question fits h waits = absurd fits
 load_asks_next judges judged replicas entries key (get.Block s) current node question fits h waits =
     subst (λ (k : Key). GetAsksNext judged replicas entries (Content k) current node question) fits.0
-    (subst (λ (r : ℕ). GetAsksNext judged r entries (Content s.course.look.key) current node question) fits.1
+    (subst (λ (r : ℕ). GetAsksNext judged r entries (Content s.execution.look.key) current node question) fits.1
     (content_is_asked_next judged entries current s node question h waits))

@@ -14,11 +14,11 @@ use Rattle.dht_ids.specs.declared.ask.Heard.{Heard}
 use Rattle.dht_ids.specs.declared.judge.Judged.{Judged}
 use Rattle.dht_ids.specs.declared.peer.Peer.{Peer}
 use Rattle.dhash_model.specs.declared.miss.Miss.{Miss}
-use Rattle.dhash_model.specs.Course.{Told, result_of}
-use Rattle.dhash_model.specs.Course.IsCourse.{no_route, of_owners}
+use Rattle.dhash_model.specs.Execution.{Told, result_of}
+use Rattle.dhash_model.specs.Execution.IsExecution.{no_route, of_owners}
 use Rattle.dhash_model.specs.GetBlock.{IsGetOfBlock, block_in as block_answered}
 use Rattle.agent_model.specs.Standing.{Chain, Standing}
-use Rattle.session_model.specs.Brought.{Brought, BlockOf, HeadsOf, Part, Want, brought_in}
+use Rattle.session_model.specs.Brought.{Brought, BlockOf, HeadsOf, Part, WantedOfRing, brought_in}
 use Rattle.session_model.specs.Walks.{LogEnd, Misses, Stops, Tries, WalkEnd, Walks}
 use Rattle.session_model.specs.Walks.Walks.{came as all_came, wants as next_wanted, misses as one_misses, garbled as one_garbled, back as one_back}
 use Rattle.session_model.specs.Walks.Tries.{none as none_tried, wants as trial_wants, misses as trial_misses, gives as trial_gives, passes as trial_passes, garbled as trial_garbled}
@@ -51,7 +51,7 @@ got_ok e = (cc e, cc e)
 heads_or_block : {owner : PubKey} {came : Result (List Judged) Miss} {key : Key} {bytes : List ℕ} → HeadsOf owner came ≡ BlockOf key (Ok bytes) → ⊥
 heads_or_block e = cc e
 
-pub right_name : (judged : Key → List ℕ → Option Judged) (r : ℕ) (entries : List Peer) {want : Want} {asks : List Heard} {brought : Brought} (key : Key) (bytes : List ℕ) → Gets judged r entries want asks brought → brought ≡ BlockOf key (Ok bytes) → name bytes ≡ key
+pub right_name : (judged : Key → List ℕ → Option Judged) (r : ℕ) (entries : List Peer) {want : WantedOfRing} {asks : List Heard} {brought : Brought} (key : Key) (bytes : List ℕ) → Gets judged r entries want asks brought → brought ≡ BlockOf key (Ok bytes) → name bytes ≡ key
 right_name judged r entries key bytes (heads came get) e = absurd (heads_or_block e)
 right_name judged r entries {asks = asks} key bytes (content {key = other} came get) e = let g = got_ok e in of_result other r entries asks bytes came g.1 get ∙ g.0
 

@@ -31,7 +31,7 @@ module _ (rest : ℕ) where
   pub is_over : (gets then_left others : ℕ) → then_left ≤ rest + others → 0 < gets → then_left < rest + gets + others
   is_over gets then_left others less some = omega (arith, less, some)
 
-  -- or was none, since the block was at hand
+  -- or was none, since the block was available
   pub is_given : (then_left left : ℕ) → then_left ≤ rest + most_asks * (left - 1) → 0 < left → then_left < rest + most_asks * left
   is_given then_left left less some = let f = fewer_gets most_asks (left - 1) left some_asks (omega (arith, some)) in omega (arith, less, f)
 

@@ -9,9 +9,9 @@ use Rattle.dht_ids.specs.declared.peer.Peer.{Peer}
 use Rattle.dhash_model.specs.declared.miss.Miss.{Miss}
 use Rattle.dhash_client.specs.GetHead.{Judges}
 use Rattle.agent_model.specs.Standing.{Chain, Standing}
-use Rattle.session_model.specs.Brought.{Brought, Part, Want, Content, brought_in}
+use Rattle.session_model.specs.Brought.{Brought, Part, WantedOfRing, Content, brought_in}
 use Rattle.session_model.specs.Refreshing.{FetchesAll, Note, RefreshEnd, Needs, FailsBy, Done}
-use Rattle.session_laws.proofs.OneRefresh.{fetch_is_one}
+use Rattle.session_laws.proofs.OneRefresh.{fetch_is_deterministic}
 use Rattle.log_fetch.specs.declared.fetch.State.{State}
 use Rattle.log_fetch.specs.declared.fetch.State.TheVariants as state
 use Rattle.log_fetch.specs.declared.gather.Stage.{Stage}
@@ -33,7 +33,7 @@ ComesTo s start brought end = (notes : List Note) × (chains : List Chain) × Fe
 
 -- whatever end it has, it is one
 pub one_end : (s : Standing) (start : Vector) (brought : List Brought) (end other : RefreshEnd) → ComesTo s start brought end → ComesTo s start brought other → end ≡ other
-one_end s start brought end other a b = (fetch_is_one s start s.view.members brought a.0 b.0 a.1 b.1 end other a.2 b.2).2
+one_end s start brought end other a b = (fetch_is_deterministic s start s.view.members brought a.0 b.0 a.1 b.1 end other a.2 b.2).2
 
 -- ---- it hasn't failed
 
@@ -121,7 +121,7 @@ block_lacks None (Some other) key some e = cc e
 
 get_lacks : {J : Type 0} (judge : J) (replicas : ℕ) (at : Stage) (x : Get J) → IsFor judge replicas at x → end_for (heads_wanted at) (block_wanted at) ≡ Done → ⊥
 get_lacks judge replicas at (get.Heads owner s) fits e = heads_lack (heads_wanted at) (block_wanted at) owner fits.0 e
-get_lacks judge replicas at (get.Block s) fits e = block_lacks (heads_wanted at) (block_wanted at) s.course.look.key fits.0 e
+get_lacks judge replicas at (get.Block s) fits e = block_lacks (heads_wanted at) (block_wanted at) s.execution.look.key fits.0 e
 
 pub waits_or_done : {J : Type 0} (judge : J) (replicas : ℕ) (st : State J) (x : Peer × Ask) → IsSound judge replicas st → awaited_in st ≡ Some x → end_in st ≡ Done → ⊥
 waits_or_done judge replicas (state.Free g) x sound waits e = some_or_none x (sym waits)
@@ -129,7 +129,7 @@ waits_or_done judge replicas (state.Asking g w) x sound waits e = get_lacks judg
 waits_or_done judge replicas (state.Ended fetched) x sound waits e = some_or_none x (sym waits)
 waits_or_done judge replicas state.Over x sound waits e = some_or_none x (sym waits)
 
-pub there_is_aim : {J : Type 0} (st : State J) (x : Peer × Ask) → awaited_in st ≡ Some x → (want : Want) × (aim_in st ≡ Some want)
+pub there_is_aim : {J : Type 0} (st : State J) (x : Peer × Ask) → awaited_in st ≡ Some x → (want : WantedOfRing) × (aim_in st ≡ Some want)
 there_is_aim (state.Free g) x waits = absurd (some_or_none x (sym waits))
 there_is_aim (state.Asking g w) x waits = (aim w.get, refl)
 there_is_aim (state.Ended fetched) x waits = absurd (some_or_none x (sym waits))

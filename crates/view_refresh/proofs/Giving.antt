@@ -21,7 +21,7 @@ use Rattle.log_fetch.specs.Fetching.{Fetching, FetchWasGiven, fetch_awaited, fet
 use Rattle.view_refresh.specs.declared.refresh.Loading.{Loading}
 use Rattle.view_refresh.specs.declared.refresh.State.{State}
 use Rattle.view_refresh.specs.declared.refresh.State.TheVariants as state
-use Rattle.view_refresh.specs.States.{IsSound, IsUnderWay, Refreshing, left_in, loads_in, wanted_in}
+use Rattle.view_refresh.specs.States.{IsSound, IsInProgress, Refreshing, left_in, loads_in, wanted_in}
 use Rattle.view_refresh.specs.Behind.{IsFetchingOver}
 use Rattle.view_refresh.specs.Parts.{AreNamed, AreOfOneMore, FetchGivesNext, GivesNext, IsFree, LoadTakesNext}
 use Rattle.view_refresh.proofs.Falling.{is_given, some_to_load}
@@ -33,7 +33,7 @@ same_some x y e = cc e
 -- ---- the snapshot
 
 module _ {J : Type 0} (judges : Judges J) (r : Refreshing J) where
-  pub load_gives : (l : Loading) → IsUnderWay l → (bytes : List ℕ) → (new : State J) → IsFree judges r.judge r.replicas r.entries (most_left + most_asks * (load_left l.load - 1)) (AreOfOneMore l (Ok bytes)) new
+  pub load_gives : (l : Loading) → IsInProgress l → (bytes : List ℕ) → (new : State J) → IsFree judges r.judge r.replicas r.entries (most_left + most_asks * (load_left l.load - 1)) (AreOfOneMore l (Ok bytes)) new
       → GivesNext judges r (state.Loading l) bytes new
   load_gives l wants bytes new free = (
     (
@@ -55,7 +55,7 @@ module _ {J : Type 0} (judges : Judges J) (r : Refreshing J) where
     IsFreeBehind block = IsFree judges r.judge r.replicas r.entries (most_left + most_asks * (load_left l.load - 1)) (AreOfOneMore l (Ok block))
 
     -- of which a copy was given
-    pub load_gives_copy : IsUnderWay l → (given : Result (State J) Memory) → IfOk given (IsFreeBehind copy) → IfOk given (GivesNext judges r (state.Loading l) bytes)
+    pub load_gives_copy : IsInProgress l → (given : Result (State J) Memory) → IfOk given (IsFreeBehind copy) → IfOk given (GivesNext judges r (state.Loading l) bytes)
     load_gives_copy wants (Ok new) free = load_gives l wants bytes new (subst (λ (b : List ℕ). IsFreeBehind b new) same free)
     load_gives_copy wants (Err lacks) free = tt
 

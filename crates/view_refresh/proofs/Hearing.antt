@@ -12,7 +12,7 @@ use Rattle.dhash_model.specs.declared.miss.Miss.{Miss}
 use Rattle.dhash_client.specs.GetHead.{Judges}
 use Rattle.fs_tree.specs.declared.basis.Basis.{Basis as Kept}
 use Rattle.agent_model.specs.Standing.{Standing}
-use Rattle.session_model.specs.Brought.{BlockOf, Content, Part, Want}
+use Rattle.session_model.specs.Brought.{BlockOf, Content, Part, WantedOfRing}
 use Rattle.session_model.specs.Refreshing.{Needs, counting, start_of}
 use Rattle.session_model.specs.Sessions.{Gets}
 use Rattle.snapshot_loading.specs.Loading.{load_left, wanted_of}
@@ -57,7 +57,7 @@ module _ {J : Type 0} (judges : Judges J) (replicas : ℕ) (entries : List Peer)
   pub block_came : (judged : Key → List ℕ → Option Judged) (x : Get J) (given : Result (List ℕ) Miss) (asks : List Heard) → IsGetOf replicas entries key x → HasCame judges entries asks x (came.Block given) → Gets judged replicas entries (Content key) asks (BlockOf key given)
   block_came judged (get.Heads owner s) given asks of h = absurd of
   block_came judged (get.Block s) given asks of h =
-      subst (λ (k : Key). Gets judged replicas entries (Content k) asks (BlockOf k given)) of.0 (subst (λ (n : ℕ). Gets judged n entries (Content s.course.look.key) asks (BlockOf s.course.look.key given)) of.1 (h judged))
+      subst (λ (k : Key). Gets judged replicas entries (Content k) asks (BlockOf k given)) of.0 (subst (λ (n : ℕ). Gets judged n entries (Content s.execution.look.key) asks (BlockOf s.execution.look.key given)) of.1 (h judged))
 
   -- and no heads
   pub no_heads_come : (x : Get J) (answer : Answer) (given : Result (List Judged) Miss) → IsGetOf replicas entries key x → HearsTo judges x answer (progress.Comes (came.Heads given)) → ⊥
@@ -167,7 +167,7 @@ module _ {J : Type 0} (judges : Judges J) (r : Refreshing J) where
       abbrev asks : List Heard
       asks = current ++ told node question answer
 
-      goes_so : r.pending ≡ s.pending → (want : Want) → GetGoesOn judges s (start_of s (counting s.floor over.whole)) over.fetched asks want new back → GoesOn judges s parts asks want (in_state r (state.Fetching basis new)) back
+      goes_so : r.pending ≡ s.pending → (want : WantedOfRing) → GetGoesOn judges s (start_of s (counting s.floor over.whole)) over.fetched asks want new back → GoesOn judges s parts asks want (in_state r (state.Fetching basis new)) back
       goes_so pending want on =
           let start = start_of s (counting s.floor over.whole) in
           let x = there_is (fetch_awaited new) on.1 in
@@ -185,7 +185,7 @@ module _ {J : Type 0} (judges : Judges J) (r : Refreshing J) where
             none = on.3;
           }
 
-      over_so : r.pending ≡ s.pending → (want : Want) → GetIsOver judges s (start_of s (counting s.floor over.whole)) over.fetched asks want old new back → IsOver judges s parts asks want (in_state r (state.Fetching basis new)) back
+      over_so : r.pending ≡ s.pending → (want : WantedOfRing) → GetIsOver judges s (start_of s (counting s.floor over.whole)) over.fetched asks want old new back → IsOver judges s parts asks want (in_state r (state.Fetching basis new)) back
       over_so pending want o =
           let p : Part = record { brought = o.0; asks = asks } in
           record {

@@ -13,10 +13,10 @@ use Rattle.ring_model.specs.Lookup.{IsLookup}
 use Rattle.ring_model.specs.Lookup.IsLookup.{over, spent, known, silent, answered}
 use Rattle.dhash_model.specs.declared.miss.Miss.TheVariants as miss
 use Rattle.dhash_model.specs.declared.miss.Miss.{Miss}
-use Rattle.dhash_model.specs.Course.{Told, IsCourse, told_all, outcome}
-use Rattle.dhash_model.specs.Course.IsCourse.{no_route, of_owners}
+use Rattle.dhash_model.specs.Execution.{Told, IsExecution, told_all, outcome}
+use Rattle.dhash_model.specs.Execution.IsExecution.{no_route, of_owners}
 use Rattle.session_model.specs.Asking.{AsksNext}
-use Rattle.session_model.specs.Brought.{Brought, BlockOf, HeadsOf, Want}
+use Rattle.session_model.specs.Brought.{Brought, BlockOf, HeadsOf, WantedOfRing}
 use Rattle.session_model.specs.Sessions.{Gets, IsGet, wanted_key}
 use Rattle.session_model.specs.Sessions.Gets.{heads, content}
 use Rattle.view_refresh.proofs.Bringing.{IsMissed}
@@ -32,7 +32,7 @@ none_looked : (looks : Told) → routes looks ≡ [] → looks ≡ []
 none_looked [] e = refl
 none_looked (l ∷ looks) e = cc e
 
--- of a course that nobody is known for
+-- of an execution that nobody is known for
 pub record Nobody {T : Type 0} (trail : List Heard) (result : Result T Miss) : Type 0 where
   pub none : trail ≡ []
   pub why : Miss
@@ -41,7 +41,7 @@ pub record Nobody {T : Type 0} (trail : List Heard) (result : Result T Miss) : T
 found_or_none : (key : Key) (owners : List Peer) → outcome key None ≡ Ok owners → ⊥
 found_or_none key owners e = cc e
 
-pub nobody_asked : {T : Type 0} (key : Key) (question : Ask) (Ends : List Peer → Told → Result T Miss → Type 0) (trail : List Heard) (result : Result T Miss) → IsCourse key question [] Ends trail result → Nobody trail result
+pub nobody_asked : {T : Type 0} (key : Key) (question : Ask) (Ends : List Peer → Told → Result T Miss → Type 0) (trail : List Heard) (result : Result T Miss) → IsExecution key question [] Ends trail result → Nobody trail result
 nobody_asked key question Ends trail result (no_route looks found is looked nobody missed) = record {
   none = is ∙ ap (told_all (ask.Route key)) (none_looked looks (look_nobody looked refl).0);
   why = miss.NoRoute key;
@@ -49,7 +49,7 @@ nobody_asked key question Ends trail result (no_route looks found is looked nobo
 }
 nobody_asked key question Ends trail result (of_owners looks asks found owners is looked some ends) = absurd (found_or_none key owners (ap (outcome key) (sym (look_nobody looked refl).1) ∙ some))
 
-pub gets_nobody : (judged : Key → List ℕ → Option Judged) (r : ℕ) {want : Want} {asks : List Heard} {brought : Brought} → Gets judged r [] want asks brought → (asks ≡ []) × IsMissed brought
+pub gets_nobody : (judged : Key → List ℕ → Option Judged) (r : ℕ) {want : WantedOfRing} {asks : List Heard} {brought : Brought} → Gets judged r [] want asks brought → (asks ≡ []) × IsMissed brought
 gets_nobody judged r {asks = asks} (heads {owner} came get) = let n = nobody_asked _ _ _ asks came get in (n.none, subst (λ x. IsMissed (HeadsOf owner x)) (sym n.missed) tt)
 gets_nobody judged r {asks = asks} (content {key} came get) = let n = nobody_asked _ _ _ asks came get in (n.none, subst (λ x. IsMissed (BlockOf key x)) (sym n.missed) tt)
 
@@ -73,7 +73,7 @@ asks_nobody key own Whole trail node question tells none next = by next.is_of
     by : (question ≡ ask.Route key) ⊎ (question ≡ own) → ⊥
     by is = ⊎_elim (λ e. subst TellsOne (sym e) (route_told key) node next.answer trail next.more (none _ next.whole)) (λ e. subst TellsOne (sym e) tells node next.answer trail next.more (none _ next.whole)) is
 
-pub get_asks_somebody : (judged : Key → List ℕ → Option Judged) (r : ℕ) (want : Want) (entries : List Peer) (trail : List Heard) (node : Peer) (question : Ask) → AsksNext (wanted_key want) (ask.Get (wanted_key want)) (IsGet judged r entries want) trail node question
+pub get_asks_somebody : (judged : Key → List ℕ → Option Judged) (r : ℕ) (want : WantedOfRing) (entries : List Peer) (trail : List Heard) (node : Peer) (question : Ask) → AsksNext (wanted_key want) (ask.Get (wanted_key want)) (IsGet judged r entries want) trail node question
     → entries ≡ [] → ⊥
 get_asks_somebody judged r want entries trail node question next e =
     asks_nobody (wanted_key want) (ask.Get (wanted_key want)) (IsGet judged r [] want) trail node question (get_told (wanted_key want)) (λ asks whole. (gets_nobody judged r whole.1).0)

@@ -1,4 +1,4 @@
--- How a refresh stands by what it was brought: the snapshot's part, and the logs' behind it.
+-- How a refresh stands by what it was brought: the snapshot's part, and the logs' after it.
 use Rattle.std.proofs.Common.{◌≡◌, List, [], ◌∷◌, ◌++◌, Option, Some, None, sym, ap, ◌∙◌, subst}
 use Rattle.std.proofs.lemmas.List.{append_assoc, map-append}
 use Rattle.ivy_base.specs.declared.key.Key.{Key}
@@ -13,7 +13,7 @@ use Rattle.session_model.specs.Refreshing.Refreshes.{loading, fetching}
 use Rattle.snapshot_loading.specs.Loading.{ComesTo as LoadComesTo, wanted_of}
 use Rattle.log_fetch.specs.Fetching.{Fetching}
 use Rattle.view_refresh.specs.declared.refresh.Loading.{Loading}
-use Rattle.view_refresh.specs.States.{IsUnderWay}
+use Rattle.view_refresh.specs.States.{IsInProgress}
 use Rattle.view_refresh.specs.Behind.{IsFetchingOver, IsLoadingFor}
 use Rattle.view_refresh.specs.Steps.{Stands}
 use Rattle.view_refresh.proofs.Fetches.{ComesTo}
@@ -30,7 +30,7 @@ module _ (s : Standing) (parts : List Part) (l : Loading) (h : IsLoadingFor s pa
   pub loads_so : (end : LoadEnd) → LoadComesTo l.load end → LoadsFor s.to_load (brought_in parts) end
   loads_so end comes = subst (λ (o : Option Key). LoadsFor o (brought_in parts) end) (sym h.root) (subst (λ (b : List Brought). LoadsFor (Some l.load.root) b end) (sym h.brought) comes)
 
-  pub load_stands : IsUnderWay l → (key : Key) → wanted_of l.load ≡ Some key → Stands s parts (Needs (Content key))
+  pub load_stands : IsInProgress l → (key : Key) → wanted_of l.load ≡ Some key → Stands s parts (Needs (Content key))
   load_stands w key e = record {
     notes = [];
     given = record { started = s.held; chains = []; basis = None };
@@ -39,7 +39,7 @@ module _ (s : Standing) (parts : List Part) (l : Loading) (h : IsLoadingFor s pa
 
 -- ---- the logs
 
--- what is given behind that snapshot, with these chains
+-- what is given after that snapshot, with these chains
 abbrev pub given_over : Standing → Option Basis → List Chain → Refresh
 given_over s whole chains = record { started = start_of s (counting s.floor whole); chains = chains; basis = counting s.floor whole }
 

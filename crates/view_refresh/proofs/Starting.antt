@@ -30,7 +30,7 @@ use Rattle.log_fetch.specs.Standings.{standing_of}
 use Rattle.view_refresh.specs.declared.refresh.Loading.{Loading}
 use Rattle.view_refresh.specs.declared.refresh.State.{State}
 use Rattle.view_refresh.specs.declared.refresh.State.TheVariants as state
-use Rattle.view_refresh.specs.States.{IsUnderWay, left_in, loads_in}
+use Rattle.view_refresh.specs.States.{IsInProgress, left_in, loads_in}
 use Rattle.view_refresh.specs.Behind.{IsFetchingOver, IsLoadingFor}
 use Rattle.view_refresh.specs.Parts.{AreFirst, AreLoaded, AreOfLoad, AreOfOneMore, IsFree, IsStandingOf, IsStarted, held_over}
 use Rattle.view_refresh.proofs.Bringing.{brought_more, never_missed}
@@ -132,7 +132,7 @@ module _ {J : Type 0} (judges : Judges J) (judge : J) (replicas : ℕ) (entries 
   -- ---- with the snapshot
 
   -- which wants a block
-  pub load_is_free : (l : Loading) → IsUnderWay l → IsFree judges judge replicas entries (left_in {J = J} (state.Loading l)) (AreOfLoad l) (state.Loading l)
+  pub load_is_free : (l : Loading) → IsInProgress l → IsFree judges judge replicas entries (left_in {J = J} (state.Loading l)) (AreOfLoad l) (state.Loading l)
   load_is_free l w = record { sound = w; free = refl; unfailed = refl; left = no_more (left_in {J = J} (state.Loading l)); at = λ s parts are. (are, refl) }
 
   -- which wants no more

@@ -14,7 +14,7 @@ use Rattle.fs_tree.specs.Bases.{basis_of}
 use Rattle.fs_tree.specs.declared.basis.Basis.{Basis as Kept}
 use Rattle.log_records.specs.Batches.{Batch}
 use Rattle.agent_model.specs.Standing.{Chain, Standing, chain_of}
-use Rattle.session_model.specs.Brought.{Brought, Part, Want, Content, brought_in}
+use Rattle.session_model.specs.Brought.{Brought, Part, WantedOfRing, Content, brought_in}
 use Rattle.session_model.specs.Refreshing.{Done, FailsBy, Needs, RefreshEnd, Refreshes, counting, start_of}
 use Rattle.session_model.specs.Sessions.{Gets}
 use Rattle.snapshot_loading.specs.Loading.{load_left}
@@ -28,7 +28,7 @@ use Rattle.view_refresh.specs.declared.refresh.Loading.{Loading}
 use Rattle.view_refresh.specs.declared.refresh.Refreshed.{Refreshed}
 use Rattle.view_refresh.specs.declared.refresh.State.{State}
 use Rattle.view_refresh.specs.declared.refresh.State.TheVariants as state
-use Rattle.view_refresh.specs.States.{IsForLoad, IsSound, IsUnderWay, Refreshing, left_in}
+use Rattle.view_refresh.specs.States.{IsForLoad, IsSound, IsInProgress, Refreshing, left_in}
 use Rattle.view_refresh.specs.Behind.{IsFetchingOver, RefreshIsAfter}
 use Rattle.view_refresh.specs.Steps.{AsksFor, Brings, Ends, Fails, HasNoRoute}
 use Rattle.view_refresh.specs.Parts.{BeginsGet, GivesMiss, WantsNext, in_state, refreshed_over, result_over}
@@ -48,7 +48,7 @@ no_more n = omega arith
 at_least : (n : ℕ) → 0 ≤ n
 at_least n = omega arith
 
-needs_or_fails : (want : Want) (miss : Miss) → Needs want ≡ FailsBy miss → ⊥
+needs_or_fails : (want : WantedOfRing) (miss : Miss) → Needs want ≡ FailsBy miss → ⊥
 needs_or_fails want miss e = cc e
 
 done_or_fails : (miss : Miss) → Done ≡ FailsBy miss → ⊥
@@ -87,7 +87,7 @@ module _ {J : Type 0} (judges : Judges J) (r : Refreshing J) where
   )
 
   -- the first of one that begins
-  module _ (l : Loading) (wants : IsUnderWay l) where
+  module _ (l : Loading) (wants : IsInProgress l) where
     pub wants_first : (x : Waiting J) → BeginsGet judges r.replicas r.entries wants.key (progress.Waits x) → WantsNext judges r (state.Loading l) (state.Asking l x, next.Ask x.node x.question)
     wants_first x begun =
         let sound : IsForLoad r.replicas r.entries l x = record { wants = wants; is_get = begun.0; kept = begun.2 } in (
@@ -183,7 +183,7 @@ module _ {J : Type 0} (judges : Judges J) (r : Refreshing J) where
               batch = record { floor = e.3.3; under = e.3.5; members = e.3.6 };
             }
 
-        abbrev needed_by : Want → Type 0
+        abbrev needed_by : WantedOfRing → Type 0
         needed_by want = ComesTo s start (brought_in over.fetched) (Needs want)
 
         -- ---- it hasn't failed
@@ -198,7 +198,7 @@ module _ {J : Type 0} (judges : Judges J) (r : Refreshing J) where
           of_parts Done e = (brings_so e, one_end s start (brought_in over.fetched) (end_in old.state) Done end_here (e.0, e.1, e.2))
 
           -- with a part that nobody brings
-          with_nobody : (want : Want) (part : Part) → needed_by want → Gets (judges old.judge) old.replicas [] want [] part.brought → old.entries ≡ [] → (end : RefreshEnd) → So (brought_in (over.fetched ++ part ∷ [])) end → HasNoRoute r.entries s parts given
+          with_nobody : (want : WantedOfRing) (part : Part) → needed_by want → Gets (judges old.judge) old.replicas [] want [] part.brought → old.entries ≡ [] → (end : RefreshEnd) → So (brought_in (over.fetched ++ part ∷ [])) end → HasNoRoute r.entries s parts given
           with_nobody want part needed got none (Needs more) e = absurd e.3
           with_nobody want part needed got none (FailsBy miss) e = record {
             none = sym sound.2 ∙ none;

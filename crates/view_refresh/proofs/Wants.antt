@@ -6,7 +6,7 @@ use Rattle.dhash_client.specs.GetHead.{Judges}
 use Rattle.agent_model.specs.Standing.{Standing}
 use Rattle.session_model.specs.Brought.{Content, Part, brought_in}
 use Rattle.session_model.specs.Refreshing.{Needs, RefreshEnd, counting, start_of}
-use Rattle.session_laws.proofs.OneRefresh.{refresh_is_one}
+use Rattle.session_laws.proofs.OneRefresh.{refresh_is_deterministic}
 use Rattle.view_refresh.specs.declared.refresh.State.{State}
 use Rattle.view_refresh.specs.declared.refresh.State.TheVariants as state
 use Rattle.view_refresh.specs.States.{Refreshing, IsSound, awaited_in, failed_in, wanted_in}
@@ -25,7 +25,7 @@ some_or_none x e = cc e
 
 module _ {J : Type 0} (judges : Judges J) (r : Refreshing J) (s : Standing) (parts : List Part) (current : List Heard) (key : Key) (needs : Stands s parts (Needs (Content key))) where
   one_stand : (end : RefreshEnd) → Stands s parts end → end ≡ Needs (Content key)
-  one_stand end h = (refresh_is_one s (brought_in parts) h.notes needs.notes h.given needs.given end (Needs (Content key)) h.refreshes needs.refreshes).2
+  one_stand end h = (refresh_is_deterministic s (brought_in parts) h.notes needs.notes h.given needs.given end (Needs (Content key)) h.refreshes needs.refreshes).2
 
   wants_in : (st : State J) → IsAt judges r.entries s parts current st → IsSound r.judge r.replicas r.entries st → awaited_in st ≡ None → failed_in st ≡ false → wanted_in st ≡ Some key
   wants_in (state.Loading l) at wants free un =

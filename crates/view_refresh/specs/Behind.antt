@@ -1,4 +1,4 @@
--- Behind which parts of a trail a refresh in code may be so.
+-- After which parts of a trail a refresh in code may be so.
 use Rattle.std.specs.Prelude.{◌≡◌, List, [], ◌++◌, Option, Some, None, option_map}
 use Rattle.dht_ids.specs.declared.ask.Heard.{Heard}
 use Rattle.dht_ids.specs.declared.peer.Peer.{Peer}
@@ -24,7 +24,7 @@ pub record IsLoadingFor (s : Standing) (parts : List Part) (l : Loading) : Type 
   pub standing : standing_of l.standing ≡ record s { to_load = None; pending = [] }
   pub brought : brought_in parts ≡ brought_to l.load
 
--- The logs are fetched behind what was loaded, over the basis that counts.
+-- The logs are fetched after what was loaded, over the basis that counts.
 pub record IsFetchingOver {J : Type 0} (judges : Judges J) (s : Standing) (parts : List Part) (current : List Heard) (basis : Option Kept)
     (f : Fetching J) : Type 0 where
   pub loaded : List Part
@@ -41,7 +41,7 @@ IsAt judges entries s parts current (state.Asking l x) = IsLoadingFor s parts l 
 IsAt judges entries s parts current (state.Fetching basis f) = IsFetchingOver judges s parts current basis f
 IsAt judges entries s parts current state.Over = ⊥
 
--- It may be so, of a refresh for that standing, behind these parts and the asks of the get on its way.
+-- It may be so, of a refresh for that standing, after these parts and the asks of the get on its way.
 pub record RefreshIsAfter {J : Type 0} (judges : Judges J) (s : Standing) (parts : List Part) (current : List Heard)
     (r : Refreshing J) : Type 0 where
   pub pending : r.pending ≡ s.pending

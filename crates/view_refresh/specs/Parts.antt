@@ -38,7 +38,7 @@ use Rattle.view_refresh.specs.Steps.{RefreshHasHeard, RefreshIsWanted, RefreshWa
 
 -- ---- it comes to a state
 
--- In that state it waits for no node and hasn't failed, at most so much is left of it, and it may be behind such parts.
+-- In that state it waits for no node and hasn't failed, at most so much is left of it, and it may be after such parts.
 pub record IsFree {J : Type 0} (judges : Judges J) (judge : J) (replicas : ℕ) (entries : List Peer) (most : ℕ)
     (AreBehind : agent.Standing → List Part → Type 0) (st : State J) : Type 0 where
   pub sound : IsSound judge replicas entries st

@@ -20,7 +20,7 @@ use Rattle.view_refresh.specs.declared.refresh.Loading.{Loading}
 use Rattle.view_refresh.specs.declared.refresh.State.{State}
 use Rattle.view_refresh.specs.declared.refresh.State.TheVariants as state
 
--- by which judge, from how many owners and from which nodes on it gets, which posts are at hand, and how far it is
+-- by which judge, from how many owners and from which nodes on it gets, which posts are available, and how far it is
 pub record Refreshing (J : Type 0) : Type 0 where
   pub judge : J
   pub replicas : ℕ
@@ -95,22 +95,22 @@ most_refresh = most_left + most_asks * most_of Root + 1
 abbrev pub IsGetOf : {J : Type 0} → ℕ → List Peer → Key → Get J → Type 0
 IsGetOf replicas entries key (get.Heads owner s) = ⊥
 IsGetOf replicas entries key (get.Block s) =
-    (s.course.look.key ≡ key) × (s.course.replicas ≡ replicas) × (trail : List Heard) × BlockIsAfter entries trail s
+    (s.execution.look.key ≡ key) × (s.execution.replicas ≡ replicas) × (trail : List Heard) × BlockIsAfter entries trail s
 
 -- the snapshot wants that block next, by what was brought of it
-pub record IsUnderWay (l : Loading) : Type 0 where
+pub record IsInProgress (l : Loading) : Type 0 where
   pub key : Key
   pub wanted : wanted_of l.load ≡ Some key
   pub comes : ComesTo l.load (LoadWants key)
 
 -- the get is of the block that the snapshot wants, and its ask is kept
 pub record IsForLoad {J : Type 0} (replicas : ℕ) (entries : List Peer) (l : Loading) (x : Waiting J) : Type 0 where
-  pub wants : IsUnderWay l
+  pub wants : IsInProgress l
   pub is_get : IsGetOf replicas entries wants.key x.get
   pub kept : IsKept x
 
 abbrev pub IsSound : {J : Type 0} → J → ℕ → List Peer → State J → Type 0
-IsSound judge replicas entries (state.Loading l) = IsUnderWay l
+IsSound judge replicas entries (state.Loading l) = IsInProgress l
 IsSound judge replicas entries (state.Asking l x) = IsForLoad replicas entries l x
 IsSound judge replicas entries (state.Fetching basis f) = (f.judge ≡ judge) × (f.replicas ≡ replicas) × (f.entries ≡ entries)
 IsSound judge replicas entries state.Over = Unit {0}

@@ -16,7 +16,7 @@ use Rattle.dhash_client.specs.GetHead.{Judges}
 use Rattle.log_records.specs.Batches.{Batch, AreUnder, owners_in}
 use Rattle.agent_model.specs.Standing as agent
 use Rattle.session_model.specs.Asking.{AsksNext}
-use Rattle.session_model.specs.Brought.{Brought, BlockOf, Part, Want, Content, brought_in}
+use Rattle.session_model.specs.Brought.{Brought, BlockOf, Part, WantedOfRing, Content, brought_in}
 use Rattle.session_model.specs.Refreshing.{Note, RefreshEnd, Needs, FailsBy, Done, Refreshes}
 use Rattle.session_model.specs.Sessions.{Gets, IsGet, pending_block, wanted_key}
 use Rattle.log_fetch.specs.declared.refresh.Refresh.{Refresh}
@@ -38,7 +38,7 @@ pub record Stands (s : agent.Standing) (parts : List Part) (end : RefreshEnd) : 
 -- The refresh asks that node next, for what is wanted.
 pub record AsksFor (judged : Key → List ℕ → Option Judged) (replicas : ℕ) (entries : List Peer) (s : agent.Standing) (parts : List Part)
     (current : List Heard) (node : Peer) (question : Ask) : Type 0 where
-  pub want : Want
+  pub want : WantedOfRing
   pub needed : Stands s parts (Needs want)
   pub next : AsksNext (wanted_key want) (ask.Get (wanted_key want)) (IsGet judged replicas entries want) current node question
 
@@ -71,7 +71,7 @@ pub record Fails (s : agent.Standing) (parts : List Part) (given : Refreshed) : 
 -- nobody is known to ask for what is wanted
 pub record HasNoRoute (entries : List Peer) (s : agent.Standing) (parts : List Part) (given : Refreshed) : Type 0 where
   pub none : entries ≡ []
-  pub want : Want
+  pub want : WantedOfRing
   pub needed : Stands s parts (Needs want)
   pub miss : Miss
   pub missed : given.result ≡ Err miss
@@ -93,8 +93,8 @@ RefreshIsWanted judges old new (next.Done given) =
 
 -- ---- it hears
 
--- the get goes on, behind these asks, which are no whole one
-pub record GoesOn {J : Type 0} (judges : Judges J) (s : agent.Standing) (parts : List Part) (asks : List Heard) (want : Want)
+-- the get goes on, after these asks, which are no whole one
+pub record GoesOn {J : Type 0} (judges : Judges J) (s : agent.Standing) (parts : List Part) (asks : List Heard) (want : WantedOfRing)
     (new : Refreshing J) (given : Option (Key × List ℕ)) : Type 0 where
   pub waits : refresh_awaited new ≢ None
   pub unfailed : has_failed new ≡ false
@@ -103,7 +103,7 @@ pub record GoesOn {J : Type 0} (judges : Judges J) (s : agent.Standing) (parts :
   pub none : given ≡ None
 
 -- these asks are a whole get, which is the next part; a block that it brought is given back
-pub record IsOver {J : Type 0} (judges : Judges J) (s : agent.Standing) (parts : List Part) (asks : List Heard) (want : Want)
+pub record IsOver {J : Type 0} (judges : Judges J) (s : agent.Standing) (parts : List Part) (asks : List Heard) (want : WantedOfRing)
     (new : Refreshing J) (given : Option (Key × List ℕ)) : Type 0 where
   pub brought : Brought
   pub gets : Gets (judges new.judge) new.replicas new.entries want asks brought

@@ -14,7 +14,7 @@ ghost use Rattle.log_fetch.specs.Stepping.{BroughtNothing};
 ghost use Rattle.session_model.specs.Refreshing.{counting};
 ghost use Rattle.snapshot_loading.specs.Loading.{begun, load_left, most_of, wanted_of};
 ghost use Rattle.view_refresh.specs.Behind.{RefreshIsAfter};
-ghost use Rattle.view_refresh.specs.States.{IsForLoad, IsSound, IsUnderWay, awaited_in, failed_in, has_failed, is_loading, left_in, loads_in, most_refresh, refresh_awaited, refresh_left, refresh_wanted, wanted_in};
+ghost use Rattle.view_refresh.specs.States.{IsForLoad, IsSound, IsInProgress, awaited_in, failed_in, has_failed, is_loading, left_in, loads_in, most_refresh, refresh_awaited, refresh_left, refresh_wanted, wanted_in};
 ghost use Rattle.view_refresh.specs.Steps.{TakesPending, RefreshHasHeard, RefreshIsWanted, RefreshStands, RefreshWants, RefreshWasGiven};
 ghost use Rattle.view_refresh.specs.Parts.{AreFirst, AreLoaded, AreNamed, AreOfLoad, AreOfOneMore, BeginsGet, BeginsWanted, FetchGivesNext, FetchHearsNext, FetchWantsNext, GivesMiss, GivesNext, HearsNext, IsFree, IsStarted, LoadTakesNext, TakesNext, WantsNext, held_over, refreshed_over};
 
@@ -79,7 +79,7 @@ pub(crate) enum State<J: Judge> {
 }
 
 /// The refresh of a view. Contracts see by which judge, from how many owners and from which nodes on it gets, which posts are
-/// at hand, and how far it is.
+/// available, and how far it is.
 pub struct ViewRefresh<J: Judge> {
     alloc: Global,
     judge: J,
@@ -115,7 +115,7 @@ impl<J: Judge> Model for ViewRefresh<J> {
 
 impl<J: Judge> ViewRefresh<J> {
     /// The refresh for that standing: its gets begin their look-ups at these nodes, and are content with that many answers. Where
-    /// there is a snapshot to load, each block that is pending has its name. The error is want of memory.
+    /// there is a snapshot to load, each block that is pending has its name. The error is: out of memory.
     pub fn start(
         alloc: Global,
         judge: J,
@@ -163,7 +163,7 @@ impl<J: Judge> ViewRefresh<J> {
         failed_in(&self.state)
     }
 
-    /// Takes the block that is to be got next, where it is pending, and says whether it is. The error is want of memory; the
+    /// Takes the block that is to be got next, where it is pending, and says whether it is. The error is: out of memory; the
     /// refresh isn't used then any more.
     pub fn take_pending(&mut self) -> Result<bool, Memory>
         ensures taken { IfOk result (TakesPending J.judges self.old self.new) }
@@ -175,8 +175,8 @@ impl<J: Judge> ViewRefresh<J> {
         Ok(taken)
     }
 
-    /// Takes the block that is to be got next, which was at hand. While a snapshot is loaded it has its name; else its bytes
-    /// are not tested. The error is want of memory; the refresh isn't used then any more.
+    /// Takes the block that is to be got next, which was available. While a snapshot is loaded it has its name; else its
+    /// bytes are not tested. The error is: out of memory; the refresh isn't used then any more.
     pub fn give(&mut self, bytes: &[u8]) -> Result<(), Memory>
         requires wanted { refresh_wanted self.old ≢ None }
         requires named { is_loading self.old ≡ true → refresh_wanted self.old ≡ Some (name bytes.now) }
@@ -190,7 +190,7 @@ impl<J: Judge> ViewRefresh<J> {
     }
 
     /// What the refresh wants next: an ask, or nothing more, since it has its result. An ask that wasn't yet heard is wanted
-    /// again. The error is want of memory; after it, and after the result, the refresh isn't used any more.
+    /// again. The error is: out of memory; after it, and after the result, the refresh isn't used any more.
     pub fn next(&mut self) -> Result<Want<Refreshed>, Memory>
         ensures wanted { IfOk result (RefreshIsWanted J.judges self.old self.new) }
         ensures left { IfOk result (λ _. refresh_left self.new ≤ refresh_left self.old) }
@@ -202,7 +202,7 @@ impl<J: Judge> ViewRefresh<J> {
     }
 
     /// Hears what the node answered that was asked last, and takes what the get brought, where it is over with that: a block
-    /// is handed out with its name. It is called once after each ask. The error is want of memory; the refresh isn't used then
+    /// is handed out with its name. It is called once after each ask. The error is: out of memory; the refresh isn't used then
     /// any more.
     pub fn heard(&mut self, answer: Answer) -> Result<Option<(Key, Bytes)>, Memory>
         requires { refresh_awaited self.old ≢ None }
@@ -216,7 +216,7 @@ impl<J: Judge> ViewRefresh<J> {
     }
 
     /// Gives the block that is wanted in that state, where it is pending: how the refresh then stands, and whether it is. The
-    /// error is want of memory.
+    /// error is: out of memory.
     fn give_pending(&self, state: State<J>) -> Result<(State<J>, bool), Memory>
         requires sound { IsSound self.now.judge self.now.replicas self.now.entries state }
         requires named { AreNamed state self.now.pending }
@@ -231,7 +231,7 @@ impl<J: Judge> ViewRefresh<J> {
         }
     }
 
-    /// Gives the block in that state: how the refresh then stands. The error is want of memory.
+    /// Gives the block in that state: how the refresh then stands. The error is: out of memory.
     fn give_to(&self, state: State<J>, bytes: &[u8]) -> Result<State<J>, Memory>
         requires sound { IsSound self.now.judge self.now.replicas self.now.entries state }
         requires wanted { wanted_in state ≢ None }
@@ -245,9 +245,9 @@ impl<J: Judge> ViewRefresh<J> {
         }
     }
 
-    /// Gives the snapshot the block that it wants. The error is want of memory.
+    /// Gives the snapshot the block that it wants. The error is: out of memory.
     fn give_load(&self, loading: Loading, bytes: &[u8]) -> Result<State<J>, Memory>
-        requires wants { IsUnderWay loading }
+        requires wants { IsInProgress loading }
         requires named { wanted_of loading.load ≡ Some (name bytes.now) }
         ensures { IfOk result (GivesNext J.judges self.now (State.Loading loading) bytes.now) }
     {
@@ -255,7 +255,7 @@ impl<J: Judge> ViewRefresh<J> {
         self.loads_on(loading, Ok(bytes))
     }
 
-    /// What is wanted in that state, and how the refresh then stands. The error is want of memory.
+    /// What is wanted in that state, and how the refresh then stands. The error is: out of memory.
     fn go_on(&self, state: State<J>) -> Result<(State<J>, Want<Refreshed>), Memory>
         requires { IsSound self.now.judge self.now.replicas self.now.entries state }
         ensures { IfOk result (WantsNext J.judges self.now state) }
@@ -268,9 +268,9 @@ impl<J: Judge> ViewRefresh<J> {
         }
     }
 
-    /// Begins a get of the block that the snapshot wants. The error is want of memory.
+    /// Begins a get of the block that the snapshot wants. The error is: out of memory.
     fn begin(&self, loading: Loading) -> Result<(State<J>, Want<Refreshed>), Memory>
-        requires { IsUnderWay loading }
+        requires { IsInProgress loading }
         ensures { IfOk result (WantsNext J.judges self.now (State.Loading loading)) }
     {
         let key = loading.load.wanted().unwrap();
@@ -278,7 +278,7 @@ impl<J: Judge> ViewRefresh<J> {
         self.begun(loading, first)
     }
 
-    /// A get of that block with its first ask. The error is want of memory.
+    /// A get of that block with its first ask. The error is: out of memory.
     fn first(&self, key: Key) -> Result<Progress<J>, Memory>
         ensures { IfOk result (BeginsGet J.judges self.now.replicas self.now.entries key) }
     {
@@ -286,13 +286,13 @@ impl<J: Judge> ViewRefresh<J> {
         get.go_on()
     }
 
-    /// Asks the first ask of a get, or ends the refresh where there is none. The error is want of memory.
+    /// Asks the first ask of a get, or ends the refresh where there is none. The error is: out of memory.
     fn begun(
         &self,
         loading: Loading,
         progress: Progress<J>,
     ) -> Result<(State<J>, Want<Refreshed>), Memory>
-        requires wants { IsUnderWay loading }
+        requires wants { IsInProgress loading }
         requires begins { BeginsWanted J.judges self.now.replicas self.now.entries loading progress }
         ensures { IfOk result (WantsNext J.judges self.now (State.Loading loading)) }
     {
@@ -305,7 +305,7 @@ impl<J: Judge> ViewRefresh<J> {
         }
     }
 
-    /// Hears what was answered in that state: how the refresh then stands, and the block that a get brought. The error is want
+    /// Hears what was answered in that state: how the refresh then stands, and the block that a get brought. The error is: out
     /// of memory.
     fn hear(
         &self,
@@ -323,7 +323,7 @@ impl<J: Judge> ViewRefresh<J> {
         }
     }
 
-    /// Hears what was answered to the get of a block of the snapshot. The error is want of memory.
+    /// Hears what was answered to the get of a block of the snapshot. The error is: out of memory.
     fn hear_block(
         &self,
         loading: Loading,
@@ -340,13 +340,13 @@ impl<J: Judge> ViewRefresh<J> {
         }
     }
 
-    /// Takes what came of the block that the snapshot wants; a block is handed out, too. The error is want of memory.
+    /// Takes what came of the block that the snapshot wants; a block is handed out, too. The error is: out of memory.
     fn take(
         &self,
         loading: Loading,
         came: Result<Bytes, Miss>,
     ) -> Result<(State<J>, Option<(Key, Bytes)>), Memory>
-        requires wants { IsUnderWay loading }
+        requires wants { IsInProgress loading }
         requires named { IfOk came (λ bytes. wanted_of loading.load ≡ Some (name bytes)) }
         ensures { IfOk result (LoadTakesNext J.judges self.now loading came) }
     {
@@ -356,13 +356,13 @@ impl<J: Judge> ViewRefresh<J> {
         }
     }
 
-    /// Takes the block that the snapshot wants, and hands it out. The error is want of memory.
+    /// Takes the block that the snapshot wants, and hands it out. The error is: out of memory.
     fn take_block(
         &self,
         loading: Loading,
         bytes: Bytes,
     ) -> Result<(State<J>, Option<(Key, Bytes)>), Memory>
-        requires wants { IsUnderWay loading }
+        requires wants { IsInProgress loading }
         requires named { wanted_of loading.load ≡ Some (name bytes) }
         ensures { IfOk result (LoadTakesNext J.judges self.now loading (Ok bytes)) }
     {
@@ -372,8 +372,8 @@ impl<J: Judge> ViewRefresh<J> {
         Ok((state, Some((key, bytes))))
     }
 
-    /// Goes on loading behind what came of the block that the snapshot wants, or fetches the logs where it wants no more. The
-    /// error is want of memory.
+    /// Goes on loading after what came of the block that the snapshot wants, or fetches the logs where it wants no more. The
+    /// error is: out of memory.
     fn loads_on(&self, mut loading: Loading, came: Result<Bytes, Miss>) -> Result<State<J>, Memory>
         requires wanted { wanted_of loading.load ≢ None }
         requires named { IfOk came (λ bytes. wanted_of loading.load ≡ Some (name bytes)) }
@@ -383,7 +383,7 @@ impl<J: Judge> ViewRefresh<J> {
         self.goes_from(loading)
     }
 
-    /// Goes on loading where the snapshot wants a block, or else fetches the logs. The error is want of memory.
+    /// Goes on loading where the snapshot wants a block, or else fetches the logs. The error is: out of memory.
     fn goes_from(&self, loading: Loading) -> Result<State<J>, Memory>
         ensures { IfOk result (IsFree J.judges self.now.judge self.now.replicas self.now.entries (most_left + most_asks * load_left loading.load) (AreOfLoad loading)) }
     {
@@ -394,7 +394,7 @@ impl<J: Judge> ViewRefresh<J> {
     }
 
     /// Fetches the logs over the snapshot that was loaded, where there is one and it counts, or else over what is held: a
-    /// snapshot that is missing, damaged or malformed is none. The error is want of memory.
+    /// snapshot that is missing, damaged or malformed is none. The error is: out of memory.
     fn fetch_over(&self, loading: Loading) -> Result<State<J>, Memory>
         requires { wanted_of loading.load ≡ None }
         ensures { IfOk result (IsFree J.judges self.now.judge self.now.replicas self.now.entries (most_left + most_asks * load_left loading.load) (AreOfLoad loading)) }
@@ -451,7 +451,7 @@ fn failed_in<J: Judge>(state: &State<J>) -> bool
     }
 }
 
-/// How a refresh begins: with the snapshot, where there is one to load. The error is want of memory.
+/// How a refresh begins: with the snapshot, where there is one to load. The error is: out of memory.
 fn first_state<J: Judge>(
     alloc: Global,
     judge: J,
@@ -469,7 +469,7 @@ fn first_state<J: Judge>(
     }
 }
 
-/// How a refresh begins with a snapshot. The error is want of memory.
+/// How a refresh begins with a snapshot. The error is: out of memory.
 fn load_first<J: Judge>(alloc: Global, standing: Standing, root: Key) -> Result<State<J>, Memory>
     ensures { IfOk result (λ state. state ≡ State.Loading (record { standing = standing; load = begun root })) }
 {
@@ -477,7 +477,7 @@ fn load_first<J: Judge>(alloc: Global, standing: Standing, root: Key) -> Result<
     Ok(State::Loading(Loading { standing, load }))
 }
 
-/// Fetches the logs over that basis, where the floor knows all that it covers. The error is want of memory.
+/// Fetches the logs over that basis, where the floor knows all that it covers. The error is: out of memory.
 fn fetch_from<J: Judge>(
     alloc: Global,
     judge: J,
@@ -494,7 +494,7 @@ fn fetch_from<J: Judge>(
     start_over(alloc, judge, replicas, entries, &standing, basis)
 }
 
-/// Fetches the logs over what the standing holds. The error is want of memory.
+/// Fetches the logs over what the standing holds. The error is: out of memory.
 fn start_over<J: Judge>(
     alloc: Global,
     judge: J,
@@ -510,7 +510,7 @@ fn start_over<J: Judge>(
     Ok(State::Fetching(basis, fetch))
 }
 
-/// Holds the front of that basis, where there is one. The error is want of memory.
+/// Holds the front of that basis, where there is one. The error is: out of memory.
 fn hold(alloc: Global, standing: &mut Standing, basis: &Option<Basis>) -> Result<(), Memory>
     ensures { OnOk result (standing.new ≡ record standing.old { held = held_over standing.old.held basis.now }) }
 {
@@ -532,7 +532,7 @@ fn ask<J: Judge>(loading: Loading, waiting: Waiting<J>) -> (State<J>, Want<Refre
     (State::Asking(loading, waiting), Want::Ask(node, question))
 }
 
-/// What the fetch of the logs wants next. The error is want of memory.
+/// What the fetch of the logs wants next. The error is: out of memory.
 fn fetch_on<J: Judge>(
     basis: Option<Basis>,
     mut fetch: Fetch<J>,
@@ -545,7 +545,7 @@ fn fetch_on<J: Judge>(
     }
 }
 
-/// Gives the fetch of the logs the block that it wants. The error is want of memory.
+/// Gives the fetch of the logs the block that it wants. The error is: out of memory.
 fn give_fetch<J: Judge>(
     basis: Option<Basis>,
     mut fetch: Fetch<J>,
@@ -558,7 +558,7 @@ fn give_fetch<J: Judge>(
     Ok(State::Fetching(basis, fetch))
 }
 
-/// Has the fetch of the logs hear an answer. The error is want of memory.
+/// Has the fetch of the logs hear an answer. The error is: out of memory.
 fn hear_fetch<J: Judge>(
     basis: Option<Basis>,
     mut fetch: Fetch<J>,
@@ -588,7 +588,7 @@ fn over_basis(basis: Option<Basis>, fetched: Fetched) -> Refreshed
     }
 }
 
-/// What the refresh brings where a get of a block of the snapshot made no ask. The error is want of memory.
+/// What the refresh brings where a get of a block of the snapshot made no ask. The error is: out of memory.
 fn unrouted(alloc: Global, came: Came) -> Result<Refreshed, Memory>
     requires { BroughtNothing came }
     ensures { IfOk result GivesMiss }
@@ -599,7 +599,7 @@ fn unrouted(alloc: Global, came: Came) -> Result<Refreshed, Memory>
     }
 }
 
-/// What the refresh brings where something couldn't be had, and nothing is noted of the logs. The error is want of memory.
+/// What the refresh brings where something couldn't be had, and nothing is noted of the logs. The error is: out of memory.
 fn missed(alloc: Global, miss: Miss) -> Result<Refreshed, Memory>
     ensures { IfOk result GivesMiss }
 {

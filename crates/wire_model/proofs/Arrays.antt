@@ -35,7 +35,7 @@ module _ {A : Type 0} {Fits : A → Type 0} {item : A → List ℕ} (reads : Rea
     spelled = f.spelled ∙ ap (λ (s : List ℕ). flat_map item done ++ s) g.spelled ∙ bytes_more done x rest;
   }
 
-  -- what stands behind the first items of more
+  -- what stands after the first items of more
   record Continues (done xs : List A) (left rest : List ℕ) : Type 0 where
     next : A
     fits : Fits next
@@ -59,7 +59,7 @@ module _ {A : Type 0} {Fits : A → Type 0} {item : A → List ℕ} (reads : Rea
         absent.none c.next c.behind (record { fits = c.fits; spelled = c.spelled });
   }
 
-  -- ---- behind the count
+  -- ---- after the count
 
   pub counted : {most count : ℕ} {bytes middle rest : List ℕ} {xs : List A} → IsFront IsWord word bytes count middle → count ≤ most
       → IsFront AllFit (flat_map item) middle xs rest → length xs ≡ count → IsFront (AreFew most) (array item) bytes xs rest
@@ -73,7 +73,7 @@ module _ {A : Type 0} {Fits : A → Type 0} {item : A → List ℕ} (reads : Rea
     none = λ xs rest g. absent.none (length xs) (flat_map item xs ++ rest) (record { fits = omega (arith, g.fits.0, few); spelled = g.spelled ∙ append_assoc (word (length xs)) (flat_map item xs) rest });
   }
 
-  -- what the count in front says of the items behind it
+  -- what the count in front says of the items after it
   the_count : {most count : ℕ} {bytes middle rest : List ℕ} {xs : List A} → most < 2 ^ 32 → IsFront IsWord word bytes count middle
       → IsFront (AreFew most) (array item) bytes xs rest → (count ≡ length xs) × (middle ≡ flat_map item xs ++ rest)
   the_count {count} {middle = middle} {rest = rest} {xs = xs} few f g =

@@ -23,7 +23,7 @@ no_first_by G {first} second absent = record {
   });
 }
 
--- nor without the second one behind the first, which is of one value only
+-- nor without the second one after the first, which is of one value only
 pub no_second_by : {A B : Type 0} {F : A → Type 0} (G : A → B → Type 0) {first : A → List ℕ} {second : B → List ℕ} {bytes middle : List ℕ} {x : A}
     → ReadsOne F first → IsFront F first bytes x middle → HasNoFront (G x) second middle
     → HasNoFront {A = A × B} (λ p. F p.0 × G p.0 p.1) (λ p. first p.0 ++ second p.1) bytes

@@ -9,7 +9,7 @@ use Rattle.ivy_base.specs.declared.operation.Moment.{Moment}
 use Rattle.wire_model.specs.Xdr.{word, double_word, boolean, padding, fixed, opaque, optional, array, moment, IsWordMoment}
 use Rattle.wire_model.specs.OneReading.{ReadsOne}
 use Rattle.wire_model.specs.Rpc.{Auth, auth, AuthFits, CallMessage, call, IsCall, IsOtherVersion, Identity, system_body, nobody, IsIdentity, IsCaller, none, system}
-use Rattle.wire_model.specs.Laws.{NumbersAreOne, ItemsAreOne, CallsAreOne}
+use Rattle.wire_model.specs.Laws.{NumbersAreUnambiguous, ItemsAreUnambiguous, CallsAreUnambiguous}
 
 -- ---- fronts
 
@@ -238,11 +238,11 @@ one_caller a who other f g = one_of_cases a who other (caller_cases f) (caller_c
 
 -- ---- the laws
 
-pub numbers_are_one : NumbersAreOne
-numbers_are_one = record { word_length = word_length; double_word_length = double_word_length; words = one_word; double_words = one_double_word }
+pub numbers_are_unambiguous : NumbersAreUnambiguous
+numbers_are_unambiguous = record { word_length = word_length; double_word_length = double_word_length; words = one_word; double_words = one_double_word }
 
-pub items_are_one : ItemsAreOne
-items_are_one = record {
+pub items_are_unambiguous : ItemsAreUnambiguous
+items_are_unambiguous = record {
   booleans = one_boolean;
   fixed_data = one_fixed;
   opaques = one_opaque;
@@ -252,5 +252,5 @@ items_are_one = record {
   moments = one_moment;
 }
 
-pub calls_are_one : CallsAreOne
-calls_are_one = record { calls = one_call; versions = no_other_version; other_versions = one_other_version }
+pub calls_are_unambiguous : CallsAreUnambiguous
+calls_are_unambiguous = record { calls = one_call; versions = no_other_version; other_versions = one_other_version }

@@ -1,4 +1,4 @@
--- Parts are read one behind the other, and the first that is missed is kept in mind.
+-- Parts are read one after the other, and the first that is missed is kept in mind.
 use Rattle.std.proofs.Common.{◌≡◌, ℕ, ◌<◌, ◌^◌, Bool, true, false, List, ◌++◌, Option, Some, None, refl, sym, ap, ◌∙◌, append_assoc}
 use Rattle.std.specs.Prelude.{◌≢◌}
 use Rattle.wire_model.specs.Xdr.{word, boolean, optional, IsWord, IsAny}
@@ -17,7 +17,7 @@ pub record Read {A : Type 0} (Fits : A → Type 0) (spell : A → List ℕ) (bef
 pub part : {A : Type 0} {Fits : A → Type 0} {spell : A → List ℕ} {before now : Option (List ℕ)} {x : A} → ReadsOne Fits spell → Reads Fits spell before x now → Read Fits spell before x now
 part one f = record { one = one; reads = f }
 
--- where a part was missed before, nothing is left behind the next one
+-- where a part was missed before, nothing is left after the next one
 stays : {B : Type 0} (Fits : B → Type 0) (spell : B → List ℕ) (b c : Option (List ℕ)) (y : B) → b ≡ None → Told Fits spell b y c → c ≡ None
 stays Fits spell None c y e g = g
 stays Fits spell (Some b) c y e g = absurd (cc e)

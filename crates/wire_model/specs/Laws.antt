@@ -6,14 +6,14 @@ use Rattle.wire_model.specs.OneReading.{ReadsOne}
 use Rattle.wire_model.specs.Rpc.{Auth, Identity, CallMessage, IsCall, IsOtherVersion, IsCaller}
 
 -- numbers below their bounds, in four and in eight bytes
-pub record NumbersAreOne : Type 0 where
+pub record NumbersAreUnambiguous : Type 0 where
   pub word_length : (n : ℕ) → length (word n) ≡ 4
   pub double_word_length : (n : ℕ) → length (double_word n) ≡ 8
   pub words : ReadsOne (λ n. n < 2 ^ 32) word
   pub double_words : ReadsOne (λ n. n < 2 ^ 64) double_word
 
 -- booleans, fixed data of a length that is known, and data with its length or flag in front, of a length that a word holds
-pub record ItemsAreOne : Type 0 where
+pub record ItemsAreUnambiguous : Type 0 where
   pub booleans : ReadsOne IsAny boolean
   pub fixed_data : (n : ℕ) → ReadsOne (IsOfLength n) fixed
   pub opaques : ReadsOne (λ (bytes : List ℕ). length bytes < 2 ^ 32) opaque
@@ -23,11 +23,11 @@ pub record ItemsAreOne : Type 0 where
   pub moments : ReadsOne IsWordMoment moment
 
 -- a message is of one call, with one credential and one verifier, and not of another version at the same time
-pub record CallsAreOne : Type 0 where
+pub record CallsAreUnambiguous : Type 0 where
   pub calls : (message : List ℕ) (c d : CallMessage) → IsCall message c → IsCall message d → c ≡ d
   pub versions : (message : List ℕ) (c : CallMessage) (xid : ℕ) → IsCall message c → IsOtherVersion message xid → ⊥
   pub other_versions : (message : List ℕ) (xid other : ℕ) → IsOtherVersion message xid → IsOtherVersion message other → xid ≡ other
 
 -- a credential is of one caller
-abbrev pub CallersAreOne : Type 0
-CallersAreOne = (a : Auth) (who other : Identity) → IsCaller a who → IsCaller a other → who ≡ other
+abbrev pub CallersAreUnambiguous : Type 0
+CallersAreUnambiguous = (a : Auth) (who other : Identity) → IsCaller a who → IsCaller a other → who ≡ other

@@ -1,8 +1,8 @@
--- Parts that are read one behind the other, by readers that keep in mind that a part was missed.
+-- Parts that are read one after the other, by readers that keep in mind that a part was missed.
 use Rattle.std.specs.Prelude.{◌≡◌, ℕ, List, Option, Some, None, IfSome}
 use Rattle.wire_model.specs.OneReading.{IsFront, HasNoFront}
 
--- what is told of a part by the bytes that were left before it and those that are left behind it: it stands at their front, or there is
+-- what is told of a part by the bytes that were left before it and those that are left after it: it stands at their front, or there is
 -- none; and where a part was missed before, nothing
 abbrev pub Told : {A : Type 0} → (A → Type 0) → (A → List ℕ) → Option (List ℕ) → A → Option (List ℕ) → Type 0
 Told Fits spell None x now = now ≡ None

@@ -85,15 +85,15 @@ pub data IsCaller : Auth → Identity → Type 0 where
 -- ---- replies (9)
 
 -- what becomes of a call: served, or refused before it reaches a procedure
-pub data Outcome : Type 0 where
-  Success : (result : List ℕ) → Outcome
-  ProgramUnavailable : Outcome
-  ProgramMismatch : (low : ℕ) → (high : ℕ) → Outcome
-  ProcedureUnavailable : Outcome
-  GarbageArguments : Outcome
-  SystemError : Outcome
-  RpcMismatch : Outcome
-  BadCredential : Outcome
+pub data CallOutcome : Type 0 where
+  Success : (result : List ℕ) → CallOutcome
+  ProgramUnavailable : CallOutcome
+  ProgramMismatch : (low : ℕ) → (high : ℕ) → CallOutcome
+  ProcedureUnavailable : CallOutcome
+  GarbageArguments : CallOutcome
+  SystemError : CallOutcome
+  RpcMismatch : CallOutcome
+  BadCredential : CallOutcome
 
 -- an accepted call (MSG_ACCEPTED), with a verifier of flavour 0 without a body
 abbrev pub accepted : ℕ → List ℕ → List ℕ
@@ -104,7 +104,7 @@ abbrev pub denied : ℕ → List ℕ → List ℕ
 denied xid rest = word xid ++ word 1 ++ word 1 ++ rest
 
 -- the reply to the call of that number; a denial names version 2 as the only one, or the credential as bad
-abbrev pub reply : ℕ → Outcome → List ℕ
+abbrev pub reply : ℕ → CallOutcome → List ℕ
 reply xid (Success result) = accepted xid (word 0 ++ result)
 reply xid ProgramUnavailable = accepted xid (word 1)
 reply xid (ProgramMismatch low high) = accepted xid (word 2 ++ word low ++ word high)

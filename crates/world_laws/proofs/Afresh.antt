@@ -5,7 +5,7 @@ use Rattle.std.specs.List.{AllByRecursion, find, list_any}
 use Rattle.std.specs.Option.{option_map_or}
 use Rattle.std.specs.Str.{bytes_eq}
 use Rattle.ring_model.proofs.Lists.{all_weaker}
-use Rattle.ivy_base.specs.Naming.{NamesTellApart}
+use Rattle.ivy_base.specs.Naming.{IsCollisionFree}
 use Rattle.log_model.proofs.Lists.{each, each_from, from_filter, in_filter, some_passes, who_passes}
 use Rattle.log_model.specs.Record.{Record}
 use Rattle.log_model.specs.Vector.{Entry}
@@ -15,13 +15,13 @@ use Rattle.block_cache.specs.Blocks.{IsCache}
 use Rattle.session_laws.specs.Loading.{IsSnapshotOf}
 use Rattle.session_model.specs.Brought.{all_heads, brought_in}
 use Rattle.session_model.specs.Sessions.{Said, Session}
-use Rattle.world_model.specs.Agents.{own}
+use Rattle.world_model.specs.Agents.{own_hss_key}
 use Rattle.world_model.specs.World.{World, NamedSession, Participant, named_bytes, participant, with_participant, without_sessions_of}
-use Rattle.world_model.specs.Story.{Began, Knowing, Story, began_nothing, began_of, knowing_nothing, knowing_of, known_of}
+use Rattle.world_model.specs.GhostState.{Began, Knowing, GhostState, began_nothing, began_of, knowing_nothing, knowing_of, known_of}
 use Rattle.world_model.specs.Logs.{Played, afresh_told, names_of_sessions}
 use Rattle.world_laws.specs.Causes.{HasCause, said_at}
 use Rattle.world_laws.specs.Causes.HasCause.{alone, missed, turned, no_memory}
-use Rattle.world_laws.specs.Keeps.{AreApart, AreNumbered, AreSound, GoesOn, HasRing, HasSaid, IsKeptSo, IsMetHead, IsMetPost, IsSavedWell, AreParticipants, EntersOwned, IsSoundIn, IsSoundKeptIn, IsSoundSession, Keeps, KeepsUp, SignsOnce}
+use Rattle.world_laws.specs.Invariant.{AreApart, AreNumbered, AreSound, GoesOn, HasRing, HasSaid, IsKeptSo, IsMetHead, IsMetPost, IsSavedWell, AreParticipants, EntersOwned, IsSoundIn, IsSoundKeptIn, IsSoundSession, Invariant, KeepsUp, SignsOnce}
 use Rattle.world_laws.specs.Frames.{unchanged}
 use Rattle.world_laws.proofs.Bringing.{found_named}
 use Rattle.world_laws.proofs.Frames.{all_mapped, goes_on_still, held_more, into_map, one_named, same_keys, same_map, sound_still, still_participants}
@@ -29,10 +29,10 @@ use Rattle.world_laws.proofs.MoreMet.{grows_before, more_heads, more_kept_in, mo
 use Rattle.world_laws.proofs.Placed.{apart_left, differ, find_left, find_other, find_own, found_among, found_some, is_name, names_left, names_placed, other_name, placed, same_left, same_name}
 use Rattle.world_laws.proofs.SignedHeads.{from_map}
 
--- ---- sessions under another story
+-- ---- sessions under another ghost state
 
--- the story tells the same of the session's participant
-pub session_told : (v : World) (st other : Story) (s : Session) (b : Began) → knowing_of other s.by ≡ knowing_of st s.by → IsSoundSession v st s b → IsSoundSession v other s b
+-- the ghost state tells the same of the session's participant
+pub session_told : (v : World) (st other : GhostState) (s : Session) (b : Began) → knowing_of other s.by ≡ knowing_of st s.by → IsSoundSession v st s b → IsSoundSession v other s b
 session_told v st other s b same h = record {
   by = h.by;
   is_by = h.is_by;
@@ -50,13 +50,13 @@ session_told v st other s b same h = record {
   blocks = h.blocks;
 }
 
-cause_told : (st : Story) (ks : List Knowing) (bs : List (List ℕ × Began)) (n : ℕ) (s : Session) (said : Said) → HasCause st n s said → HasCause (record st { participants = ks; sessions = bs }) n s said
+cause_told : (st : GhostState) (ks : List Knowing) (bs : List (List ℕ × Began)) (n : ℕ) (s : Session) (said : Said) → HasCause st n s said → HasCause (record st { participants = ks; sessions = bs }) n s said
 cause_told st ks bs n s _ (alone given by) = alone given by
 cause_told st ks bs n s _ (missed xid asked given miss asks refreshed is) = missed xid asked given miss asks refreshed is
 cause_told st ks bs n s _ (turned h xid asked given among of asks refreshed) = turned h xid asked given among of asks refreshed
 cause_told st ks bs n s _ (no_memory xid asked asks) = no_memory xid asked asks
 
-pub said_told : (st : Story) (ks : List Knowing) (bs : List (List ℕ × Began)) (n : ℕ) (s : Session) (o : Option Said) → HasSaid st n s o → HasSaid (record st { participants = ks; sessions = bs }) n s o
+pub said_told : (st : GhostState) (ks : List Knowing) (bs : List (List ℕ × Began)) (n : ℕ) (s : Session) (o : Option Said) → HasSaid st n s o → HasSaid (record st { participants = ks; sessions = bs }) n s o
 said_told st ks bs n s None h = tt
 said_told st ks bs n s (Some said) h = cause_told st ks bs n s said h
 
@@ -82,26 +82,26 @@ afresh_world w p q met = record (without_sessions_of (with_participant w q) p.na
 abbrev pub knowing_afresh : Played → Participant → List Record → Knowing
 knowing_afresh w p set = record (knowing_of w.1 p.name) { known = set }
 
--- What has to hold of q: in any case, and where names tell the blocks apart.
+-- What has to hold of q: in any case, and where no names collide.
 pub record IsFit (w : Played) (p q : Participant) (met : List (List ℕ)) (set : List Record) : Type 0 where
   pub named : q.name ≡ p.name
-  pub owned : own q.agent ≡ own p.agent
+  pub owned : own_hss_key q.agent ≡ own_hss_key p.agent
   pub pending : AllByRecursion (IsMetPost met) q.agent.pending
   pub cached : IsCache q.cache × AllByRecursion (λ e. Contains met e.1) q.cache
   pub signs : IsKeptSo SignsOnce q
   pub saved : IsKeptSo IsSavedWell q
   pub entered : EntersOwned w.0 q
-  pub agent : NamesTellApart (named_bytes (afresh_world w.0 p q met)) → IsSoundIn met q (knowing_afresh w p set) q.agent.view
-  pub keeper : NamesTellApart (named_bytes (afresh_world w.0 p q met)) → IsKeptSo (λ o k. IsSoundKeptIn met o (knowing_afresh w p set) k k.view) q
-  pub to_load : NamesTellApart (named_bytes (afresh_world w.0 p q met)) → IfSome q.agent.view (λ view. IfSome q.agent.to_load (λ root. (q.agent.holding ≡ nothing_held) × IsSnapshotOf met view set root))
-  pub snapshots : NamesTellApart (named_bytes (afresh_world w.0 p q met)) → IfSome q.agent.view (λ view. IfSome q.agent.snapshot (IsSnapshotOf met view set))
+  pub agent : IsCollisionFree (named_bytes (afresh_world w.0 p q met)) → IsSoundIn met q (knowing_afresh w p set) q.agent.view
+  pub keeper : IsCollisionFree (named_bytes (afresh_world w.0 p q met)) → IsKeptSo (λ o k. IsSoundKeptIn met o (knowing_afresh w p set) k k.view) q
+  pub to_load : IsCollisionFree (named_bytes (afresh_world w.0 p q met)) → IfSome q.agent.view (λ view. IfSome q.agent.to_load (λ root. (q.agent.holding ≡ nothing_held) × IsSnapshotOf met view set root))
+  pub snapshots : IsCollisionFree (named_bytes (afresh_world w.0 p q met)) → IfSome q.agent.view (λ view. IfSome q.agent.snapshot (IsSnapshotOf met view set))
 
-module _ (w : Played) (keeps : Keeps w) (p : Participant) (is_p : participant w.0 p.name ≡ Some p) (q : Participant) (named : q.name ≡ p.name) (owned : own q.agent ≡ own p.agent)
+module _ (w : Played) (keeps : Invariant w) (p : Participant) (is_p : participant w.0 p.name ≡ Some p) (q : Participant) (named : q.name ≡ p.name) (owned : own_hss_key q.agent ≡ own_hss_key p.agent)
     (met : List (List ℕ)) (grows : (b : List ℕ) → Contains w.0.met b → Contains met b) (set : List Record) where
   abbrev v : World
   v = afresh_world w.0 p q met
 
-  abbrev su : Story
+  abbrev su : GhostState
   su = afresh_told w p.name set
 
   abbrev put : Participant → Participant
@@ -230,13 +230,13 @@ module _ (w : Played) (keeps : Keeps w) (p : Participant) (is_p : participant w.
 
   -- ---- views
 
-  owners : map (λ (o : Participant). own o.agent) v.participants ≡ map (λ (o : Participant). own o.agent) w.0.participants
-  owners = same_map (λ (o : Participant). own o.agent) put w.0.participants (λ o o_in. by o o_in (bytes_eq o.name q.name) refl)
+  owners : map (λ (o : Participant). own_hss_key o.agent) v.participants ≡ map (λ (o : Participant). own_hss_key o.agent) w.0.participants
+  owners = same_map (λ (o : Participant). own_hss_key o.agent) put w.0.participants (λ o o_in. by o o_in (bytes_eq o.name q.name) refl)
     where
-      by : (o : Participant) → Contains w.0.participants o → (b : Bool) → bytes_eq o.name q.name ≡ b → own (cond b q o).agent ≡ own o.agent
+      by : (o : Participant) → Contains w.0.participants o → (b : Bool) → bytes_eq o.name q.name ≡ b → own_hss_key (cond b q o).agent ≡ own_hss_key o.agent
       by o o_in true is =
           let one : p ≡ o = one_named by_name w.0.participants p o keeps.apart among o_in (sym (same_name o.name q.name is ∙ named)) in
-          owned ∙ ap (λ (x : Participant). own x.agent) one
+          owned ∙ ap (λ (x : Participant). own_hss_key x.agent) one
       by o o_in false is = refl
 
   owned_then : (view : View) → AreParticipants w.0 view → AreParticipants v view
@@ -248,16 +248,16 @@ module _ (w : Played) (keeps : Keeps w) (p : Participant) (is_p : participant w.
     keeper = (h.keeper.0, h.keeper.1, h.keeper.2, some_weaker _ _ h.keeper.0.view owned_then h.keeper.3);
   }
 
-  -- ---- where names tell apart
+  -- ---- where no names collide
 
-  keys : map (λ (o : Participant). (own o.agent).0) v.participants ≡ map (λ (o : Participant). (own o.agent).0) w.0.participants
+  keys : map (λ (o : Participant). (own_hss_key o.agent).0) v.participants ≡ map (λ (o : Participant). (own_hss_key o.agent).0) w.0.participants
   keys = same_keys w.0 keeps.apart p.name p is_p q named owned
 
-  pub apart_before : NamesTellApart (named_bytes v) → NamesTellApart (named_bytes w.0)
+  pub apart_before : IsCollisionFree (named_bytes v) → IsCollisionFree (named_bytes w.0)
   apart_before apart a b in_a in_b same = apart a b (more a in_a) (more b in_b) same
     where
       more : (b : List ℕ) → Contains (named_bytes w.0) b → Contains (named_bytes v) b
-      more b h = subst (λ ks. Contains (met ++ ks) b) (sym keys) (grows_before w.0.met met grows (map (λ (o : Participant). (own o.agent).0) w.0.participants) b h)
+      more b h = subst (λ ks. Contains (met ++ ks) b) (sym keys) (grows_before w.0.met met grows (map (λ (o : Participant). (own_hss_key o.agent).0) w.0.participants) b h)
 
   told_of_q : knowing_of su q.name ≡ knowing_afresh w p set
   told_of_q = ap (knowing_of su) named ∙ knowing_then
@@ -265,7 +265,7 @@ module _ (w : Played) (keeps : Keeps w) (p : Participant) (is_p : participant w.
   told_of : (o : Participant) → bytes_eq o.name q.name ≡ false → knowing_of su o.name ≡ knowing_of w.1 o.name
   told_of o other = knowing_other o.name (subst (λ n. bytes_eq o.name n ≡ false) named other)
 
-  sound : IsFit w p q met set → NamesTellApart (named_bytes v) → AreSound v su
+  sound : IsFit w p q met set → IsCollisionFree (named_bytes v) → AreSound v su
   sound fit apart = record {
     agents = all_put (λ o. IsSoundIn met o (knowing_of su o.name) o.agent.view) (subst (λ k. IsSoundIn met q k q.agent.view) (sym told_of_q) (fit.agent apart))
         (λ o o_in other. subst (λ k. IsSoundIn met o k o.agent.view) (sym (told_of o other)) (more_sound w.0.met met grows o (unchanged o) (knowing_of w.1 o.name) o.agent.view (each (λ (x : Participant). IsSoundIn w.0.met x (knowing_of w.1 x.name) x.agent.view) w.0.participants o old.agents o_in)));
@@ -293,7 +293,7 @@ module _ (w : Played) (keeps : Keeps w) (p : Participant) (is_p : participant w.
       old : AreSound w.0 w.1
       old = keeps.sound (apart_before apart)
 
-  pub keeps_afresh : IsFit w p q met set → Keeps (v, su)
+  pub keeps_afresh : IsFit w p q met set → Invariant (v, su)
   keeps_afresh fit = record {
     fits = record { participants = names_placed told_name (knowing_afresh w p set) w.1.participants ∙ keeps.fits.participants ∙ sym names; sessions = told_sessions };
     ring = ring w.0.replicas keeps.ring;

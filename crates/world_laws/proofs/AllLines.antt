@@ -1,4 +1,5 @@
--- What a line that goes on does; and a command by which no session goes on and no snapshot is made leaves a world that keeps what it should.
+-- What a line that goes on does; and a command by which no session goes on and no snapshot is made leaves a world in which the invariant
+-- holds.
 use Rattle.std.proofs.Common.{◌≡◌, ◌⊎◌, inl, inr, ⊎_elim, ℕ, Bool, true, false, List, [], ◌∷◌, Option, Some, None, refl, nat_lt}
 use Rattle.std.specs.Prelude.{MatchBool, length, sum_by}
 use Rattle.dhash_model.specs.Signed.{hss_judged}
@@ -7,7 +8,7 @@ use Rattle.script_model.specs.declared.command.Command.{Command}
 use Rattle.script_model.specs.declared.command.Command.TheVariants as command
 use Rattle.world_model.specs.Logs.{Played}
 use Rattle.world_model.specs.Step.{Does, MayDoFirst, WithinLimit, is_end, most_bytes}
-use Rattle.world_laws.specs.Keeps.{Keeps}
+use Rattle.world_laws.specs.Invariant.{Invariant}
 use Rattle.world_laws.proofs.Lines.{damage_lines_keep, keeper_lines_keep, still_lines_keep, stop_lines_keep}
 use Rattle.world_laws.proofs.RingLines.{join_lines_keep, ring_lines_keep, round_lines_keep}
 use Rattle.world_laws.proofs.ViewLines.{view_lines_keep}
@@ -63,7 +64,7 @@ IsLeft _ = ⊥
 some_first : (m : List ℕ) (ms : List (List ℕ)) → m ∷ ms ≡ [] → ⊥
 some_first m ms e = cc e
 
-pub command_keeps : (w next : Played) (output : List ℕ) (c : Command) → (IsLeft c ⊎ (Fits c → ⊥) → Keeps next) → Keeps w → Does hss_judged w c (Goes next output) → Keeps next
+pub command_keeps : (w next : Played) (output : List ℕ) (c : Command) → (IsLeft c ⊎ (Fits c → ⊥) → Invariant next) → Invariant w → Does hss_judged w c (Goes next output) → Invariant next
 command_keeps w next output (command.Ring nodes replicas) left keeps does = ring_lines_keep nodes replicas w next output keeps does
 command_keeps w next output (command.Log log id seed sets) left keeps does = ⊎_elim (λ whole. log_lines_keep log id seed sets whole w next output keeps does) (λ none. left (inr none)) (decide_signer id seed sets)
 command_keeps w next output (command.View view [] former) left keeps does = left (inr (λ some. some refl))

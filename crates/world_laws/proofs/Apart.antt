@@ -3,7 +3,7 @@ use Rattle.std.proofs.Common.{◌≡◌, ◌≢◌, ◌⊎◌, inl, inr, ⊎_eli
 use Rattle.std.specs.Str.{bytes_eq}
 use Rattle.std.proofs.lemmas.Slice.Eq.{bytes_eq-Decides}
 use Rattle.ivy_base.specs.declared.key.Key.{Key}
-use Rattle.ivy_base.specs.Naming.{name, NamesTellApart, HasClash}
+use Rattle.ivy_base.specs.Naming.{name, IsCollisionFree, HasClash}
 use Rattle.log_model.proofs.Lists.{here, there, in_cons, in_nothing}
 
 -- the block has its name alone among these, or one of them clashes with it
@@ -29,17 +29,17 @@ alone_or_not b (c ∷ rest) = by (bytes_eq b c) refl (bytes_eq (name b).0 (name 
     by false e true n (inl others) = inr (c, here c rest, (λ is. let yes = (bytes_eq-Decides b c).1 is in cc), one_key (name b) (name c) ((bytes_eq-Decides (name b).0 (name c).0).0 n))
     by false e false n (inl others) = inl (is_alone (λ u v. let yes = (bytes_eq-Decides (name b).0 (name c).0).1 (ap (λ (k : Key). k.0) v) in cc) others)
 
-pub clash_is_decided : (blocks : List (List ℕ)) → NamesTellApart blocks ⊎ HasClash blocks
+pub clash_is_decided : (blocks : List (List ℕ)) → IsCollisionFree blocks ⊎ HasClash blocks
 clash_is_decided [] = inl (λ b c b_in c_in same. absurd (in_nothing b b_in))
 clash_is_decided (b ∷ rest) = by (alone_or_not b rest) (clash_is_decided rest)
   where
-    apart : IsAlone b rest → NamesTellApart rest → NamesTellApart (b ∷ rest)
+    apart : IsAlone b rest → IsCollisionFree rest → IsCollisionFree (b ∷ rest)
     apart alone others x y x_in y_in same = ⊎_elim
         (λ x_is. ⊎_elim (λ y_is. sym x_is ∙ y_is) (λ y_later. sym x_is ∙ alone y y_later (ap name x_is ∙ same)) (in_cons b rest y y_in))
         (λ x_later. ⊎_elim (λ y_is. sym (alone x x_later (ap name y_is ∙ sym same)) ∙ y_is) (λ y_later. others x y x_later y_later same) (in_cons b rest y y_in))
         (in_cons b rest x x_in)
 
-    by : IsAlone b rest ⊎ HasOther b rest → NamesTellApart rest ⊎ HasClash rest → NamesTellApart (b ∷ rest) ⊎ HasClash (b ∷ rest)
+    by : IsAlone b rest ⊎ HasOther b rest → IsCollisionFree rest ⊎ HasClash rest → IsCollisionFree (b ∷ rest) ⊎ HasClash (b ∷ rest)
     by (inr other) others = inr (b, other.0, here b rest, there b rest other.0 other.1, other.2, other.3)
     by (inl alone) (inr clash) = inr (clash.0, clash.1, there b rest clash.0 clash.2, there b rest clash.1 clash.3, clash.4, clash.5)
     by (inl alone) (inl others) = inl (apart alone others)

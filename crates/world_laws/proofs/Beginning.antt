@@ -1,4 +1,4 @@
--- A session that begins in a world that keeps what it should is one that keeps what it should.
+-- A session that begins in a world in which the invariant holds satisfies it.
 use Rattle.std.proofs.Common.{◌≡◌, ℕ, List, [], ◌∷◌, ◌++◌, Option, Some, refl, subst, arith, le_refl}
 use Rattle.std.specs.Prelude.{IfSome, Contains}
 use Rattle.std.specs.List.{AllByRecursion}
@@ -9,8 +9,8 @@ use Rattle.log_model.specs.View.{View}
 use Rattle.turn_model.specs.Basis.{nothing_held}
 use Rattle.session_model.specs.Brought.{Brought, BlockOf}
 use Rattle.std.specs.Prelude.{Ok}
-use Rattle.session_model.specs.Courses.{fresh_session}
-use Rattle.session_model.specs.Courses.Begins.{alone as answered_alone, refreshes as begins_refreshing}
+use Rattle.session_model.specs.Executions.{fresh_session}
+use Rattle.session_model.specs.Executions.Begins.{alone as answered_alone, refreshes as begins_refreshing}
 use Rattle.session_model.specs.Refreshing.{FailsBy, Refreshes}
 use Rattle.session_model.specs.Replies.{said_bare}
 use Rattle.session_model.specs.Sessions.{Over, Refreshing, Session, Stage}
@@ -18,15 +18,15 @@ use Rattle.session_laws.specs.Going.{ComesTo}
 use Rattle.session_laws.specs.Loading.{IsSnapshotOf}
 use Rattle.session_laws.proofs.Going.{refresh_begins}
 use Rattle.session_laws.proofs.Missing.{fails_by_the_last}
-use Rattle.world_model.specs.Agents.{standing_in}
+use Rattle.world_model.specs.Agents.{hss_standing_in}
 use Rattle.world_model.specs.Calls.{BeginsWith, Sending}
 use Rattle.world_model.specs.World.{Participant, entries, participant}
-use Rattle.world_model.specs.Story.{Began, beginning, having_begun, knowing_of, known_of}
+use Rattle.world_model.specs.GhostState.{Began, beginning, having_begun, knowing_of, known_of}
 use Rattle.world_model.specs.Logs.{Played}
 use Rattle.world_laws.specs.Causes.{said_at}
 use Rattle.world_laws.specs.Causes.HasCause.{alone}
-use Rattle.world_laws.specs.Keeps.{AreSound, HasSaid, IsAtStage, IsInHand, IsMetPost, IsSound, IsSoundIn, IsSoundSession, Keeps}
-use Rattle.world_laws.specs.Keeps.KeepsUp.{still}
+use Rattle.world_laws.specs.Invariant.{AreSound, HasSaid, IsAtStage, IsInHand, IsMetPost, IsSound, IsSoundIn, IsSoundSession, Invariant}
+use Rattle.world_laws.specs.Invariant.KeepsUp.{still}
 use Rattle.world_laws.specs.Laws.{CallsBegin}
 use Rattle.world_laws.proofs.Bringing.{found_named}
 use Rattle.world_laws.proofs.Frames.{ring_of}
@@ -37,12 +37,12 @@ pub none_last : (before : List Brought) (last : Brought) → [] ≡ before ++ la
 none_last [] last e = cc e
 none_last (b ∷ before) last e = cc e
 
-module _ (w : Played) (r : ℕ) (s : Sending) (keeps : Keeps w) (ringed : w.0.replicas ≡ Some r) (is_by : participant w.0 s.by.name ≡ Some s.by) (in_view : s.by.agent.view ≡ Some s.view) where
+module _ (w : Played) (r : ℕ) (s : Sending) (keeps : Invariant w) (ringed : w.0.replicas ≡ Some r) (is_by : participant w.0 s.by.name ≡ Some s.by) (in_view : s.by.agent.view ≡ Some s.view) where
   abbrev p : Participant
   p = s.by
 
   abbrev begun : Stage → Session
-  begun stage = fresh_session p.name s.message (entries w.0) (standing_in p.agent s.view) stage
+  begun stage = fresh_session p.name s.message (entries w.0) (hss_standing_in p.agent s.view) stage
 
   abbrev began : Began
   began = beginning w.1 p.name
@@ -72,7 +72,7 @@ module _ (w : Played) (r : ℕ) (s : Sending) (keeps : Keeps w) (ringed : w.0.re
       agent : IsSound w.0.met p (knowing_of w.1 p.name) s.view
       agent = subst (IsSoundIn w.0.met p (knowing_of w.1 p.name)) in_view (each (λ (q : Participant). IsSoundIn w.0.met q (knowing_of w.1 q.name) q.agent.view) w.0.participants p sound.agents among)
 
-  hand_so : (stage : Stage) → IsAtStage w.0 r (begun stage) stage → HasSaid (having_begun w.1) began.number (begun stage) (said_at stage) → IsInHand (record { world = w.0; story = having_begun w.1; session = begun stage; began = began }) r
+  hand_so : (stage : Stage) → IsAtStage w.0 r (begun stage) stage → HasSaid (having_begun w.1) began.number (begun stage) (said_at stage) → IsInHand (record { world = w.0; ghost_state = having_begun w.1; session = begun stage; began = began }) r
   hand_so stage at_stage has_said = record {
     number = omega arith;
     goes_on = record {
@@ -90,15 +90,15 @@ module _ (w : Played) (r : ℕ) (s : Sending) (keeps : Keeps w) (ringed : w.0.re
     sound = λ apart. sound_so stage (keeps.sound apart);
   }
 
-  came : ComesTo (standing_in p.agent s.view) []
-  came = refresh_begins (standing_in p.agent s.view)
+  came : ComesTo (hss_standing_in p.agent s.view) []
+  came = refresh_begins (hss_standing_in p.agent s.view)
 
   goes : {miss : Miss} → came.end ≡ FailsBy miss → ⊥
   goes {miss} is =
-      let last = fails_by_the_last (standing_in p.agent s.view) [] came.notes came.given miss (subst (Refreshes (standing_in p.agent s.view) [] came.notes came.given) is came.refreshes) in
+      let last = fails_by_the_last (hss_standing_in p.agent s.view) [] came.notes came.given miss (subst (Refreshes (hss_standing_in p.agent s.view) [] came.notes came.given) is came.refreshes) in
       none_last last.0 last.1 last.2
 
-  begins_so : (t : Session) → BeginsWith w.0 s t → IsInHand (record { world = w.0; story = having_begun w.1; session = t; began = began }) r
+  begins_so : (t : Session) → BeginsWith w.0 s t → IsInHand (record { world = w.0; ghost_state = having_begun w.1; session = t; began = began }) r
   begins_so _ (answered_alone given by) = hand_so (Over (Some (said_bare given))) refl (alone given by)
   begins_so _ (begins_refreshing xid asked asks) = hand_so Refreshing (record {
     xid = xid;

@@ -1,9 +1,9 @@
--- Where names tell apart the blocks met, a line leaves what replies gave and what open sessions were sent and will say in bytes.
+-- Where no names of the blocks met collide, a line leaves what replies gave and what open sessions were sent and will say in bytes.
 use Rattle.std.proofs.Common.{◌≡◌, inl, inr, ℕ, Bool, true, false, cond, List, [], ◌∷◌, ◌++◌, map, Option, Some, refl, sym, subst}
 use Rattle.std.specs.Prelude.{is_some}
 use Rattle.std.specs.List.{AllByRecursion}
 use Rattle.std.specs.Str.{bytes_eq}
-use Rattle.ivy_base.specs.Naming.{NamesTellApart}
+use Rattle.ivy_base.specs.Naming.{IsCollisionFree}
 use Rattle.dhash_model.specs.Signed.{hss_judged}
 use Rattle.log_model.proofs.Lists.{each, each_append, each_from, from_filter}
 use Rattle.session_model.specs.Sessions.{Over, Said, Session}
@@ -23,10 +23,10 @@ use Rattle.world_model.specs.World.{NamedSession, World, named_bytes, session_na
 use Rattle.world_laws.specs.FullRuns.{BytesCome, EmptyHasBytes, GivesBytes, HasBytes, IsOfBytes, IsSaidWell, given_of, MessagesAreBytes, Sends}
 use Rattle.world_laws.specs.FullTurns.{AreBytes}
 use Rattle.world_laws.specs.Effects.{IsOfSessions}
-use Rattle.world_laws.specs.Keeps.{Keeps}
+use Rattle.world_laws.specs.Invariant.{Invariant}
 use Rattle.world_laws.proofs.AllLines.{does_line}
 use Rattle.world_laws.proofs.BytesSteps.{begins_bytes, runs_bytes, steps_bytes}
-use Rattle.world_laws.proofs.CallScenes.{begun_well, open_well}
+use Rattle.world_laws.proofs.CallConfigurations.{begun_well, open_well}
 use Rattle.world_laws.proofs.LineFits.{Fits, command_fits}
 use Rattle.world_laws.proofs.OneCalls.{begins_by, found_session, replied_named}
 use Rattle.world_laws.proofs.Opening.{sent_by}
@@ -80,7 +80,7 @@ placed_bytes name s (x ∷ xs) h all = (by (bytes_eq x.name name), placed_bytes 
 
 -- ---- lines
 
-module _ (w : Played) (keeps : Keeps w) (h : HasBytes w.0) where
+module _ (w : Played) (keeps : Invariant w) (h : HasBytes w.0) where
   pub sent_bytes : (log : List ℕ) (ps : List Piece) → AllByRecursion pieces.IsOfBytes ps → (s : Sending) → sending_of w.0 log ps ≡ Some s → AreBytes s.message
   sent_bytes log ps fits s sends = pieces.message_bytes w.0.replies h.replies s.view ps s.message fits (sent_by w.0 log ps s sends).is_message
 
@@ -88,25 +88,25 @@ module _ (w : Played) (keeps : Keeps w) (h : HasBytes w.0) where
   named_session_bytes name s is = (let x = found_session w.0.sessions name s is in subst IsOfBytes x.3 (each SessionOfBytes w.0.sessions x.0 h.sessions x.1))
 
   as_bytes : (log : List ℕ) (ps : List Piece) → AllByRecursion pieces.IsOfBytes ps → (o : Option Sending) → sending_of w.0 log ps ≡ o → (next : Played) (output : List ℕ) → AsLine hss_judged w o (Goes next output)
-      → NamesTellApart (named_bytes next.0) → HasBytes next.0
+      → IsCollisionFree (named_bytes next.0) → HasBytes next.0
   as_bytes log ps fits _ sends _ _ (calls s r t end said ringed begins runs over) apart =
       let well = begun_well w keeps r ringed log ps s sends t begins in
-      let spoken = runs_bytes r runs (begins_by w.0 s t begins) well (subst NamesTellApart (replied_named end.world said) apart) (begins_bytes w.0 s t begins (sent_bytes log ps fits s sends)) in
+      let spoken = runs_bytes r runs (begins_by w.0 s t begins) well (subst IsCollisionFree (replied_named end.world said) apart) (begins_bytes w.0 s t begins (sent_bytes log ps fits s sends)) in
       replied_bytes end.world said (over_gives end.session said over spoken) (same_bytes w.0 end.world (runs_same runs) h)
 
   open_bytes : (name log : List ℕ) (ps : List Piece) → AllByRecursion pieces.IsOfBytes ps → (o : Option Sending) → sending_of w.0 log ps ≡ o → (next : Played) (output : List ℕ) → OpenLine hss_judged w name o (Goes next output) → HasBytes next.0
   open_bytes name log ps fits _ sends _ _ (opens s t closed begins) =
       record { replies = h.replies; sessions = each_append SessionOfBytes w.0.sessions (record { name = name; session = t } ∷ []) h.sessions (begins_bytes w.0 s t begins (sent_bytes log ps fits s sends), tt) }
 
-  step_bytes : (name : List ℕ) (count : ℕ) (o : Option Session) → session_named w.0 name ≡ o → (next : Played) (output : List ℕ) → StepLine hss_judged w name count o (Goes next output) → NamesTellApart (named_bytes next.0) → HasBytes next.0
+  step_bytes : (name : List ℕ) (count : ℕ) (o : Option Session) → session_named w.0 name ≡ o → (next : Played) (output : List ℕ) → StepLine hss_judged w name count o (Goes next output) → IsCollisionFree (named_bytes next.0) → HasBytes next.0
   step_bytes name count _ is _ _ (steps s r end counts ringed on) apart =
       let then_so = steps_bytes r on refl (open_well w keeps r ringed name s is) apart (named_session_bytes name s is) in
       let all = same_bytes w.0 end.world (steps_same on) h in
       record { replies = all.replies; sessions = placed_bytes name end.session end.world.sessions then_so all.sessions }
 
-  finish_bytes : (name : List ℕ) (o : Option Session) → session_named w.0 name ≡ o → (next : Played) (output : List ℕ) → FinishLine hss_judged w name o (Goes next output) → NamesTellApart (named_bytes next.0) → HasBytes next.0
+  finish_bytes : (name : List ℕ) (o : Option Session) → session_named w.0 name ≡ o → (next : Played) (output : List ℕ) → FinishLine hss_judged w name o (Goes next output) → IsCollisionFree (named_bytes next.0) → HasBytes next.0
   finish_bytes name _ is _ _ (ends s r end said ringed runs over) apart =
-      let spoken = runs_bytes r runs refl (open_well w keeps r ringed name s is) (subst NamesTellApart (replied_named (without_session end.world name) said) apart) (named_session_bytes name s is) in
+      let spoken = runs_bytes r runs refl (open_well w keeps r ringed name s is) (subst IsCollisionFree (replied_named (without_session end.world name) said) apart) (named_session_bytes name s is) in
       replied_bytes (without_session end.world name) said (over_gives end.session said over spoken) (fewer_bytes end.world name (same_bytes w.0 end.world (runs_same runs) h))
 
   quiet_bytes : (c : Command) → (IsOfSessions c → ⊥) → (next : Played) (output : List ℕ) → Does hss_judged w c (Goes next output) → HasBytes next.0

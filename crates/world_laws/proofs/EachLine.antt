@@ -1,4 +1,4 @@
--- Each line leaves a world that keeps what it should; so the headline holds of each line of a run.
+-- Each line leaves a world in which the invariant holds; so the headline holds of each line of a run.
 use Rattle.std.proofs.Common.{⊎_elim}
 use Rattle.script_driver.proofs.RunLaws.{runs_with_law}
 use Rattle.script_model.specs.declared.command.Command.{Command}
@@ -7,7 +7,7 @@ use Rattle.script_model.specs.Lines.{command_of}
 use Rattle.world_model.specs.Step.{IvyStep}
 use Rattle.world_laws.specs.Frames.{LineKeeps}
 use Rattle.world_laws.specs.Headline.{Headline}
-use Rattle.world_laws.specs.Keeps.{Keeps}
+use Rattle.world_laws.specs.Invariant.{Invariant}
 use Rattle.world_laws.specs.Laws.{EachReplyIsOnReplay, LinesKeep}
 use Rattle.world_laws.proofs.AllLines.{IsLeft, command_keeps, does_line}
 use Rattle.world_laws.proofs.HeadlineOfLines.{headline_holds}
@@ -29,4 +29,4 @@ each_line_keeps w next line output keeps step =
 
 pub each_reply_is_on_replay : EachReplyIsOnReplay
 each_reply_is_on_replay w number script ran keeps runs =
-    runs_with_law IvyStep Headline Keeps (λ now line outcome ok does. headline_holds now line outcome ok does) (λ now after line text ok does. each_line_keeps now after line text ok does) w number script ran keeps runs
+    runs_with_law IvyStep Headline Invariant (λ now line outcome ok does. headline_holds now line outcome ok does) (λ now after line text ok does. each_line_keeps now after line text ok does) w number script ran keeps runs

@@ -20,7 +20,7 @@ use Rattle.script_driver.specs.Run.{Ends, Exceeds, Goes, Outcome, Refuses}
 use Rattle.script_model.specs.declared.command.Command.{Command}
 use Rattle.script_model.specs.declared.command.Command.TheVariants as command
 use Rattle.script_model.specs.declared.command.Piece.{Piece}
-use Rattle.world_model.specs.Agents.{Agent, Entering, Kept, hss, opened}
+use Rattle.world_model.specs.Agents.{HssAgent, HssEntering, HssKept, hss_signing, hss_opened}
 use Rattle.world_model.specs.Calls.{AsLine, FinishLine, OpenLine, Sending, StepLine, sending_of}
 use Rattle.world_model.specs.Calls.AsLine.{calls as as_calls, sends_nothing as as_nothing}
 use Rattle.world_model.specs.Calls.FinishLine.{ends as finish_ends, not_open as finish_not_open}
@@ -28,7 +28,7 @@ use Rattle.world_model.specs.Calls.OpenLine.{is_open, opens as open_opens, sends
 use Rattle.world_model.specs.Calls.StepLine.{not_open as step_not_open, out_of_range, steps as step_steps}
 use Rattle.world_model.specs.Faults.{damage_by, damage_line, damaged_to, key_named, lose_line, meets_some, node_named}
 use Rattle.world_model.specs.Keepers.{asked_to_save, fails_next}
-use Rattle.world_model.specs.Logs.{LogLine, Played, Publishes, RestartLine, SnapLine, ViewLine, after_entering, at_line, beside, fresh_signer, keep_by, keep_line, keys_of, newcomer, snapping_in, use_by, with_newcomer}
+use Rattle.world_model.specs.Logs.{LogLine, Played, Publishes, RestartLine, SnapLine, ViewLine, after_entering, at_line, beside, fresh_signer, keep_by, keep_line, keys_of, new_participant, snapping_in, use_by, with_new_participant}
 use Rattle.world_model.specs.Logs.LogLine.{before_ring as log_before_ring, begins as log_begins, known as log_known}
 use Rattle.world_model.specs.Logs.RestartLine.{nobody as restart_nobody, outside as restart_outside, starts as restart_starts}
 use Rattle.world_model.specs.Logs.SnapLine.{cannot as snap_cannot, fails as snap_fails, makes as snap_makes, nobody as snap_nobody, outside as snap_outside}
@@ -40,15 +40,15 @@ use Rattle.world_model.specs.Ring.RingLine.{exceeds as ring_exceeds, makes as ri
 use Rattle.world_model.specs.Rounds.{RoundLine}
 use Rattle.world_model.specs.Rounds.RoundLine.{before_ring as round_before_ring, goes as round_goes}
 use Rattle.world_model.specs.Step.{Does}
-use Rattle.world_model.specs.Steps.{RunsOut, Scene, met_by}
+use Rattle.world_model.specs.Steps.{RunsOut, Configuration, met_by}
 use Rattle.world_model.specs.Steps.RunsOut.{is_over as runs_over, more as runs_more}
 use Rattle.world_model.specs.World.{Participant, World, participant, session_named, view_named, with_node, with_participant}
 use Rattle.world_laws.proofs.Bringing.{found_named}
 use Rattle.world_laws.proofs.Placed.{found_in_place}
 use Rattle.world_laws.proofs.Lines.{meets_more}
-use Rattle.world_laws.proofs.Newcomer.{found_after, none_named}
+use Rattle.world_laws.proofs.NewParticipant.{found_after, none_named}
 use Rattle.world_laws.proofs.Shows.{shows_are_still}
-use Rattle.world_laws.specs.Effects.{Plays, PublishesAlone, ShowsText, Effect, Effects, NodesChange, SceneIsOver, LaterEffect, LinesHaveEffects, LinesShowTexts, IsRingCommand, snapped_in}
+use Rattle.world_laws.specs.Effects.{Plays, PublishesAlone, ShowsText, Effect, Effects, NodesChange, ConfigurationIsOver, LaterEffect, LinesHaveEffects, LinesShowTexts, IsRingCommand, snapped_in}
 use Rattle.world_laws.specs.Effects.Plays.{calls, ends, steps}
 use Rattle.world_laws.specs.Effects.Effect.{comes, loses, makes_view, of_nodes, opens, plays, renews, shows, times, touches}
 use Rattle.world_laws.specs.Effects.LaterEffect.{publishes, replies}
@@ -154,7 +154,7 @@ of_damage k g w None key offset byte = tt
 
 -- ---- sessions
 
-ends_over : {r : ℕ} {name : List ℕ} {c end : Scene} → RunsOut hss_judged r name c end → SceneIsOver end
+ends_over : {r : ℕ} {name : List ℕ} {c end : Configuration} → RunsOut hss_judged r name c end → ConfigurationIsOver end
 ends_over (runs_over said over) = (said, over)
 ends_over (runs_more step rest) = ends_over rest
 
@@ -167,12 +167,12 @@ of_log : (w : Played) (name id seed : List ℕ) (sets : List Set) (o : Outcome P
 of_log w name id seed sets _ (log_before_ring h) = tt
 of_log w name id seed sets _ (log_known h) = tt
 of_log w name id seed sets _ (log_begins r p next ringed new is published) =
-    (twice (comes name id seed sets new) (publishing (command.Log name id seed sets) tt (with_newcomer w q) r q next ringed found (subst (λ (x : Participant). Publishes hss_judged r (with_newcomer w x) x next) is published)), shows_nothing (command.Log name id seed sets))
+    (twice (comes name id seed sets new) (publishing (command.Log name id seed sets) tt (with_new_participant w q) r q next ringed found (subst (λ (x : Participant). Publishes hss_judged r (with_new_participant w x) x next) is published)), shows_nothing (command.Log name id seed sets))
   where
     q : Participant
-    q = newcomer name (opened (fresh_signer id seed sets) w.0.now)
+    q = new_participant name (hss_opened (fresh_signer id seed sets) w.0.now)
 
-    found : participant (with_newcomer w q).0 name ≡ Some q
+    found : participant (with_new_participant w q).0 name ≡ Some q
     found = found_after (λ (x : Participant). bytes_eq x.name name) w.0.participants (q ∷ []) (none_named (participant w.0 name) new) ∙ ap (λ b. cond b (Some q) None) ((bytes_eq-Decides name name).1 refl)
 
 of_view : (w : Played) (name : List ℕ) (names others : List (List ℕ)) (members former : Option (List PubKey)) (o : Outcome Played) → keys_of w.0 names ≡ members → keys_of w.0 others ≡ former
@@ -186,17 +186,17 @@ of_view w name names others _ _ _ are also (view_makes members former r view nex
     one (makes_view name names others members former r view next are also new own_keys small ringed is put)
 
 module _ (w : Played) (log name : List ℕ) (p : Participant) (view : View) (is_p : participant w.0 log ≡ Some p) (is_view : view_named w.0 name ≡ Some view) where
-  may_enter : is_own_member hss p.agent view ≡ true → not_named p.agent view ≡ None → (before failing : Bool) → p.agent.has_failed ≡ before → fails_next p.keeper ≡ failing
-      → Leads (command.Use log name) w (let came = cond {A = Entering × Option Kept} before (KeeperFailed p.agent, None) (cond failing (KeeperFailed (failed p.agent)) (Entered (entered p.agent view)), Some (kept_of (entered p.agent view))) in after_entering w p view came.0 came.1)
+  may_enter : is_own_member hss_signing p.agent view ≡ true → not_named p.agent view ≡ None → (before failing : Bool) → p.agent.has_failed ≡ before → fails_next p.keeper ≡ failing
+      → Leads (command.Use log name) w (let came = cond {A = HssEntering × Option HssKept} before (KeeperFailed p.agent, None) (cond failing (KeeperFailed (failed p.agent)) (Entered (entered p.agent view)), Some (kept_of (entered p.agent view))) in after_entering w p view came.0 came.1)
   may_enter member named true failing was now = (once (touches (command.Use log name) log p p [] is_p (unable (command.Use log name) refl was)), use_failed log name p.name)
   may_enter member named false true was now = (once (touches (command.Use log name) log p _ [] is_p (fails (command.Use log name) _ was now (to_enter name view is_view member named))), use_failed log name p.name)
   may_enter member named false false was now = one (renews (command.Use log name) log p _ [] _ is_p (enters name view is_view member named was now))
 
   of_entering : Leads (command.Use log name) w (use_by w (Some p) (Some view))
-  of_entering = by (is_own_member hss p.agent view) refl (not_named p.agent view) refl
+  of_entering = by (is_own_member hss_signing p.agent view) refl (not_named p.agent view) refl
     where
-      by : (m : Bool) → is_own_member hss p.agent view ≡ m → (n : Option Key) → not_named p.agent view ≡ n
-          → Leads (command.Use log name) w (let came = cond {A = Entering × Option Kept} m (entering_with p.agent view (fails_next p.keeper) n) (NotMember, None) in after_entering w p view came.0 came.1)
+      by : (m : Bool) → is_own_member hss_signing p.agent view ≡ m → (n : Option Key) → not_named p.agent view ≡ n
+          → Leads (command.Use log name) w (let came = cond {A = HssEntering × Option HssKept} m (entering_with p.agent view (fails_next p.keeper) n) (NotMember, None) in after_entering w p view came.0 came.1)
       by false stranger n named = tt
       by true member (Some other) named = tt
       by true member None named = may_enter member named p.agent.has_failed (fails_next p.keeper) refl refl
@@ -216,10 +216,10 @@ of_restart w log _ _ is_p (restart_outside p h) = tt
 of_restart w log _ _ is_p (restart_starts p view k set h whole kept known) = one (renews (command.Restart log) log p _ k.pending set is_p (starts_again view k set h whole kept known))
 
 -- what a snapshot comes to
-abbrev snap_out : Participant → View → Bool → Bool → (Agent × Bool) × Option Kept
+abbrev snap_out : Participant → View → Bool → Bool → (HssAgent × Bool) × Option HssKept
 snap_out p view before failing = cond before ((p.agent, false), None) (cond failing (failed p.agent, false) (snapped_in p view, true), Some (kept_of (snapped_in p view)))
 
-abbrev tried_so : Participant → (Agent × Bool) × Option Kept → Participant
+abbrev tried_so : Participant → (HssAgent × Bool) × Option HssKept → Participant
 tried_so p out = record p { agent = out.0.0; keeper = asked_to_save p.keeper out.1 }
 
 not_made : (w : Played) (log : List ℕ) (p : Participant) (view : View) → participant w.0 log ≡ Some p → p.agent.view ≡ Some view → (before failing : Bool) → p.agent.has_failed ≡ before → fails_next p.keeper ≡ failing
@@ -252,7 +252,7 @@ of_snap w log _ _ is_p (snap_makes p q view r next h tried ringed is spelled pub
     t = record p { agent = snapped_in p view; keeper = asked_to_save p.keeper (Some (kept_of (snapped_in p view))); printed = Some (root_name view (basis_of p.agent.holding)) }
 
     same : q ≡ t
-    same = is ∙ ap (λ (out : (Agent × Bool) × Option Kept). record (tried_so p out) { printed = Some (root_name view (basis_of p.agent.holding)) }) so.2
+    same = is ∙ ap (λ (out : (HssAgent × Bool) × Option HssKept). record (tried_so p out) { printed = Some (root_name view (basis_of p.agent.holding)) }) so.2
 
     mid : Participant → Played
     mid x = (record (with_participant w.0 x) { met = met_by w.0.met x.agent.pending }, w.1)
@@ -266,7 +266,7 @@ of_snap w log _ _ is_p (snap_makes p q view r next h tried ringed is spelled pub
 of_as : (w : Played) (log : List ℕ) (pieces : List Piece) (sent : Option Sending) (o : Outcome Played) → sending_of w.0 log pieces ≡ sent → AsLine hss_judged w sent o → Leads (command.As log pieces) w o
 of_as w log pieces _ _ is as_nothing = tt
 of_as w log pieces _ _ is (as_calls s r t end said ringed begins runs over) =
-    (twice (plays _ r s.by.name _ end (end.world, end.story) ringed (calls log pieces s t end is begins runs (Some said, over))) (replies (command.As log pieces) tt said), of_session (command.As log pieces) _ tt)
+    (twice (plays _ r s.by.name _ end (end.world, end.ghost_state) ringed (calls log pieces s t end is begins runs (Some said, over))) (replies (command.As log pieces) tt said), of_session (command.As log pieces) _ tt)
 
 of_open : (w : Played) (name log : List ℕ) (pieces : List Piece) (sent : Option Sending) (o : Outcome Played) → sending_of w.0 log pieces ≡ sent → OpenLine hss_judged w name sent o → Leads (command.Open name log pieces) w o
 of_open w name log pieces _ _ is open_nothing = tt
@@ -315,7 +315,7 @@ lines_show_texts w next c output does = (of_command w c (Goes next output) does)
 -- ---- the principle
 
 -- a session that goes on in a line makes moves
-pub played_moves : {w : Played} {r : ℕ} {k : Command} {name : List ℕ} {c end : Scene} {next : Played} → Plays hss_judged w r k name c end next → Moves hss_judged r name c end
+pub played_moves : {w : Played} {r : ℕ} {k : Command} {name : List ℕ} {c end : Configuration} {next : Played} → Plays hss_judged w r k name c end next → Moves hss_judged r name c end
 played_moves (calls log pieces s t end is begins runs over) = runs_move runs
 played_moves (steps name count s end is on) = steps_move on
 played_moves (ends name s end is runs over) = runs_move runs

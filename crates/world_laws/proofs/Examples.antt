@@ -6,15 +6,17 @@
 -- turn is on b1, c1, a1, so c2 and c3 cite b1 and a1 and weigh 4 and 5; a2 and a3 weigh 4 and 5, b2 and b3, which cite a3 and c1, 6 and 7.
 -- Two logs b, c: the refresh of `open s c` has 6 asks; MKDIR d by b comes between them and the turn, both turns are on sets without the other's records, and both replies are of
 -- status 0. On the later replay the record of the smaller rank names d.
--- Where b has 101 records the refresh has 2 asks for its head, 202 for its records and 2 for c's own: 206, and the turn comes behind them.
--- After c has held b1 to b5: a refresh asks for b's head alone, 2 asks. Its own record then weighs 2 + 5, and b's sixth 6 + 1.
--- Members b, a, c, each held by c: `step s 2` asks for b's head. MKDIR p by b and q by a come then. `end s` gets a's head and a2, a3 (6 asks), but a2 cites b3, which
--- isn't among the candidates, so the closed part has neither: the root shows what it did. The next call has both.
--- Five nodes, three replicas: where the first owner's block is spoilt a get goes on to the next owner. Where all three are, the refresh fails by Damaged: status 5, and the
--- note `damaged`. Nine nodes: two owners that stopped are silent and passed over; with the third it fails by Missing: status 10008, and the note `missing`.
--- Members a, b, former c: entering drops what was held and keeps the floor, c's entry being a number then. c's records are in no set, but b2, which cites c3, weighs 2 + 1 + 3.
--- `open s c`, 6 asks, then MKDIR x by b, `snap b`, `restart b`: b's standing names the snapshot, whose basis has the front b3, c1. The look-up of x takes it and applies nothing.
--- After `end s` c2, which cites b1 alone, isn't above it: BelowTide, the agent holds nothing, the session begins anew without a snapshot and fetches all six records.
+-- Where b has 101 records the refresh has 2 asks for its head, 202 for its records and 2 for c's own: 206, and the turn comes after them.
+-- After c has held b1 to b5: a refresh asks for b's head alone, 2 asks. Its own record then weighs 2 + 5, and b's sixth 6 + 1. Members b,
+-- a, c, each held by c: `step s 2` asks for b's head. MKDIR p by b and q by a come then. `end s` gets a's head and a2, a3 (6 asks), but a2
+-- cites b3, which isn't among the candidates, so the closed part has neither: the root shows what it did. The next call has both.
+-- Five nodes, three replicas: where the first owner's block is corrupted a get goes on to the next owner. Where all three are, the refresh
+-- fails by Damaged: status 5, and the note `damaged`. Nine nodes: two owners that stopped are silent and passed over; with the third it
+-- fails by Missing: status 10008, and the note `missing`. Members a, b, former c: entering drops what was held and keeps the floor, c's
+-- entry being a number then. c's records are in no set, but b2, which cites c3, weighs 2 + 1 + 3. `open s c`, 6 asks, then MKDIR x by b,
+-- `snap b`, `restart b`: b's standing names the snapshot, whose basis has the front b3, c1. The look-up of x takes it and applies nothing.
+-- After `end s` c2, which cites b1 alone, isn't above it: BelowTide, the agent holds nothing, the session begins again without a snapshot
+-- and fetches all six records.
 use Rattle.std.specs.Prelude.{◌≡◌, refl, true, false, [], ◌∷◌, codes, Some, None}
 use Rattle.dht_ids.specs.declared.post.Post.{Post}
 use Rattle.dht_ids.specs.declared.post.PostKind.TheVariants.{Block, Log, Head}

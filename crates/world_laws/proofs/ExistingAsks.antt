@@ -4,8 +4,8 @@ use Rattle.std.specs.List.{AllByRecursion}
 use Rattle.std.proofs.lemmas.List.{append-nil}
 use Rattle.ivy_base.specs.declared.key.Key.{Key}
 use Rattle.dhash_model.specs.Signed.{hss_judged}
-use Rattle.dhash_model.specs.Course.{IsCourse, Told, told_all}
-use Rattle.dhash_model.specs.Course.IsCourse.{no_route, of_owners}
+use Rattle.dhash_model.specs.Execution.{IsExecution, Told, told_all}
+use Rattle.dhash_model.specs.Execution.IsExecution.{no_route, of_owners}
 use Rattle.dhash_model.specs.Puts.{EndsPut}
 use Rattle.dhash_model.specs.declared.miss.Miss.{Miss}
 use Rattle.dht_ids.specs.Asked.{IsForData}
@@ -145,20 +145,20 @@ module _ (key : Key) (bytes : List ℕ) where
   pub put_whole : (r : ℕ) (w : World) → Serves r (map peer_of w.nodes) w.met w → Contains w.met bytes → HasPut r w key bytes
   put_whole r w serves is_met = record { next = all.next; puts = by back.0 back.1 }
     where
-      planned : IsPlannedOf (Contains (map peer_of w.nodes)) e (λ trail. (result : Result Bool Miss) × IsCourse key own (entries w) (EndsPut r) trail result)
+      planned : IsPlannedOf (Contains (map peer_of w.nodes)) e (λ trail. (result : Result Bool Miss) × IsExecution key own (entries w) (EndsPut r) trail result)
       planned = put_planned e own (told_put put.Block bytes key) r (entries w) (Contains (map peer_of w.nodes)) (entries_made w)
 
       all : IsFollowed e own r (map peer_of w.nodes) w.met (tt, is_met) planned.plan w
       all = followed e own r (map peer_of w.nodes) w.met (tt, is_met) planned.plan w serves planned.only
 
-      back : (result : Result Bool Miss) × IsCourse key own (entries w) (EndsPut r) (entries_in e own all.steps) result
+      back : (result : Result Bool Miss) × IsExecution key own (entries w) (EndsPut r) (entries_in e own all.steps) result
       back = planned.back (entries_in e own all.steps) all.follows
 
       fates_so : (looks asks : Told) → entries_in e own all.steps ≡ told_all (ask.Route key) looks ++ told_all own asks → Fates hss_judged w (all_asking (ask.Route key) looks ++ all_asking own asks) all.next
       fates_so looks asks is = subst (λ l. Fates hss_judged w l all.next)
           (asks_are e own all.steps looks asks (is ∙ ap (λ (l : List Heard). told_all (ask.Route key) looks ++ l) (told_owners e own (told_put put.Block bytes key) asks))) all.fates
 
-      by : (result : Result Bool Miss) → IsCourse key own (entries w) (EndsPut r) (entries_in e own all.steps) result → Puts hss_judged w r key own all.next
+      by : (result : Result Bool Miss) → IsExecution key own (entries w) (EndsPut r) (entries_in e own all.steps) result → Puts hss_judged w r key own all.next
       by result (no_route looks found is looked nobody result_is) = record {
         looks = looks;
         asks = [];

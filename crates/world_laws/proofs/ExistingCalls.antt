@@ -10,10 +10,10 @@ use Rattle.script_driver.specs.Seen.{seen}
 use Rattle.script_model.specs.declared.command.Piece.{Piece}
 use Rattle.dht_ids.specs.declared.peer.Peer.{Peer}
 use Rattle.agent_model.specs.Standing.{Standing}
-use Rattle.session_model.specs.Courses.{Begins}
-use Rattle.session_model.specs.Courses.Begins.{alone, refreshes}
+use Rattle.session_model.specs.Executions.{Begins}
+use Rattle.session_model.specs.Executions.Begins.{alone, refreshes}
 use Rattle.session_model.specs.Sessions.{Session}
-use Rattle.world_model.specs.Agents.{standing_in}
+use Rattle.world_model.specs.Agents.{hss_standing_in}
 use Rattle.world_model.specs.Calls.{AsLine, BeginsWith, FinishLine, OpenLine, Sending, StepLine, is_step_count, replied, sending_of, shown_end}
 use Rattle.world_model.specs.Calls.AsLine.{sends_nothing as whole_sends_nothing, calls}
 use Rattle.world_model.specs.Calls.OpenLine.{sends_nothing as opening_sends_nothing, is_open, opens}
@@ -21,30 +21,30 @@ use Rattle.world_model.specs.Calls.StepLine.{not_open as stepping_not_open, out_
 use Rattle.world_model.specs.Calls.FinishLine.{not_open as finishing_not_open, ends}
 use Rattle.world_model.specs.Logs.{Played}
 use Rattle.world_model.specs.Steps.{RunsOut}
-use Rattle.world_model.specs.Story.{Story, began_of, beginning, having_begun, with_began, without_began}
+use Rattle.world_model.specs.GhostState.{GhostState, began_of, beginning, having_begun, with_began, without_began}
 use Rattle.world_model.specs.World.{World, NamedSession, Participant, entries, participant, session_named, with_session, without_session}
-use Rattle.world_laws.specs.Keeps.{GoesOn, HasRing, Keeps}
+use Rattle.world_laws.specs.Invariant.{GoesOn, HasRing, Invariant}
 use Rattle.world_laws.proofs.Beginning.{calls_begin}
 use Rattle.world_laws.proofs.Bringing.{found_named}
 use Rattle.world_laws.proofs.ExistingMessages.{some_session}
-use Rattle.world_laws.proofs.ExistingPuts.{runs_out, scene, steps_to}
+use Rattle.world_laws.proofs.ExistingPuts.{runs_out, configuration, steps_to}
 use Rattle.world_laws.proofs.ExistingSessions.{EndsSo, session_ends}
 use Rattle.world_laws.proofs.Opening.{sent_by}
 
--- what a line may do, whichever story there is, where it does this by each
-abbrev pub IsSeen : World → (Story → Outcome Played → Type 0) → Type 0
-IsSeen w Line = (outcome : Outcome World) × ((st : Story) → Keeps (w, st) → (o : Outcome Played) × Line st o × (outcome ≡ seen o))
+-- what a line may do, whichever ghost state there is, where it does this by each
+abbrev pub IsSeen : World → (GhostState → Outcome Played → Type 0) → Type 0
+IsSeen w Line = (outcome : Outcome World) × ((st : GhostState) → Invariant (w, st) → (o : Outcome Played) × Line st o × (outcome ≡ seen o))
 
 -- ---- there is a ring
 
-pub some_participant : (w : World) (st : Story) → Keeps (w, st) → (p : Participant) → Contains w.participants p → (r : ℕ) × (w.replicas ≡ Some r)
+pub some_participant : (w : World) (st : GhostState) → Invariant (w, st) → (p : Participant) → Contains w.participants p → (r : ℕ) × (w.replicas ≡ Some r)
 some_participant w st keeps p among = by_ring w.replicas refl
   where
     by_ring : (o : Option ℕ) → w.replicas ≡ o → (r : ℕ) × (w.replicas ≡ Some r)
     by_ring None is = absurd (in_nothing p (subst (λ (ps : List Participant). Contains ps p) (subst (HasRing w) is keeps.ring).1 among))
     by_ring (Some r) is = (r, is)
 
-pub some_open : (w : World) (st : Story) → Keeps (w, st) → (s : NamedSession) → Contains w.sessions s → (r : ℕ) × (w.replicas ≡ Some r)
+pub some_open : (w : World) (st : GhostState) → Invariant (w, st) → (s : NamedSession) → Contains w.sessions s → (r : ℕ) × (w.replicas ≡ Some r)
 some_open w st keeps s among = by_ring w.replicas refl
   where
     by_ring : (o : Option ℕ) → w.replicas ≡ o → (r : ℕ) × (w.replicas ≡ Some r)
@@ -66,7 +66,7 @@ record IsOpen (w : World) (s : Session) : Type 0 where
   ringed : w.replicas ≡ Some r
   goes_on : GoesOn w r s
 
-opened : (w : World) (st : Story) → Keeps (w, st) → (name : List ℕ) (s : Session) → session_named w name ≡ Some s → IsOpen w s
+opened : (w : World) (st : GhostState) → Invariant (w, st) → (name : List ℕ) (s : Session) → session_named w name ≡ Some s → IsOpen w s
 opened w st keeps name s is =
     let x = found_open w.sessions name s is in
     let ring = some_open w st keeps x.0 x.1 in
@@ -82,7 +82,7 @@ begun_by : {by message : List ℕ} {knows : List Peer} {standing : Standing} {t 
 begun_by (alone given is) = refl
 begun_by (refreshes xid asked asks) = refl
 
-module _ (w : World) (st : Story) (keeps : Keeps (w, st)) where
+module _ (w : World) (st : GhostState) (keeps : Invariant (w, st)) where
   -- of a session that begins with what is sent
   begun : (name : List ℕ) (pieces : List Piece) (s : Sending) → sending_of w name pieces ≡ Some s → (t : Session) → BeginsWith w s t → (r : ℕ) × (w.replicas ≡ Some r) × EndsSo r w t
   begun name pieces s is t begins =
@@ -95,14 +95,14 @@ module _ (w : World) (st : Story) (keeps : Keeps (w, st)) where
   pub as_line : (name : List ℕ) (pieces : List Piece) (sent : Option Sending) → sending_of w name pieces ≡ sent → IsSeen w (λ su o. AsLine hss_judged (w, su) sent o)
   as_line name pieces None is = (Refuses, λ su fits. (Refuses, whole_sends_nothing, refl))
   as_line name pieces (Some s) is =
-      let begins = some_session s.by.name s.message (entries w) (standing_in s.by.agent s.view) in
+      let begins = some_session s.by.name s.message (entries w) (hss_standing_in s.by.agent s.view) in
       let end = begun name pieces s is begins.0 begins.1 in (
         Goes (replied end.2.end.world end.2.said) (shown_end end.2.end.session end.2.said),
         λ su fits.
-            let runs = runs_out end.2.end.course (having_begun su) (beginning su s.by.name) in (
+            let runs = runs_out end.2.end.execution (having_begun su) (beginning su s.by.name) in (
               Goes (replied end.2.end.world end.2.said, runs.0) (shown_end end.2.end.session end.2.said),
-              calls s end.0 begins.0 (scene end.2.end.world runs.0 end.2.end.session (beginning su s.by.name)) end.2.said end.1 begins.1
-                  (subst (λ (n : List ℕ). RunsOut hss_judged end.0 n (scene w (having_begun su) begins.0 (beginning su s.by.name)) (scene end.2.end.world runs.0 end.2.end.session (beginning su s.by.name))) (begun_by begins.1) runs.1) end.2.end.is_over,
+              calls s end.0 begins.0 (configuration end.2.end.world runs.0 end.2.end.session (beginning su s.by.name)) end.2.said end.1 begins.1
+                  (subst (λ (n : List ℕ). RunsOut hss_judged end.0 n (configuration w (having_begun su) begins.0 (beginning su s.by.name)) (configuration end.2.end.world runs.0 end.2.end.session (beginning su s.by.name))) (begun_by begins.1) runs.1) end.2.end.is_over,
               refl,
             ),
       )
@@ -114,7 +114,7 @@ module _ (w : World) (st : Story) (keeps : Keeps (w, st)) where
       by_test : (b : Bool) → is_some (session_named w session) ≡ b → IsSeen w (λ su o. OpenLine hss_judged (w, su) session (Some s) o)
       by_test true already = (Refuses, λ su fits. (Refuses, is_open s already, refl))
       by_test false closed =
-          let begins = some_session s.by.name s.message (entries w) (standing_in s.by.agent s.view) in
+          let begins = some_session s.by.name s.message (entries w) (hss_standing_in s.by.agent s.view) in
           (Goes (record w { sessions = w.sessions ++ record { name = session; session = begins.0 } ∷ [] }) [], λ su fits. (_, opens s begins.0 closed begins.1, refl))
 
   pub step_line : (name : List ℕ) (count : ℕ) (o : Option Session) → session_named w name ≡ o → IsSeen w (λ su out. StepLine hss_judged (w, su) name count o out)
@@ -126,12 +126,12 @@ module _ (w : World) (st : Story) (keeps : Keeps (w, st)) where
       by_test true counts =
           let its = opened w st keeps name s is in
           let end = session_ends w st its.r keeps its.ringed s its.goes_on in
-          let to = steps_to count end.end.course in (
+          let to = steps_to count end.end.execution in (
             Goes (with_session to.world name to.session) [],
             λ su fits.
                 let all = to.steps su (began_of su name) in (
                   Goes (with_session to.world name to.session, with_began all.0 name (began_of su name)) [],
-                  steps s its.r (scene to.world all.0 to.session (began_of su name)) counts its.ringed all.1,
+                  steps s its.r (configuration to.world all.0 to.session (began_of su name)) counts its.ringed all.1,
                   refl,
                 ),
           )
@@ -143,9 +143,9 @@ module _ (w : World) (st : Story) (keeps : Keeps (w, st)) where
       let end = session_ends w st its.r keeps its.ringed s its.goes_on in (
         Goes (replied (without_session end.end.world name) end.said) (shown_end end.end.session end.said),
         λ su fits.
-            let runs = runs_out end.end.course su (began_of su name) in (
+            let runs = runs_out end.end.execution su (began_of su name) in (
               Goes (replied (without_session end.end.world name) end.said, without_began runs.0 name) (shown_end end.end.session end.said),
-              ends s its.r (scene end.end.world runs.0 end.end.session (began_of su name)) end.said its.ringed runs.1 end.end.is_over,
+              ends s its.r (configuration end.end.world runs.0 end.end.session (began_of su name)) end.said its.ringed runs.1 end.end.is_over,
               refl,
             ),
       )

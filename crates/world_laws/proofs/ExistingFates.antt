@@ -9,14 +9,14 @@ use Rattle.dht_ids.specs.declared.ask.Answer.{Answer}
 use Rattle.dht_ids.specs.declared.ask.Answer.TheVariants as answer
 use Rattle.dht_ids.specs.declared.ask.Ask.{Ask}
 use Rattle.dht_ids.specs.declared.peer.Peer.{Peer}
-use Rattle.world_model.specs.Fates.{FateOf, counted}
+use Rattle.world_model.specs.Fates.{FateOf, ask_counted}
 use Rattle.world_model.specs.Fates.FateOf.{lost, stopped, answers}
 use Rattle.world_model.specs.Nodes.{Node}
 use Rattle.world_model.specs.World.{World, node_at, peer_of}
-use Rattle.world_model.specs.Story.{Story}
+use Rattle.world_model.specs.GhostState.{GhostState}
 use Rattle.round_laws.specs.RingOf.{AreNodes}
 use Rattle.round_laws.proofs.Nodes.{at, at_here, at_later, same_or_not}
-use Rattle.world_laws.specs.Keeps.{IsAnswerIn, Keeps}
+use Rattle.world_laws.specs.Invariant.{IsAnswerIn, Invariant}
 use Rattle.world_laws.proofs.ExistingPlans.{Names}
 use Rattle.world_laws.proofs.Frames.{nodes_of_ring}
 use Rattle.world_laws.proofs.NodeFates.{HoldsMet, PutsMet, answer_is_in, ask_leaves, fate_met}
@@ -50,13 +50,13 @@ pub record HasFate (w : World) (node : Peer) (question : Ask) : Type 0 where
 
 pub some_fate : (w : World) (node : Peer) (question : Ask) → Contains (map peer_of w.nodes) node → HasFate w node question
 some_fate w node question made = elim (number_or_not w.lost (w.asked + 1)) [
-  | inl l ↦ record { given = answer.Silent; next = counted w; fate = lost l }
+  | inl l ↦ record { given = answer.Silent; next = ask_counted w; fate = lost l }
   | inr l ↦ (let n = at_made w.nodes node made in by l n.0 n.1 n.0.is_live refl)
 ]
   where
     by : (Contains w.lost (w.asked + 1) → ⊥) → (n : Node) → node_at w node.id ≡ Some n → (live : Bool) → n.is_live ≡ live → HasFate w node question
     by l n is true live = record { given = _; next = _; fate = answers n l is live }
-    by l n is false dead = record { given = answer.Silent; next = counted w; fate = stopped n l is dead }
+    by l n is false dead = record { given = answer.Silent; next = ask_counted w; fate = stopped n l is dead }
 
 -- ---- worlds whose nodes answer
 
@@ -104,5 +104,5 @@ ask_one r peers met w serves node question made data_ask puts_met =
       names = names_made w peers serves.same_peers f.given (answer_is_in hss_judged r w serves.ring node question f.next f.given data_ask held f.fate);
     }
 
-pub serves_so : (w : World) (st : Story) (r : ℕ) → Keeps (w, st) → w.replicas ≡ Some r → Serves r (map peer_of w.nodes) w.met w
+pub serves_so : (w : World) (st : GhostState) (r : ℕ) → Invariant (w, st) → w.replicas ≡ Some r → Serves r (map peer_of w.nodes) w.met w
 serves_so w st r keeps ringed = record { ring = nodes_of_ring (w, st) r keeps ringed; held = keeps.met.held; same_peers = refl; same_met = refl }

@@ -7,7 +7,7 @@ use Rattle.std.proofs.lemmas.List.{map-append}
 use Rattle.std.proofs.lemmas.List.Elements.{Contains-append_cases}
 use Rattle.std.proofs.lemmas.Slice.Eq.{bytes_eq-Decides}
 use Rattle.ivy_base.specs.declared.key.PubKey.{PubKey}
-use Rattle.ivy_base.specs.Naming.{HasClash, NamesTellApart}
+use Rattle.ivy_base.specs.Naming.{HasClash, IsCollisionFree}
 use Rattle.hash_signature_model.specs.declared.set.Set.{Set}
 use Rattle.hash_signature_model.specs.Signer.{hss_key_of}
 use Rattle.dhash_model.specs.Signed.{hss_judged}
@@ -23,36 +23,36 @@ use Rattle.agent_model.specs.Views.{Entered, NotMember, NotNamed, KeeperFailed}
 use Rattle.script_driver.specs.Run.{Outcome, Goes, Ends, Refuses, Exceeds}
 use Rattle.script_driver.specs.Seen.{seen}
 use Rattle.script_model.specs.Words.{◌>>=◌}
-use Rattle.world_model.specs.Agents.{Entering, IsKept, Kept, entering, hss, kept_bytes, opened, own}
+use Rattle.world_model.specs.Agents.{HssEntering, IsHssKept, HssKept, hss_entering, hss_signing, hss_kept_bytes, hss_opened, own_hss_key}
 use Rattle.world_model.specs.Keepers.{fails_next}
-use Rattle.world_model.specs.Logs.{IsKnownAgain, LogLine, RestartLine, ViewLine, acked_view, after_entering, afresh_told, beside, fresh_signer, in_key_order, is_too_large, keys_of, newcomer, restarted, to_publish, use_by, with_newcomer, with_view}
+use Rattle.world_model.specs.Logs.{IsKnownAgain, LogLine, RestartLine, ViewLine, acked_view, after_entering, afresh_told, beside, fresh_signer, in_key_order, is_too_large, keys_of, new_participant, restarted, to_publish, use_by, with_new_participant, with_view}
 use Rattle.world_model.specs.Logs.LogLine.{before_ring as log_before_ring, known as log_known, begins as log_begins}
 use Rattle.world_model.specs.Logs.RestartLine.{nobody as restart_nobody, outside as restart_outside, starts as restart_starts}
 use Rattle.world_model.specs.Logs.ViewLine.{known as view_known, no_members as view_no_members, no_former as view_no_former, one_head_key as view_one_head_key, exceeds as view_exceeds, makes as view_makes}
 use Rattle.world_model.specs.Step.{Untold}
 use Rattle.world_model.specs.Steps.{having_made, met_by}
-use Rattle.world_model.specs.Story.{Story, began_nothing, knowing_of}
+use Rattle.world_model.specs.GhostState.{GhostState, began_nothing, knowing_of}
 use Rattle.world_model.specs.World.{World, NamedView, Participant, meets, named_bytes, participant, peer_of, view_named}
-use Rattle.world_laws.specs.Keeps.{AreApart, IsKeptSo, IsMetPost, IsSavedWell, IsSoundKeptIn, Keeps, SignsOnce}
+use Rattle.world_laws.specs.Invariant.{AreApart, IsKeptSo, IsMetPost, IsSavedWell, IsSoundKeptIn, Invariant, SignsOnce}
 use Rattle.world_laws.proofs.Afresh.{apart_before}
 use Rattle.world_laws.proofs.Apart.{clash_is_decided}
 use Rattle.world_laws.proofs.Bringing.{found_named}
 use Rattle.world_laws.proofs.ExistingAsks.{HasPut, put_whole}
 use Rattle.world_laws.proofs.ExistingCalls.{IsSeen, some_participant}
 use Rattle.world_laws.proofs.ExistingFates.{Serves}
-use Rattle.world_laws.proofs.ExistingPuts.{Ended, runs_out, scene}
+use Rattle.world_laws.proofs.ExistingPuts.{Ended, runs_out, configuration}
 use Rattle.world_laws.proofs.ExistingSessions.{publishes_all}
 use Rattle.world_laws.proofs.Frames.{held_more, into_map, nodes_of_ring, ring_of}
 use Rattle.world_laws.proofs.Lines.{meets_it, meets_more}
 use Rattle.world_laws.proofs.MoreMet.{more_stand}
-use Rattle.world_laws.proofs.Newcomer.{apart_more, found_after, none_named}
+use Rattle.world_laws.proofs.NewParticipant.{apart_more, found_after, none_named}
 use Rattle.world_laws.proofs.Placed.{found_some}
 use Rattle.world_laws.proofs.SignedAmong.{met_stays, met_then}
 use Rattle.world_laws.proofs.SignedHeads.{so_of}
 
 -- ---- what is a function of the world
 
-beside_seen : (st : Story) (o : Outcome World) → o ≡ seen (beside st o)
+beside_seen : (st : GhostState) (o : Outcome World) → o ≡ seen (beside st o)
 beside_seen st (Goes next output) = refl
 beside_seen st Ends = refl
 beside_seen st Refuses = refl
@@ -66,23 +66,23 @@ untold w Line some = (some.0, λ st fits. (beside st some.0, (some.0, some.1, re
 
 -- ---- use
 
-entering_seen : (w : World) (st su : Story) (p : Participant) (view : View) (came : Entering) (saving : Option Kept) → seen (after_entering (w, st) p view came saving) ≡ seen (after_entering (w, su) p view came saving)
+entering_seen : (w : World) (st su : GhostState) (p : Participant) (view : View) (came : HssEntering) (saving : Option HssKept) → seen (after_entering (w, st) p view came saving) ≡ seen (after_entering (w, su) p view came saving)
 entering_seen w st su p view (Entered after) saving = refl
 entering_seen w st su p view NotMember saving = refl
 entering_seen w st su p view (NotNamed log) saving = refl
 entering_seen w st su p view (KeeperFailed after) saving = refl
 
-use_seen : (w : World) (st su : Story) (p : Option Participant) (view : Option View) → seen (use_by (w, st) p view) ≡ seen (use_by (w, su) p view)
+use_seen : (w : World) (st su : GhostState) (p : Option Participant) (view : Option View) → seen (use_by (w, st) p view) ≡ seen (use_by (w, su) p view)
 use_seen w st su None view = refl
 use_seen w st su (Some p) None = refl
-use_seen w st su (Some p) (Some view) = (let came = entering p.agent view (fails_next p.keeper) in entering_seen w st su p view came.0 came.1)
+use_seen w st su (Some p) (Some view) = (let came = hss_entering p.agent view (fails_next p.keeper) in entering_seen w st su p view came.0 came.1)
 
-pub use_line_seen : (w : World) (st : Story) (p : Option Participant) (view : Option View) → IsSeen w (λ su out. out ≡ use_by (w, su) p view)
+pub use_line_seen : (w : World) (st : GhostState) (p : Option Participant) (view : Option View) → IsSeen w (λ su out. out ≡ use_by (w, su) p view)
 use_line_seen w st p view = (seen (use_by (w, st) p view), λ su fits. (use_by (w, su) p view, refl, use_seen w st su p view))
 
 -- ---- log
 
-pub serves_more : (w : World) (st : Story) (r : ℕ) → Keeps (w, st) → w.replicas ≡ Some r → (participants : List Participant) (views : List NamedView) (met : List (List ℕ)) → ((b : List ℕ) → Contains w.met b → Contains met b)
+pub serves_more : (w : World) (st : GhostState) (r : ℕ) → Invariant (w, st) → w.replicas ≡ Some r → (participants : List Participant) (views : List NamedView) (met : List (List ℕ)) → ((b : List ℕ) → Contains w.met b → Contains met b)
     → Serves r (map peer_of w.nodes) met (record w { participants = participants; views = views; met = met })
 serves_more w st r keeps ringed participants views met grows = (let ring = nodes_of_ring (w, st) r keeps ringed in record {
   ring = record { apart = ring.apart; replicas = ring.replicas; known = ring.known };
@@ -91,20 +91,20 @@ serves_more w st r keeps ringed participants views met grows = (let ring = nodes
   same_met = refl;
 })
 
-module _ (w : World) (st : Story) (keeps : Keeps (w, st)) where
+module _ (w : World) (st : GhostState) (keeps : Invariant (w, st)) where
   module _ (name id seed : List ℕ) (sets : List Set) where
     abbrev p : Participant
-    p = newcomer name (opened (fresh_signer id seed sets) w.now)
+    p = new_participant name (hss_opened (fresh_signer id seed sets) w.now)
 
     abbrev v : World
     v = record w { participants = w.participants ++ p ∷ []; met = met_by w.met p.agent.pending }
 
     -- what it has to publish: its opening record, and the head over it
     abbrev its : Post
-    its = record_post (opening (own_key hss (fresh_signer id seed sets)) w.now)
+    its = record_post (opening (own_key hss_signing (fresh_signer id seed sets)) w.now)
 
     abbrev head : Post
-    head = head_post hss (fresh_signer id seed sets) (own_entry (opening (own_key hss (fresh_signer id seed sets)) w.now)).1
+    head = head_post hss_signing (fresh_signer id seed sets) (own_entry (opening (own_key hss_signing (fresh_signer id seed sets)) w.now)).1
 
     grows : (b : List ℕ) → Contains w.met b → Contains v.met b
     grows b h = met_stays w.met (map (λ (o : Post). o.bytes) p.agent.pending) b h
@@ -134,8 +134,8 @@ module _ (w : World) (st : Story) (keeps : Keeps (w, st)) where
       begins : IsSeen w (λ su out. LogLine hss_judged (w, su) name id seed sets out)
       begins = (
         Goes published.world [],
-        λ su fits. let runs = runs_out published.course (with_newcomer (w, su) p).1 began_nothing in
-            (Goes (published.world, runs.0) [], log_begins r p (published.world, runs.0) ringed new refl (scene published.world runs.0 published.session began_nothing, runs.1, refl), refl),
+        λ su fits. let runs = runs_out published.execution (with_new_participant (w, su) p).1 began_nothing in
+            (Goes (published.world, runs.0) [], log_begins r p (published.world, runs.0) ringed new refl (configuration published.world runs.0 published.session began_nothing, runs.1, refl), refl),
       )
 
     pub log_line : IsSeen w (λ su out. LogLine hss_judged (w, su) name id seed sets out)
@@ -151,7 +151,7 @@ module _ (w : World) (st : Story) (keeps : Keeps (w, st)) where
   some_of_keys : (n : List ℕ) (names : List (List ℕ)) (keys : List PubKey) → keys_of w (n ∷ names) ≡ Some keys → (p : Participant) × Contains w.participants p
   some_of_keys n names keys is = by_test (participant w n) refl is
     where
-      by_test : (o : Option Participant) → participant w n ≡ o → (o >>= λ p. keys_of w names >>= λ rest. Some (own p.agent ∷ rest)) ≡ Some keys → (p : Participant) × Contains w.participants p
+      by_test : (o : Option Participant) → participant w n ≡ o → (o >>= λ p. keys_of w names >>= λ rest. Some (own_hss_key p.agent ∷ rest)) ≡ Some keys → (p : Participant) × Contains w.participants p
       by_test None e h = cc h
       by_test (Some p) e h = (p, (found_named w.participants n p e).0)
 
@@ -194,7 +194,7 @@ module _ (w : World) (st : Story) (keeps : Keeps (w, st)) where
 
   -- ---- restart
 
-  module _ (p : Participant) (is_p : participant w p.name ≡ Some p) (k : Kept) (whole : IsKept k) (held : p.keeper.kept ≡ Some (kept_bytes k)) where
+  module _ (p : Participant) (is_p : participant w p.name ≡ Some p) (k : HssKept) (whole : IsHssKept k) (held : p.keeper.kept ≡ Some (hss_kept_bytes k)) where
     among : Contains w.participants p
     among = (found_named w.participants p.name p is_p).0
 
@@ -204,11 +204,11 @@ module _ (w : World) (st : Story) (keeps : Keeps (w, st)) where
     abbrev q : Participant
     q = record (having_made (record p { agent = restored k }) k.pending) { cache = [] }
 
-    owned : own q.agent ≡ own p.agent
+    owned : own_hss_key q.agent ≡ own_hss_key p.agent
     owned = λ i. record { 0 = hss_key_of (signs.same.0 i) (signs.same.1 i) (signs.same.2 i) }
 
-    module _ (su : Story) (fits : Keeps (w, su)) where
-      apart_then : NamesTellApart (named_bytes (restarted w p k)) → NamesTellApart (named_bytes w)
+    module _ (su : GhostState) (fits : Invariant (w, su)) where
+      apart_then : IsCollisionFree (named_bytes (restarted w p k)) → IsCollisionFree (named_bytes w)
       apart_then apart =
           apart_before (w, su) fits p is_p q refl owned (met_by w.met k.pending) (λ b h. met_stays w.met (map (λ (o : Post). o.bytes) k.pending) b h) [] apart
 
@@ -219,7 +219,7 @@ module _ (w : World) (st : Story) (keeps : Keeps (w, st)) where
       known_again : (set : List Record) × IsKnownAgain (restarted w p k) k set
       known_again = by_names (clash_is_decided (named_bytes (restarted w p k)))
         where
-          sound : NamesTellApart (named_bytes (restarted w p k)) → IsSoundKeptIn w.met p (knowing_of su p.name) k k.view
+          sound : IsCollisionFree (named_bytes (restarted w p k)) → IsSoundKeptIn w.met p (knowing_of su p.name) k k.view
           sound apart = so_of (λ o l. IsSoundKeptIn w.met o (knowing_of su o.name) l l.view) p k
               (each (IsKeptSo (λ o l. IsSoundKeptIn w.met o (knowing_of su o.name) l l.view)) w.participants p (fits.sound (apart_then apart)).keepers among) whole held
 
@@ -236,7 +236,7 @@ module _ (w : World) (st : Story) (keeps : Keeps (w, st)) where
             ),
           )
 
-          by_names : NamesTellApart (named_bytes (restarted w p k)) ⊎ HasClash (named_bytes (restarted w p k)) → (set : List Record) × IsKnownAgain (restarted w p k) k set
+          by_names : IsCollisionFree (named_bytes (restarted w p k)) ⊎ HasClash (named_bytes (restarted w p k)) → (set : List Record) × IsKnownAgain (restarted w p k) k set
           by_names (inl apart) = by_view k.view refl (sound apart)
           by_names (inr clash) = ([], λ view is apart. absurd (clash.4 (apart clash.0 clash.1 clash.2 clash.3 clash.5)))
 

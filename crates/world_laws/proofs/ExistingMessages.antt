@@ -16,8 +16,8 @@ use Rattle.turn_laws.proofs.Callers.{caller_or_not}
 use Rattle.turn_laws.proofs.Calls.{call_or_not, other_or_not}
 use Rattle.turn_laws.proofs.Deciding.{HasParts, IsReadable, a_data, a_front, whole_or_not}
 use Rattle.agent_model.specs.Standing.{Standing}
-use Rattle.session_model.specs.Courses.{Begins}
-use Rattle.session_model.specs.Courses.Begins.{alone as begins_alone, refreshes}
+use Rattle.session_model.specs.Executions.{Begins}
+use Rattle.session_model.specs.Executions.Begins.{alone as begins_alone, refreshes}
 use Rattle.session_model.specs.Replies.{Asks, IsByMessage, IsServed, alone_answer, procedures_of, no_call, other_version, no_program, no_version, no_procedure, no_caller, no_arguments, alone}
 use Rattle.session_model.specs.Sessions.{Session}
 

@@ -10,11 +10,11 @@ use Rattle.dht_ids.specs.declared.peer.Peer.{Peer}
 use Rattle.ring_model.specs.Members.{IsAmong}
 use Rattle.ring_model.specs.Gets.{AreAsks, answered_in}
 use Rattle.ring_model.proofs.Lists.{all-left, all-right, cons_head, cons_tail, nil_cons}
-use Rattle.dhash_model.specs.Course.{IsCourse, Told}
+use Rattle.dhash_model.specs.Execution.{IsExecution, Told}
 use Rattle.dhash_model.specs.Puts.{EndsPut, is_of_put}
 use Rattle.dhash_model.specs.declared.miss.Miss.{Miss}
 use Rattle.session_laws.proofs.AskedPlans.{Entries, Follows, IsToldBy, Plan, asking, ended, entry}
-use Rattle.session_laws.proofs.AskedCourses.{IsWhole, after_plan, course_back, course_fits}
+use Rattle.session_laws.proofs.AskedExecutions.{IsWhole, after_plan, execution_back, execution_fits}
 use Rattle.session_laws.proofs.AskedOwners.{choose, owners_plan}
 use Rattle.session_laws.proofs.AskedLookups.{among_or_not, firsts, last_after, look_plan, rest_after, round_plan}
 use Rattle.session_laws.proofs.AskedGets.{at_most_or_not}
@@ -84,7 +84,7 @@ module _ (e : Entries) (After : Option (List Peer) → Plan) (P : Peer → Type 
   look_only zero asked last ps owners rest = after_only last owners
   look_only (suc n) asked last ps owners rest = round_only (look_plan e After n) (look_only n) asked last ps owners rest
 
--- ---- the plan that is left behind a trail
+-- ---- the plan that is left after a trail
 
 pub record Behind (P : Peer → Type 0) (e : Entries) (plan : Plan) (asked : List Heard) : Type 0 where
   pub left : Plan
@@ -104,7 +104,7 @@ left_behind P e (asking node looks next) (h ∷ asked) more only named f =
       whole = λ trail g. (f.0, asked ++ trail, ap (λ (x : Heard). x ∷ (asked ++ trail)) is, rest.whole trail g);
     }
 
--- ---- courses
+-- ---- executions
 
 -- the whole trails are those that follow a plan, by which only such nodes are asked
 pub record IsPlannedOf (P : Peer → Type 0) (e : Entries) (Whole : List Heard → Type 0) : Type 0 where
@@ -130,19 +130,19 @@ module _ {T : Type 0} (e : Entries) (question : Ask) (told_by : IsToldBy e quest
   planned_from : (n : ℕ) → n ≡ 512 → IsPlannedOf P e Whole
   planned_from n s = record {
     plan = look_plan e After n [] None entries;
-    fits = course_fits e question told_by IsEnough decided Ends asks_of end_of entries n s;
-    back = course_back e question told_by IsEnough decided Ends asks_of end_of entries n s;
+    fits = execution_fits e question told_by IsEnough decided Ends asks_of end_of entries n s;
+    back = execution_back e question told_by IsEnough decided Ends asks_of end_of entries n s;
     only = look_only e After P after_only n [] None entries tt made;
   }
 
-  pub course_planned : IsPlannedOf P e Whole
-  course_planned = planned_from 512 refl
+  pub execution_planned : IsPlannedOf P e Whole
+  execution_planned = planned_from 512 refl
 
 -- ---- puts
 
 module _ (e : Entries) (question : Ask) (told_by : IsToldBy e question) (r : ℕ) (entries : List Peer) where
   abbrev pub IsWholePut : List Heard → Type 0
-  IsWholePut trail = (result : Result Bool Miss) × IsCourse e.key question entries (EndsPut r) trail result
+  IsWholePut trail = (result : Result Bool Miss) × IsExecution e.key question entries (EndsPut r) trail result
 
   pub put_planned : (P : Peer → Type 0) → AllByRecursion P entries → IsPlannedOf P e IsWholePut
-  put_planned P made = course_planned e question told_by (λ t. r ≤ answered_in is_of_put t) (λ t. at_most_or_not r (answered_in is_of_put t)) (EndsPut r) (λ owners asks result h. h.1.asks) (put_end r) entries P made
+  put_planned P made = execution_planned e question told_by (λ t. r ≤ answered_in is_of_put t) (λ t. at_most_or_not r (answered_in is_of_put t)) (EndsPut r) (λ owners asks result h. h.1.asks) (put_end r) entries P made

@@ -1,4 +1,5 @@
--- A session's posts can be put to their end, whatever its story: each put asks a next node, hears any answer, and is over after finitely many asks; then all is settled.
+-- A session's posts can be put to their end, whatever its ghost state: each put asks a next node, hears any answer, and is over after
+-- finitely many asks; then all is settled.
 use Rattle.std.proofs.Common.{◌≡◌, ◌≢◌, ◌⊎◌, inl, inr, ℕ, zero, suc, ◌≤◌, Bool, true, false, cond, List, [], ◌∷◌, ◌++◌, length, map, filter, Option, Some, refl, sym, ap, ◌∙◌, subst, arith, le_refl, Contains, not}
 use Rattle.std.specs.List.{AllByRecursion}
 use Rattle.std.proofs.lemmas.List.{append_assoc, append-nil}
@@ -15,53 +16,53 @@ use Rattle.ring_model.proofs.Lists.{nil_cons}
 use Rattle.agent_model.specs.Agent.{is_head}
 use Rattle.agent_model.specs.Others.{settled}
 use Rattle.session_model.specs.Asking.{AsksNext, IsBegun}
-use Rattle.session_model.specs.Courses.Fails.{goes_on}
-use Rattle.session_model.specs.Courses.Settles.{settles as settles_all}
+use Rattle.session_model.specs.Executions.Fails.{goes_on}
+use Rattle.session_model.specs.Executions.Settles.{settles as settles_all}
 use Rattle.session_model.specs.Sessions.{IsPut, Publishing, Refreshing, Over, Said, Session, acknowledged, after_put, held_back, is_log, put_question}
 use Rattle.session_model.specs.Sessions.Hears.{puts_on, puts}
 use Rattle.session_model.specs.Sessions.TakesAll.{none as takes_none}
 use Rattle.session_laws.proofs.AskedPlans.{Entries, Follows, IsToldBy, Plan, asking, ended, entry, some_follows}
-use Rattle.session_laws.proofs.AskedPuts.{kind_of_post, of_post, put_entries, puts_are_one, told_put}
-use Rattle.world_model.specs.Story.{Began, Story}
+use Rattle.session_laws.proofs.AskedPuts.{kind_of_post, of_post, put_entries, puts_are_deterministic, told_put}
+use Rattle.world_model.specs.GhostState.{Began, GhostState}
 use Rattle.world_model.specs.World.{World, Participant, participant, with_participant}
-use Rattle.world_model.specs.Steps.{Acts, Scene, Steps, ask_told}
+use Rattle.world_model.specs.Steps.{Acts, Configuration, Steps, ask_told}
 use Rattle.world_model.specs.Steps.Acts.{asks, settles}
 use Rattle.world_model.specs.Steps.Steps.{acts}
 use Rattle.world_model.specs.Steps.{RunsOut, StepsOn}
 use Rattle.world_model.specs.Steps.RunsOut.{is_over as runs_over, more as runs_more}
 use Rattle.world_model.specs.Steps.StepsOn.{none as steps_none, is_over as steps_over, more as steps_more}
-use Rattle.world_laws.specs.Keeps.{AreApart, IsMetPost, IsPuttingOn}
+use Rattle.world_laws.specs.Invariant.{AreApart, IsMetPost, IsPuttingOn}
 use Rattle.world_laws.proofs.ExistingFates.{IsAsked, Serves, ask_one}
 use Rattle.world_laws.proofs.ExistingPlans.{AsksOnly, IsPlannedOf, Names, left_behind, put_planned}
 use Rattle.world_laws.proofs.Frames.{placed_itself}
 use Rattle.world_laws.proofs.NodeFates.{PutsMet}
 use Rattle.world_laws.proofs.Publishing.{fewer_met, question_fits, short_filter, takes_nothing}
 
--- ---- steps of which the story decides nothing
+-- ---- steps of which the ghost state decides nothing
 
-abbrev pub scene : World → Story → Session → Began → Scene
-scene w st s b = record { world = w; story = st; session = s; began = b }
+abbrev pub configuration : World → GhostState → Session → Began → Configuration
+configuration w st s b = record { world = w; ghost_state = st; session = s; began = b }
 
--- from any story there is this step
+-- from any ghost state there is this step
 abbrev pub MayStep : ℕ → List ℕ → World → Session → World → Session → Type 0
-MayStep r name w s v t = (st : Story) (b : Began) → (su : Story) × Steps hss_judged r name (scene w st s b) (scene v su t b)
+MayStep r name w s v t = (st : GhostState) (b : Began) → (su : GhostState) × Steps hss_judged r name (configuration w st s b) (configuration v su t b)
 
 -- such steps up to the end
-pub data Course (r : ℕ) (name : List ℕ) : World → Session → World → Session → Type 0 where
-  over : {w : World} {s : Session} (said : Option Said) → s.stage ≡ Over said → Course r name w s w s
-  more : {w v e : World} {s t u : Session} → MayStep r name w s v t → Course r name v t e u → Course r name w s e u
+pub data Execution (r : ℕ) (name : List ℕ) : World → Session → World → Session → Type 0 where
+  over : {w : World} {s : Session} (said : Option Said) → s.stage ≡ Over said → Execution r name w s w s
+  more : {w v e : World} {s t u : Session} → MayStep r name w s v t → Execution r name v t e u → Execution r name w s e u
 
 -- a session that says this in the end
 pub record Ended (r : ℕ) (name : List ℕ) (w : World) (s : Session) (said : Option Said) : Type 0 where
   pub world : World
   pub session : Session
   pub is_over : session.stage ≡ Over said
-  pub course : Course r name w s world session
+  pub execution : Execution r name w s world session
 
 pub after_step : {r : ℕ} {name : List ℕ} {w v : World} {s t : Session} {said : Option Said} → MayStep r name w s v t → Ended r name v t said → Ended r name w s said
-after_step step rest = record { world = rest.world; session = rest.session; is_over = rest.is_over; course = more step rest.course }
+after_step step rest = record { world = rest.world; session = rest.session; is_over = rest.is_over; execution = more step rest.execution }
 
-pub runs_out : {r : ℕ} {name : List ℕ} {w e : World} {s u : Session} → Course r name w s e u → (st : Story) (b : Began) → (su : Story) × RunsOut hss_judged r name (scene w st s b) (scene e su u b)
+pub runs_out : {r : ℕ} {name : List ℕ} {w e : World} {s u : Session} → Execution r name w s e u → (st : GhostState) (b : Began) → (su : GhostState) × RunsOut hss_judged r name (configuration w st s b) (configuration e su u b)
 runs_out (over said is) st b = (st, runs_over said is)
 runs_out (more step rest) st b = (let one = step st b in let others = runs_out rest one.0 b in (others.0, runs_more one.1 others.1))
 
@@ -69,10 +70,10 @@ runs_out (more step rest) st b = (let one = step st b in let others = runs_out r
 pub record StepsTo (r : ℕ) (name : List ℕ) (count : ℕ) (w : World) (s : Session) : Type 0 where
   pub world : World
   pub session : Session
-  pub steps : (st : Story) (b : Began) → (su : Story) × StepsOn hss_judged r name count (scene w st s b) (scene world su session b)
+  pub steps : (st : GhostState) (b : Began) → (su : GhostState) × StepsOn hss_judged r name count (configuration w st s b) (configuration world su session b)
 
-pub steps_to : {r : ℕ} {name : List ℕ} {w e : World} {s u : Session} (count : ℕ) → Course r name w s e u → StepsTo r name count w s
-steps_to {w = w} {s = s} zero course = record { world = w; session = s; steps = λ st b. (st, steps_none) }
+pub steps_to : {r : ℕ} {name : List ℕ} {w e : World} {s u : Session} (count : ℕ) → Execution r name w s e u → StepsTo r name count w s
+steps_to {w = w} {s = s} zero execution = record { world = w; session = s; steps = λ st b. (st, steps_none) }
 steps_to {w = w} {s = s} (suc count) (over said is) = record { world = w; session = s; steps = λ st b. (st, steps_over said is) }
 steps_to (suc count) (more step rest) = (let others = steps_to count rest in record {
   world = others.world;
@@ -90,12 +91,12 @@ module _ (r : ℕ) (peers : List Peer) (met : List (List ℕ)) (name : List ℕ)
     pub is_by : participant w name ≡ Some by
 
   -- what the participant's session does is its step, where it doesn't refresh
-  acting : (w v : World) (s t : Session) → Stands w → (s.stage ≡ Refreshing → ⊥) → ((st : Story) (b : Began) → (su : Story) × Acts hss_judged r by (scene w st s b) (scene v su t b)) → MayStep r name w s v t
+  acting : (w v : World) (s t : Session) → Stands w → (s.stage ≡ Refreshing → ⊥) → ((st : GhostState) (b : Began) → (su : GhostState) × Acts hss_judged r by (configuration w st s b) (configuration v su t b)) → MayStep r name w s v t
   acting w v s t stands other act st b =
       let one = act st b in (
         one.0,
-        acts by s by.cache (scene v one.0 t b) stands.is_by (takes_none (λ u after takes. takes_nothing hss_judged r s u by.cache after other takes))
-            (subst (λ (u : World). Acts hss_judged r by (scene u st s b) (scene v one.0 t b)) (sym (placed_itself w stands.apart name by stands.is_by)) one.1),
+        acts by s by.cache (configuration v one.0 t b) stands.is_by (takes_none (λ u after takes. takes_nothing hss_judged r s u by.cache after other takes))
+            (subst (λ (u : World). Acts hss_judged r by (configuration u st s b) (configuration v one.0 t b)) (sym (placed_itself w stands.apart name by stands.is_by)) one.1),
       )
 
   stands_then : (w : World) → Stands w → (node : Peer) (question : Ask) (a : IsAsked r peers met w node question) → Stands a.next
@@ -148,7 +149,7 @@ module _ (r : ℕ) (peers : List Peer) (met : List (List ℕ)) (name : List ℕ)
       goes_on_so : (IsPut hss_judged r s p trail → ⊥) → MayStep r name w s a.next (record s { current = trail })
       goes_on_so part = acting w a.next s (record s { current = trail }) stands publishing (λ st b. (
         ask_told st by.name s (record s { current = trail }),
-        subst (λ (u : World). Acts hss_judged r by (scene w st s b) (scene u (ask_told st by.name s (record s { current = trail })) (record s { current = trail }) b)) itself
+        subst (λ (u : World). Acts hss_judged r by (configuration w st s b) (configuration u (ask_told st by.name s (record s { current = trail })) (record s { current = trail }) b)) itself
             (asks node (asked looks) a.given a.next (record s { current = trail }) (record s { current = trail }) by.cache a.fate (puts_on said p posts acks at next part) (goes_on (λ notes given miss e refreshed. publishing e))),
       ))
 
@@ -156,8 +157,8 @@ module _ (r : ℕ) (peers : List Peer) (met : List (List ℕ)) (name : List ℕ)
       is_put_so came = acting w a.next s (record s { stage = after_put said p posts acks (acknowledged came.0); current = [] }) stands publishing (λ st b. (
         ask_told st by.name s (record s { stage = after_put said p posts acks (acknowledged came.0); current = [] }),
         subst
-            (λ (u : World). Acts hss_judged r by (scene w st s b)
-            (scene u (ask_told st by.name s (record s { stage = after_put said p posts acks (acknowledged came.0); current = [] })) (record s { stage = after_put said p posts acks (acknowledged came.0); current = [] }) b))
+            (λ (u : World). Acts hss_judged r by (configuration w st s b)
+            (configuration u (ask_told st by.name s (record s { stage = after_put said p posts acks (acknowledged came.0); current = [] })) (record s { stage = after_put said p posts acks (acknowledged came.0); current = [] }) b))
             itself
             (asks node (asked looks) a.given a.next (record s { stage = after_put said p posts acks (acknowledged came.0); current = [] }) (record s { stage = after_put said p posts acks (acknowledged came.0); current = [] }) by.cache a.fate
             (puts said p posts acks came.0 at next came.1) (goes_on (λ notes given miss e refreshed. publishes (acknowledged came.0) e))),
@@ -174,10 +175,10 @@ module _ (r : ℕ) (peers : List Peer) (met : List (List ℕ)) (name : List ℕ)
     on node looks w s stands at later a (asking n l nexts) whole go =
         let some = some_follows entries_of_put (asking n l nexts) in
         let not_yet : IsPut hss_judged r s p (s.current ++ told node (asked looks) a.given) → ⊥ =
-        λ came. nil_cons (entry entries_of_put l n some.1.0) some.1.1 (sym ((puts_are_one hss_judged r s p).0 (s.current ++ told node (asked looks) a.given) some.0 came (whole some.0 some.1)) ∙ some.1.2) in
+        λ came. nil_cons (entry entries_of_put l n some.1.0) some.1.1 (sym ((puts_are_deterministic hss_judged r s p).0 (s.current ++ told node (asked looks) a.given) some.0 came (whole some.0 some.1)) ∙ some.1.2) in
         after_step (goes_on_so node looks w s stands at a (record { is_of = is_of looks; answer = a.given; more = some.0; whole = whole some.0 some.1 }) not_yet) (go not_yet)
 
-    -- behind a plan that is left the put goes on to its end
+    -- after a plan that is left the put goes on to its end
     put_out : (q : Plan) (w : World) (s : Session) → Stands w → s.stage ≡ Publishing said (p ∷ posts) acks → AsksOnly (Contains peers) q
         → ((trail : List Heard) → Follows entries_of_put q trail → IsPut hss_judged r s p (s.current ++ trail)) → (IsPut hss_judged r s p s.current → ⊥)
         → ((v : World) (came : Bool) → Stands v → Ended r name v (record s { stage = after_put said p posts acks came; current = [] }) said) → Ended r name w s said
@@ -208,7 +209,7 @@ module _ (r : ℕ) (peers : List Peer) (met : List (List ℕ)) (name : List ℕ)
     world = with_participant w (record by { agent = settled by.agent acks });
     session = record s { stage = Over said };
     is_over = refl;
-    course = more
+    execution = more
         (acting w (with_participant w (record by { agent = settled by.agent acks })) s (record s { stage = Over said }) stands (λ e. cc (sym at ∙ e)) (λ st b. (st, settles (settled by.agent acks) (record s { stage = Over said }) (settles_all said acks at))))
         (over said refl);
   }
@@ -220,7 +221,7 @@ module _ (r : ℕ) (peers : List Peer) (met : List (List ℕ)) (name : List ℕ)
       by_kind true = short_filter (λ (q : Post). not (is_head q.kind)) posts
       by_kind false = le_refl (length posts)
 
-  -- behind a put the next one begins
+  -- after a put the next one begins
   next_put : (p : Post) (posts : List Post) (w : World) (s : Session) (said : Option Said) (acks : List Ack)
       → ((v : World) (t : Session) (others : List Post) (more_acks : List Ack) → length others ≤ length posts → Stands v → t.stage ≡ Publishing said others more_acks → t.current ≡ [] → t.entries ≡ s.entries
       → AllByRecursion (IsMetPost met) others → Ended r name v t said)
@@ -234,7 +235,7 @@ module _ (r : ℕ) (peers : List Peer) (met : List (List ℕ)) (name : List ℕ)
   all_out n [] few w s said acks stands at fresh some made are_met = settle w s said acks stands at
   all_out zero (p ∷ posts) few w s said acks stands at fresh some made are_met = absurd (omega (arith, few))
   all_out (suc n) (p ∷ posts) few w s said acks stands at fresh some made are_met =
-      put_on said p posts acks are_met.0 w s stands at made (subst (AllByRecursion (λ h. Names (Contains peers) h.got)) (sym fresh) tt) (subst (IsBegun (IsPut hss_judged r s p)) (sym fresh) ((puts_are_one hss_judged r s p).3 some))
+      put_on said p posts acks are_met.0 w s stands at made (subst (AllByRecursion (λ h. Names (Contains peers) h.got)) (sym fresh) tt) (subst (IsBegun (IsPut hss_judged r s p)) (sym fresh) ((puts_are_deterministic hss_judged r s p).3 some))
       (next_put p posts w s said acks (λ v t others more_acks fewer stands_v goes_on fresh_t same are_met_then.
       all_out n others (omega (arith, few, fewer)) v t said more_acks stands_v goes_on fresh_t (subst (λ (l : List Peer). l ≢ []) (sym same) some) (subst (AllByRecursion (Contains peers)) (sym same) made) are_met_then) are_met.1)
 

@@ -13,7 +13,7 @@ use Rattle.dht_ids.specs.declared.ask.Answer.{Answer}
 use Rattle.dht_ids.specs.declared.ask.Answer.TheVariants as answer
 use Rattle.dht_ids.specs.declared.ask.Ask.{Ask}
 use Rattle.dht_ids.specs.declared.peer.Peer.{Peer}
-use Rattle.dhash_model.specs.Course.{Told}
+use Rattle.dhash_model.specs.Execution.{Told}
 use Rattle.dhash_model.specs.Puts.{is_of_put}
 use Rattle.dhash_model.specs.Stores.{Block, Blocks, without}
 use Rattle.script_driver.specs.Run.{Outcome, Goes, Refuses}
@@ -24,7 +24,7 @@ use Rattle.world_model.specs.Rounds.{EachDoes, FixesFrom, Forgets, IsDropped, Is
 use Rattle.world_model.specs.Rounds.PutsAll.{done as all_put, keeps as put_kept, drops as put_dropped}
 use Rattle.world_model.specs.Rounds.PutsAround.{no_route, puts}
 use Rattle.world_model.specs.Rounds.RoundLine.{before_ring, goes}
-use Rattle.world_model.specs.Story.{Story}
+use Rattle.world_model.specs.GhostState.{GhostState}
 use Rattle.world_model.specs.World.{World, live_peers, with_node}
 use Rattle.session_laws.proofs.AskedGets.{at_most_or_not}
 use Rattle.session_laws.proofs.AskedLookups.{among_or_not, firsts, firsts_are}
@@ -36,7 +36,7 @@ use Rattle.round_laws.proofs.Order.{fold_among}
 use Rattle.round_laws.proofs.Repairing.{kept_repairs, put_keeps}
 use Rattle.round_laws.proofs.Rounding.{base_of, shapes_of, within_of}
 use Rattle.round_laws.proofs.Standing.{IsBase}
-use Rattle.world_laws.specs.Keeps.{Keeps}
+use Rattle.world_laws.specs.Invariant.{Invariant}
 use Rattle.world_laws.proofs.ExistingAsks.{HasFound, looks_up}
 use Rattle.world_laws.proofs.ExistingPlans.{firsts_only}
 use Rattle.world_laws.proofs.ExistingRounds.{Fine, IsMade, MayDoAt, ask_in, by_each, fixes_all, forgets_some, looked_fine, many_times, own, serves_in, stabilises_some}
@@ -177,7 +177,7 @@ module _ (r : ℕ) (base : List Shape) (planned : List ℕ) (start end : ℕ) (b
       let four = by_each r base planned start end b met (Repairs hss_judged r) repairs_some (live_in_order w) made three.0 three.2 in
       (four.0, record { one = one.0; two = two.0; three = three.0; forgets = one.1; passes = two.1; fingers = three.1; repairs = four.1 })
 
-pub round_line : (w : World) (st : Story) → Keeps (w, st) → (o : Option ℕ) → w.replicas ≡ o → (out : Outcome World) × RoundLine hss_judged w o out
+pub round_line : (w : World) (st : GhostState) → Invariant (w, st) → (o : Option ℕ) → w.replicas ≡ o → (out : Outcome World) × RoundLine hss_judged w o out
 round_line w st keeps None is = (Refuses, before_ring)
 round_line w st keeps (Some r) is =
     let ring = nodes_of_ring (w, st) r keeps is in

@@ -18,9 +18,9 @@ use Rattle.world_model.specs.Ring.{AreSettled, FindsNobody, JoinLine, LooksUp, R
 use Rattle.world_model.specs.Ring.AreSettled.{none as settled_none, more as settled_more}
 use Rattle.world_model.specs.Ring.RingLine.{refused as ring_refused, exceeds as ring_exceeds, makes as ring_makes}
 use Rattle.world_model.specs.Ring.JoinLine.{before_ring as join_before_ring, known as join_known, exceeds as join_exceeds, alone as join_alone, joins as join_joins, fails as join_fails}
-use Rattle.world_model.specs.Story.{Story}
+use Rattle.world_model.specs.GhostState.{GhostState}
 use Rattle.world_model.specs.World.{World, live_peers, peer_of}
-use Rattle.world_laws.specs.Keeps.{Keeps}
+use Rattle.world_laws.specs.Invariant.{Invariant}
 use Rattle.world_laws.proofs.ExistingAsks.{HasFound, looks_up}
 use Rattle.world_laws.proofs.ExistingFates.{serves_so}
 use Rattle.world_laws.proofs.NodeFates.{from_among}
@@ -48,7 +48,7 @@ among_from : (live : List Peer) (at : ℕ) (m : Peer) → IsAmong m live → IsA
 among_from live at m h = by_test (nat_le at (place m)) refl
   where
     by_test : (b : Bool) → nat_le at (place m) ≡ b → IsAmong m (from_place place live at)
-    by_test true behind = among-left m (filter (λ x. nat_le at (place x)) live) (filter (λ x. nat_lt (place x) at) live) (among_filter (λ x. nat_le at (place x)) m live h behind)
+    by_test true after = among-left m (filter (λ x. nat_le at (place x)) live) (filter (λ x. nat_lt (place x) at) live) (among_filter (λ x. nat_le at (place x)) m live h after)
     by_test false before =
         let below = leb-false at (place m) before in
         among-right m (filter (λ x. nat_le at (place x)) live) (filter (λ x. nat_lt (place x) at) live) (among_filter (λ x. nat_lt (place x) at) m live h (lt-ltb (place m) at (omega (arith, below))))
@@ -123,7 +123,7 @@ ring_line w count r = by_test (is_refused_ring w count r) refl (nat_le count 256
 
 -- ---- a node joins
 
-pub join_line : (w : World) (st : Story) → Keeps (w, st) → (number : ℕ) (o : Option ℕ) → w.replicas ≡ o → (out : Outcome World) × JoinLine hss_judged w number o out
+pub join_line : (w : World) (st : GhostState) → Invariant (w, st) → (number : ℕ) (o : Option ℕ) → w.replicas ≡ o → (out : Outcome World) × JoinLine hss_judged w number o out
 join_line w st keeps number None is = (Refuses, join_before_ring)
 join_line w st keeps number (Some r) is = by_test (is_known_id (map peer_of w.nodes) (peer_numbered number)) refl (nat_le 256 (length w.nodes)) refl (least (live_peers w)) refl
   where

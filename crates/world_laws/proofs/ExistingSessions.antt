@@ -1,4 +1,5 @@
--- Each session that is in hand can be brought to its end, whatever its story: while it refreshes memory may be wanting, and then it publishes.
+-- Each session that is in hand can be brought to its end, whatever its ghost state: while it refreshes memory may run out, and then it
+-- publishes.
 use Rattle.std.proofs.Common.{◌≡◌, ◌≢◌, ℕ, List, [], map, Option, Some, None, refl, subst, le_refl, Contains}
 use Rattle.std.specs.Prelude.{length}
 use Rattle.std.specs.List.{AllByRecursion}
@@ -6,16 +7,16 @@ use Rattle.ring_model.proofs.Lists.{all_weaker}
 use Rattle.dht_ids.specs.declared.ask.Heard.{Heard}
 use Rattle.dht_ids.specs.declared.post.Ack.{Ack}
 use Rattle.dht_ids.specs.declared.post.Post.{Post}
-use Rattle.session_model.specs.Courses.{ended}
-use Rattle.session_model.specs.Courses.LacksMemory.{lacks}
+use Rattle.session_model.specs.Executions.{ended}
+use Rattle.session_model.specs.Executions.LacksMemory.{lacks}
 use Rattle.session_model.specs.Replies.{said_no_memory}
 use Rattle.session_model.specs.Sessions.{Publishing, Refreshing, Over, Said, Session, Stage, in_publishing_order}
 use Rattle.session_model.specs.Sessions.TakesSome.{none as some_none}
 use Rattle.world_model.specs.Logs.{to_publish}
-use Rattle.world_model.specs.Story.{Story}
+use Rattle.world_model.specs.GhostState.{GhostState}
 use Rattle.world_model.specs.Steps.Steps.{lacks_memory}
 use Rattle.world_model.specs.World.{World, Participant, participant, peer_of, with_participant}
-use Rattle.world_laws.specs.Keeps.{AreApart, GoesOn, IsAtStage, IsMetPost, IsRefreshing, Keeps}
+use Rattle.world_laws.specs.Invariant.{AreApart, GoesOn, IsAtStage, IsMetPost, IsRefreshing, Invariant}
 use Rattle.world_laws.specs.Laws.{EachSessionEnds}
 use Rattle.world_laws.proofs.ExistingFates.{Serves, names_made, serves_so}
 use Rattle.world_laws.proofs.ExistingPlans.{Names}
@@ -28,19 +29,19 @@ pub record EndsSo (r : ℕ) (w : World) (s : Session) : Type 0 where
   pub end : Ended r s.by w s (Some said)
 
 at_once : (r : ℕ) (w : World) (s : Session) (said : Said) → s.stage ≡ Over (Some said) → Ended r s.by w s (Some said)
-at_once r w s said at = record { world = w; session = s; is_over = at; course = over (Some said) at }
+at_once r w s said at = record { world = w; session = s; is_over = at; execution = over (Some said) at }
 
--- memory is wanting
+-- memory runs out
 without_memory : (r : ℕ) (w : World) (s : Session) (by : Participant) → participant w s.by ≡ Some by → s.stage ≡ Refreshing → IsRefreshing r s → EndsSo r w s
 without_memory r w s by is_by at h = record {
   said = said_no_memory h.xid;
-  end = after_step step (record { world = with_participant w by; session = ended s (said_no_memory h.xid) [] None; is_over = refl; course = over (Some (said_no_memory h.xid)) refl });
+  end = after_step step (record { world = with_participant w by; session = ended s (said_no_memory h.xid) [] None; is_over = refl; execution = over (Some (said_no_memory h.xid)) refl });
 }
   where
     step : MayStep r s.by w s (with_participant w by) (ended s (said_no_memory h.xid) [] None)
     step st b = (st, lacks_memory by s (ended s (said_no_memory h.xid) [] None) by.cache is_by some_none (lacks h.notes [] h.given h.end h.xid h.asked at h.refreshed h.asks h.notes refl))
 
-module _ (w : World) (st : Story) (r : ℕ) (keeps : Keeps (w, st)) (ringed : w.replicas ≡ Some r) (s : Session) (g : GoesOn w r s) where
+module _ (w : World) (st : GhostState) (r : ℕ) (keeps : Invariant (w, st)) (ringed : w.replicas ≡ Some r) (s : Session) (g : GoesOn w r s) where
   stands : Stands r (map peer_of w.nodes) w.met s.by g.by w
   stands = record { serves = serves_so w st r keeps ringed; apart = keeps.apart; is_by = g.is_by }
 
@@ -71,6 +72,6 @@ publishes_all w r p serves apart is some posts =
     (record { serves = serves; apart = apart; is_by = is }) refl refl (some_entries w some) (entries_made w) (each_published (IsMetPost w.met) p.agent.pending posts)
 
 pub each_session_ends : EachSessionEnds
-each_session_ends w r s story ringed goes_on =
-    let end = session_ends w story.0 r story.1 ringed s goes_on in
-    (end.end.world, end.end.session, end.said, end.end.is_over, λ st b. runs_out end.end.course st b)
+each_session_ends w r s ghost_state ringed goes_on =
+    let end = session_ends w ghost_state.0 r ghost_state.1 ringed s goes_on in
+    (end.end.world, end.end.session, end.said, end.end.is_over, λ st b. runs_out end.end.execution st b)

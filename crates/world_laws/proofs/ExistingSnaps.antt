@@ -11,18 +11,18 @@ use Rattle.agent_model.specs.Agent.{failed, kept_of}
 use Rattle.agent_model.specs.Others.{basis_of, snapped}
 use Rattle.agent_model.specs.SavedBytes.{ArePostsSpelled}
 use Rattle.script_driver.specs.Run.{Goes, Refuses}
-use Rattle.world_model.specs.Agents.{Agent, Kept}
+use Rattle.world_model.specs.Agents.{HssAgent, HssKept}
 use Rattle.world_model.specs.Keepers.{fails_next}
 use Rattle.world_model.specs.Logs.{SnapLine, having_snapped, having_tried, failed_text, snap_text, snapping_in, to_publish}
 use Rattle.world_model.specs.Logs.SnapLine.{nobody, outside, fails, makes, cannot}
 use Rattle.world_model.specs.Steps.{met_by}
-use Rattle.world_model.specs.Story.{Story, began_nothing}
+use Rattle.world_model.specs.GhostState.{GhostState, began_nothing}
 use Rattle.world_model.specs.World.{World, Participant, participant, with_participant}
-use Rattle.world_laws.specs.Keeps.{AreApart, IsMetPost, Keeps}
+use Rattle.world_laws.specs.Invariant.{AreApart, IsMetPost, Invariant}
 use Rattle.world_laws.proofs.Bringing.{found_named}
 use Rattle.world_laws.proofs.ExistingCalls.{IsSeen, some_participant}
 use Rattle.world_laws.proofs.ExistingLines.{serves_more}
-use Rattle.world_laws.proofs.ExistingPuts.{Ended, runs_out, scene}
+use Rattle.world_laws.proofs.ExistingPuts.{Ended, runs_out, configuration}
 use Rattle.world_laws.proofs.ExistingSessions.{publishes_all}
 use Rattle.world_laws.proofs.Frames.{found_placed, into_map, ring_of}
 use Rattle.world_laws.proofs.Placed.{names_placed}
@@ -30,15 +30,15 @@ use Rattle.world_laws.proofs.SignedAmong.{met_stays, met_then}
 use Rattle.world_laws.proofs.SpelledPosts.{spelled_or_not}
 
 -- what is published of a snapshot that was made is what was to be saved
-abbrev IsSpelledSo : (Agent × Bool) × Option Kept → Type 0
+abbrev IsSpelledSo : (HssAgent × Bool) × Option HssKept → Type 0
 IsSpelledSo s = s.0.1 ≡ true → IfSome s.1 (λ k. ArePostsSpelled k.pending) → ArePostsSpelled s.0.0.pending
 
-spelled_so : (a tried made : Agent) (k : Kept) → k.pending ≡ made.pending → (before now : Bool) → IsSpelledSo (cond before ((a, false), None) (cond now (tried, false) (made, true), Some k))
+spelled_so : (a tried made : HssAgent) (k : HssKept) → k.pending ≡ made.pending → (before now : Bool) → IsSpelledSo (cond before ((a, false), None) (cond now (tried, false) (made, true), Some k))
 spelled_so a tried made k same true now e spelled = cc e
 spelled_so a tried made k same false true e spelled = cc e
 spelled_so a tried made k same false false e spelled = subst ArePostsSpelled same spelled
 
-module _ (w : World) (st : Story) (keeps : Keeps (w, st)) (log : List ℕ) (p : Participant) (is_p : participant w log ≡ Some p) (view : View) (in_view : p.agent.view ≡ Some view)
+module _ (w : World) (st : GhostState) (keeps : Invariant (w, st)) (log : List ℕ) (p : Participant) (is_p : participant w log ≡ Some p) (view : View) (in_view : p.agent.view ≡ Some view)
     (spelled : IfSome (snapping_in p view).1 (λ k. ArePostsSpelled k.pending)) where
   abbrev q : Participant
   q = having_snapped p view
@@ -48,7 +48,7 @@ module _ (w : World) (st : Story) (keeps : Keeps (w, st)) (log : List ℕ) (p : 
 
   posts_spelled : (snapping_in p view).0.1 ≡ true → ArePostsSpelled q.agent.pending
   posts_spelled tried =
-      let made : Agent = snapped p.agent (root_name view (basis_of p.agent.holding)) (snapshot_blocks view (basis_of p.agent.holding)) in
+      let made : HssAgent = snapped p.agent (root_name view (basis_of p.agent.holding)) (snapshot_blocks view (basis_of p.agent.holding)) in
       spelled_so p.agent (failed p.agent) made (kept_of made) refl p.agent.has_failed (fails_next p.keeper) tried spelled
 
   posts_met : ArePostsSpelled q.agent.pending → AllByRecursion (IsMetPost v.met) q.agent.pending
@@ -80,14 +80,14 @@ module _ (w : World) (st : Story) (keeps : Keeps (w, st)) (log : List ℕ) (p : 
           let ring = some_participant w st keeps p (found_named w.participants log p is_p).0 in
           let end = published ring.0 ring.1 h in (
             Goes end.world (snap_text p.name (root_name view (basis_of p.agent.holding))),
-            λ su fits. let runs = runs_out end.course su began_nothing in (
+            λ su fits. let runs = runs_out end.execution su began_nothing in (
               Goes (end.world, runs.0) (snap_text p.name (root_name view (basis_of p.agent.holding))),
-              makes p q view ring.0 (end.world, runs.0) in_view tried ring.1 refl h (scene end.world runs.0 end.session began_nothing, runs.1, refl),
+              makes p q view ring.0 (end.world, runs.0) in_view tried ring.1 refl h (configuration end.world runs.0 end.session began_nothing, runs.1, refl),
               refl,
             ),
           )
 
-pub snap_line : (w : World) (st : Story) → Keeps (w, st) → (log : List ℕ) (o : Option Participant) → participant w log ≡ o → IsSeen w (λ su out. SnapLine hss_judged (w, su) o out)
+pub snap_line : (w : World) (st : GhostState) → Invariant (w, st) → (log : List ℕ) (o : Option Participant) → participant w log ≡ o → IsSeen w (λ su out. SnapLine hss_judged (w, su) o out)
 snap_line w st keeps log None is = (Refuses, λ su fits. (Refuses, nobody, refl))
 snap_line w st keeps log (Some p) is = by_view p.agent.view refl
   where

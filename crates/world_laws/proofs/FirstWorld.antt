@@ -1,4 +1,4 @@
--- A script begins in a world that keeps what it should.
+-- A script begins in a world in which the invariant holds.
 use Rattle.std.proofs.Common.{refl, arith}
 use Rattle.log_model.proofs.Lists.{in_nothing}
 use Rattle.world_laws.specs.Laws.{EmptyKeeps}

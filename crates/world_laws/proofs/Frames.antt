@@ -1,4 +1,4 @@
--- Changes that touch no more than they may leave a world that keeps what it should.
+-- Changes that touch no more than they may leave a world in which the invariant holds.
 use Rattle.std.proofs.Common.{◌≡◌, ◌≢◌, ⊎_elim, ℕ, ◌≤◌, Bool, true, false, cond, List, [], ◌∷◌, ◌++◌, length, map, filter, Option, Some, None, refl, sym, ap, ◌∙◌, subst, arith, Contains}
 use Rattle.std.specs.List.{AllByRecursion, find}
 use Rattle.std.specs.Str.{bytes_eq}
@@ -6,7 +6,7 @@ use Rattle.std.proofs.lemmas.List.{length-map}
 use Rattle.std.proofs.lemmas.Slice.Eq.{bytes_eq-Decides}
 use Rattle.ring_model.proofs.Lists.{all_weaker}
 use Rattle.ivy_base.specs.declared.key.PubKey.{PubKey}
-use Rattle.ivy_base.specs.Naming.{NamesTellApart}
+use Rattle.ivy_base.specs.Naming.{IsCollisionFree}
 use Rattle.log_model.proofs.Lists.{each, each_from, from_filter, here, in_cons, in_filter, in_nothing, there}
 use Rattle.log_model.specs.Record.{Record}
 use Rattle.log_model.specs.View.{View}
@@ -22,17 +22,17 @@ use Rattle.round_laws.specs.RingOf.{AreApart as StandApart}
 use Rattle.agent_model.specs.Agent.{is_head, kept_of}
 use Rattle.agent_model.specs.SavedBytes.{ArePostsSpelled}
 use Rattle.session_model.specs.Sessions.{Said, Session, Stage, Refreshing, Publishing, Over}
-use Rattle.world_model.specs.Agents.{Agent, IsKept, own}
+use Rattle.world_model.specs.Agents.{HssAgent, IsHssKept, own_hss_key}
 use Rattle.world_model.specs.Nodes.{Node}
 use Rattle.world_model.specs.World.{World, NamedSession, Participant, named_bytes, participant, peer_of, with_participant}
-use Rattle.world_model.specs.Story.{Began, Story, began_of, knowing_of, known_of}
+use Rattle.world_model.specs.GhostState.{Began, GhostState, began_of, knowing_of, known_of}
 use Rattle.world_model.specs.Logs.{Played}
 use Rattle.world_model.specs.Steps.{heads_by}
 use Rattle.world_laws.specs.Causes.{HasCause, said_at}
 use Rattle.world_laws.specs.Causes.HasCause.{alone, missed, turned, no_memory}
-use Rattle.world_laws.specs.Keeps.{AreApart, AreSound, BlocksAreMet, GoesOn, HasRing, HasSaid, IsAnswerIn, IsAtStage, IsKeptSo, IsMetPost, IsSavedWell, AreParticipants, EntersOwned, IsSoundKeptIn, IsSoundSession, Keeps, KeepsUp, PeersAreMade, SignsOnce}
-use Rattle.world_laws.specs.Keeps.KeepsUp.{still, grown, dropped}
-use Rattle.world_laws.specs.Frames.{AreOfRing, Change, Changes, IsMild, IsMildChange, MildChangesKeep, MoreBlocksKeep, changed, changed_by, unchanged}
+use Rattle.world_laws.specs.Invariant.{AreApart, AreSound, BlocksAreMet, GoesOn, HasRing, HasSaid, IsAnswerIn, IsAtStage, IsKeptSo, IsMetPost, IsSavedWell, AreParticipants, EntersOwned, IsSoundKeptIn, IsSoundSession, Invariant, KeepsUp, PeersAreMade, SignsOnce}
+use Rattle.world_laws.specs.Invariant.KeepsUp.{still, grown, dropped}
+use Rattle.world_laws.specs.Frames.{AreOfRing, Change, Changes, IsWithinFrame, IsChangeWithinFrame, FrameRule, MoreBlocksKeep, changed, changed_by, unchanged}
 use Rattle.world_laws.proofs.MoreMet.{grows_before, more_heads, more_kept_in, more_posts, more_snapshot, more_snapshots, more_sound, more_to_load, some_weaker}
 use Rattle.world_laws.proofs.SignedHeads.{from_map}
 use Rattle.world_laws.proofs.Bringing.{found_named}
@@ -118,12 +118,12 @@ goes_on_still w v grows peers r s h d is = record {
   stage = stage_stays w v grows r s s.stage h.stage;
 }
 
-keeps_up_still : (s : Session) (of : Holding) (a : Agent) (posts : List Post) (fails : Bool) (known : List Record) → KeepsUp s of a known → KeepsUp s of (record a { pending = posts; has_failed = fails }) known
+keeps_up_still : (s : Session) (of : Holding) (a : HssAgent) (posts : List Post) (fails : Bool) (known : List Record) → KeepsUp s of a known → KeepsUp s of (record a { pending = posts; has_failed = fails }) known
 keeps_up_still s of a posts fails known (still load held floor) = still load held floor
 keeps_up_still s of a posts fails known (grown load all far) = grown load all far
 keeps_up_still s of a posts fails known (dropped other first load basis) = dropped other first load basis
 
-pub sound_still : (w v : World) (st : Story) → ((b : List ℕ) → Contains w.met b → Contains v.met b) → (s : Session) (b : Began) (h : IsSoundSession w st s b) (d : Change) (acked : List Post)
+pub sound_still : (w v : World) (st : GhostState) → ((b : List ℕ) → Contains w.met b → Contains v.met b) → (s : Session) (b : Began) (h : IsSoundSession w st s b) (d : Change) (acked : List Post)
     → participant v s.by ≡ Some (changed h.by d) → IsSoundSession v (record st { acked = acked }) s b
 sound_still w v st grows s b h d acked is = record {
   by = changed h.by d;
@@ -144,25 +144,25 @@ sound_still w v st grows s b h d acked is = record {
 
 -- ---- what sessions say
 
-cause_still : (st : Story) (acked : List Post) (n : ℕ) (s : Session) (said : Said) → HasCause st n s said → HasCause (record st { acked = acked }) n s said
+cause_still : (st : GhostState) (acked : List Post) (n : ℕ) (s : Session) (said : Said) → HasCause st n s said → HasCause (record st { acked = acked }) n s said
 cause_still st acked n s _ (alone given by) = alone given by
 cause_still st acked n s _ (missed xid asked given miss asks refreshed is) = missed xid asked given miss asks refreshed is
 cause_still st acked n s _ (turned h xid asked given among of asks refreshed) = turned h xid asked given among of asks refreshed
 cause_still st acked n s _ (no_memory xid asked asks) = no_memory xid asked asks
 
-pub said_still : (st : Story) (acked : List Post) (n : ℕ) (s : Session) (o : Option Said) → HasSaid st n s o → HasSaid (record st { acked = acked }) n s o
+pub said_still : (st : GhostState) (acked : List Post) (n : ℕ) (s : Session) (o : Option Said) → HasSaid st n s o → HasSaid (record st { acked = acked }) n s o
 said_still st acked n s None h = tt
 said_still st acked n s (Some said) h = cause_still st acked n s said h
 
 -- ---- views
 
 -- whose members were participants has members that are, where the keys are the same
-pub still_participants : (w v : World) → map (λ (p : Participant). own p.agent) v.participants ≡ map (λ (p : Participant). own p.agent) w.participants → (view : View) → AreParticipants w view → AreParticipants v view
+pub still_participants : (w v : World) → map (λ (p : Participant). own_hss_key p.agent) v.participants ≡ map (λ (p : Participant). own_hss_key p.agent) w.participants → (view : View) → AreParticipants w view → AreParticipants v view
 still_participants w v same view h = all_weaker _ _ view.members (λ k c. subst (λ ks. Contains ks k) (sym same) c) h
 
 -- ---- the whole
 
-module _ (w : Played) (c : Changes) (keeps : Keeps w) (mild : IsMild w.0 c) where
+module _ (w : Played) (c : Changes) (keeps : Invariant w) (within_frame : IsWithinFrame w.0 c) where
   abbrev v : World
   v = (changed_by c w).0
 
@@ -182,11 +182,11 @@ module _ (w : Played) (c : Changes) (keeps : Keeps w) (mild : IsMild w.0 c) wher
     nodes.0,
     nodes.1,
     all_weaker (λ (s : NamedSession). GoesOn w.0 r s.session) (λ (s : NamedSession). GoesOn v r s.session) w.0.sessions
-        (λ s g. goes_on_still w.0 v mild.grows mild.peers r s.session g (c.change g.by) (found s.session.by g.by g.is_by)) h.3,
+        (λ s g. goes_on_still w.0 v within_frame.grows within_frame.peers r s.session g (c.change g.by) (found s.session.by g.by g.is_by)) h.3,
   )
 
-  owners : map (λ (p : Participant). own p.agent) v.participants ≡ map (λ (p : Participant). own p.agent) w.0.participants
-  owners = same_map (λ (p : Participant). own p.agent) now w.0.participants (λ p among. refl)
+  owners : map (λ (p : Participant). own_hss_key p.agent) v.participants ≡ map (λ (p : Participant). own_hss_key p.agent) w.0.participants
+  owners = same_map (λ (p : Participant). own_hss_key p.agent) now w.0.participants (λ p among. refl)
 
   owned_then : (view : View) → AreParticipants w.0 view → AreParticipants v view
   owned_then view h = still_participants w.0 v owners view h
@@ -194,76 +194,76 @@ module _ (w : Played) (c : Changes) (keeps : Keeps w) (mild : IsMild w.0 c) wher
   entered : (p : Participant) → Contains w.0.participants p → EntersOwned w.0 p → EntersOwned v (now p)
   entered p among h = record {
     agent = some_weaker _ _ p.agent.view owned_then h.agent;
-    keeper = (h.keeper.0, h.keeper.1, (mild.each p among).kept ∙ h.keeper.2, some_weaker _ _ h.keeper.0.view owned_then h.keeper.3);
+    keeper = (h.keeper.0, h.keeper.1, (within_frame.each p among).kept ∙ h.keeper.2, some_weaker _ _ h.keeper.0.view owned_then h.keeper.3);
   }
 
   blocks : BlocksAreMet v
   blocks = record {
-    held = mild.held;
+    held = within_frame.held;
     pending = all_mapped _ now w.0.participants (λ p among. each_from (IsMetPost v.met) (c.change p).pending (λ post is.
-        let old = each (IsMetPost w.0.met) p.agent.pending post (each _ w.0.participants p keeps.met.pending among) ((mild.each p among).pending post is) in
-        (mild.grows post.bytes old.0, old.1)));
-    cached = all_mapped _ now w.0.participants (λ p among. (mild.each p among).cached);
-    views = all_weaker _ _ c.views (λ v h. (h.0, h.1, owned_then v.view h.2)) mild.views;
+        let old = each (IsMetPost w.0.met) p.agent.pending post (each _ w.0.participants p keeps.met.pending among) ((within_frame.each p among).pending post is) in
+        (within_frame.grows post.bytes old.0, old.1)));
+    cached = all_mapped _ now w.0.participants (λ p among. (within_frame.each p among).cached);
+    views = all_weaker _ _ c.views (λ v h. (h.0, h.1, owned_then v.view h.2)) within_frame.views;
   }
 
   peers : PeersAreMade v
-  peers = record { named = mild.made.named; apart = mild.made.apart; few = mild.made.few; known = mild.made.known }
+  peers = record { named = within_frame.made.named; apart = within_frame.made.apart; few = within_frame.made.few; known = within_frame.made.known }
 
   signs : (p : Participant) → Contains w.0.participants p → IsKeptSo SignsOnce p → IsKeptSo SignsOnce (now p)
   signs p among so = (
     so.0,
     so.1,
-    (mild.each p among).kept ∙ so.2,
+    (within_frame.each p among).kept ∙ so.2,
     record {
       same = so.3.same;
       saved = so.3.saved;
       reaches = so.3.reaches;
       left = so.3.left;
       kept = so.3.kept;
-      pending = each_from (Contains p.left) (heads_by (c.change p).pending) (λ b is. each (Contains p.left) (heads_by p.agent.pending) b so.3.pending (fewer_heads (c.change p).pending p.agent.pending (mild.each p among).pending b is));
+      pending = each_from (Contains p.left) (heads_by (c.change p).pending) (λ b is. each (Contains p.left) (heads_by p.agent.pending) b so.3.pending (fewer_heads (c.change p).pending p.agent.pending (within_frame.each p among).pending b is));
     },
   )
 
-  may_be_saved : (p : Participant) → Contains w.0.participants p → IsKept (kept_of p.agent) → IsKept (kept_of (now p).agent)
+  may_be_saved : (p : Participant) → Contains w.0.participants p → IsHssKept (kept_of p.agent) → IsHssKept (kept_of (now p).agent)
   may_be_saved p among h = record {
     signer = h.signer;
     some = h.some;
     few = h.few;
     floor = h.floor;
     view = h.view;
-    posts = fewer_spelled (c.change p).pending p.agent.pending (mild.each p among).pending (mild.each p among).fewer h.posts;
+    posts = fewer_spelled (c.change p).pending p.agent.pending (within_frame.each p among).pending (within_frame.each p among).fewer h.posts;
     snapshot = h.snapshot;
   }
 
   saved : (p : Participant) → Contains w.0.participants p → IsKeptSo IsSavedWell p → IsKeptSo IsSavedWell (now p)
-  saved p among so = (so.0, so.1, (mild.each p among).kept ∙ so.2, record { agent = may_be_saved p among so.3.agent; entered = so.3.entered })
+  saved p among so = (so.0, so.1, (within_frame.each p among).kept ∙ so.2, record { agent = may_be_saved p among so.3.agent; entered = so.3.entered })
 
-  keys : map (λ (p : Participant). (own p.agent).0) v.participants ≡ map (λ (p : Participant). (own p.agent).0) w.0.participants
-  keys = same_map (λ (p : Participant). (own p.agent).0) now w.0.participants (λ p among. refl)
+  keys : map (λ (p : Participant). (own_hss_key p.agent).0) v.participants ≡ map (λ (p : Participant). (own_hss_key p.agent).0) w.0.participants
+  keys = same_map (λ (p : Participant). (own_hss_key p.agent).0) now w.0.participants (λ p among. refl)
 
-  apart_before : NamesTellApart (named_bytes v) → NamesTellApart (named_bytes w.0)
+  apart_before : IsCollisionFree (named_bytes v) → IsCollisionFree (named_bytes w.0)
   apart_before apart a b in_a in_b same = apart a b (more a in_a) (more b in_b) same
     where
       more : (b : List ℕ) → Contains (named_bytes w.0) b → Contains (named_bytes v) b
-      more b h = subst (λ ks. Contains (v.met ++ ks) b) (sym keys) (grows_before w.0.met v.met mild.grows (map (λ (p : Participant). (own p.agent).0) w.0.participants) b h)
+      more b h = subst (λ ks. Contains (v.met ++ ks) b) (sym keys) (grows_before w.0.met v.met within_frame.grows (map (λ (p : Participant). (own_hss_key p.agent).0) w.0.participants) b h)
 
   kept_sound : (p : Participant) → Contains w.0.participants p → IsKeptSo (λ q k. IsSoundKeptIn w.0.met q (knowing_of w.1 q.name) k k.view) p → IsKeptSo (λ q k. IsSoundKeptIn v.met q (knowing_of w.1 q.name) k k.view) (now p)
-  kept_sound p among so = (so.0, so.1, (mild.each p among).kept ∙ so.2, more_kept_in w.0.met v.met mild.grows p (c.change p) (knowing_of w.1 p.name) so.0 so.0.view so.3)
+  kept_sound p among so = (so.0, so.1, (within_frame.each p among).kept ∙ so.2, more_kept_in w.0.met v.met within_frame.grows p (c.change p) (knowing_of w.1 p.name) so.0 so.0.view so.3)
 
   sound : AreSound w.0 w.1 → AreSound v (record w.1 { acked = c.acked })
   sound h = record {
-    agents = all_mapped _ now w.0.participants (λ p among. more_sound w.0.met v.met mild.grows p (c.change p) (knowing_of w.1 p.name) p.agent.view (each _ w.0.participants p h.agents among));
+    agents = all_mapped _ now w.0.participants (λ p among. more_sound w.0.met v.met within_frame.grows p (c.change p) (knowing_of w.1 p.name) p.agent.view (each _ w.0.participants p h.agents among));
     keepers = all_mapped _ now w.0.participants (λ p among. kept_sound p among (each _ w.0.participants p h.keepers among));
-    to_load = all_mapped _ now w.0.participants (λ p among. more_to_load w.0.met v.met mild.grows p (known_of w.1 p.name) p.agent.view (each _ w.0.participants p h.to_load among));
-    snapshots = all_mapped _ now w.0.participants (λ p among. more_snapshots w.0.met v.met mild.grows p (known_of w.1 p.name) p.agent.view (each _ w.0.participants p h.snapshots among));
-    sessions = all_weaker _ _ w.0.sessions (λ s g. sound_still w.0 v w.1 mild.grows s.session (began_of w.1 s.name) g (c.change g.by) c.acked (found s.session.by g.by g.is_by)) h.sessions;
+    to_load = all_mapped _ now w.0.participants (λ p among. more_to_load w.0.met v.met within_frame.grows p (known_of w.1 p.name) p.agent.view (each _ w.0.participants p h.to_load among));
+    snapshots = all_mapped _ now w.0.participants (λ p among. more_snapshots w.0.met v.met within_frame.grows p (known_of w.1 p.name) p.agent.view (each _ w.0.participants p h.snapshots among));
+    sessions = all_weaker _ _ w.0.sessions (λ s g. sound_still w.0 v w.1 within_frame.grows s.session (began_of w.1 s.name) g (c.change g.by) c.acked (found s.session.by g.by g.is_by)) h.sessions;
   }
 
-  mild_changes : Keeps (changed_by c w)
-  mild_changes = record {
+  changes_within_frame : Invariant (changed_by c w)
+  changes_within_frame = record {
     fits = record { participants = keeps.fits.participants ∙ sym names; sessions = keeps.fits.sessions };
-    ring = ring w.0.replicas mild.ring keeps.ring;
+    ring = ring w.0.replicas within_frame.ring keeps.ring;
     met = blocks;
     peers = peers;
     signs = all_mapped _ now w.0.participants (λ p among. signs p among (each _ w.0.participants p keeps.signs among));
@@ -271,15 +271,15 @@ module _ (w : Played) (c : Changes) (keeps : Keeps w) (mild : IsMild w.0 c) wher
     entered = all_mapped _ now w.0.participants (λ p among. entered p among (each _ w.0.participants p keeps.entered among));
     apart = subst AreApart (sym names) keeps.apart;
     named_once = keeps.named_once;
-    moment = mild.moment;
-    received = all_weaker _ _ w.1.participants (λ k g. more_heads w.0.met v.met mild.grows k.received g) keeps.received;
+    moment = within_frame.moment;
+    received = all_weaker _ _ w.1.participants (λ k g. more_heads w.0.met v.met within_frame.grows k.received g) keeps.received;
     numbers = record { apart = keeps.numbers.apart; sessions = keeps.numbers.sessions; turns = keeps.numbers.turns };
     said = all_weaker _ _ w.0.sessions (λ s g. said_still w.1 c.acked (began_of w.1 s.name).number s.session (said_at s.session.stage) g) keeps.said;
     sound = λ apart. sound (keeps.sound (apart_before apart));
   }
 
-pub mild_changes_keep : MildChangesKeep
-mild_changes_keep = mild_changes
+pub frame_rule : FrameRule
+frame_rule = changes_within_frame
 
 -- ---- worlds alone
 
@@ -296,9 +296,9 @@ no_changes w = record {
   acked = w.1.acked;
 }
 
-module _ (w : Played) (keeps : Keeps w) (met : List (List ℕ)) (grows : (b : List ℕ) → Contains w.0.met b → Contains met b) where
-  pub unchanged_mild : (p : Participant) → Contains w.0.participants p → IsMildChange met p (unchanged p)
-  unchanged_mild p among = record {
+module _ (w : Played) (keeps : Invariant w) (met : List (List ℕ)) (grows : (b : List ℕ) → Contains w.0.met b → Contains met b) where
+  pub unchanged_within_frame : (p : Participant) → Contains w.0.participants p → IsChangeWithinFrame met p (unchanged p)
+  unchanged_within_frame p among = record {
     kept = refl;
     pending = λ post is. is;
     fewer = omega arith;
@@ -329,18 +329,18 @@ pub still_some : (old new : List Node) → map peer_of new ≡ map peer_of old �
 still_some [] new same some e = some refl
 still_some (n ∷ old) new same some e = let none : [] ≡ map peer_of (n ∷ old) = sym (ap (map peer_of) e) ∙ same in cc none
 
-pub ring_of : (w : Played) → Keeps w → {r : ℕ} → w.0.replicas ≡ Some r → HasRing w.0 (Some r)
+pub ring_of : (w : Played) → Invariant w → {r : ℕ} → w.0.replicas ≡ Some r → HasRing w.0 (Some r)
 ring_of w keeps ringed = subst (HasRing w.0) ringed keeps.ring
 
-pub nodes_of_ring : (w : Played) (r : ℕ) → Keeps w → w.0.replicas ≡ Some r → AreNodes r w.0
+pub nodes_of_ring : (w : Played) (r : ℕ) → Invariant w → w.0.replicas ≡ Some r → AreNodes r w.0
 nodes_of_ring w r keeps ringed = record { apart = keeps.peers.apart; replicas = (ring_of w keeps ringed).2; known = keeps.peers.known }
 
 -- where no participant changes
-pub world_changes : (w : Played) (c : Changes) → Keeps w → IsMild w.0 (record c { change = unchanged })
-    → Keeps (record w.0 { nodes = c.nodes; views = c.views; replies = c.replies; now = c.now; asked = c.asked; lost = c.lost; met = c.met }, record w.1 { acked = c.acked })
-world_changes w c keeps mild =
-    subst (λ ps. Keeps (record w.0 { nodes = c.nodes; participants = ps; views = c.views; replies = c.replies; now = c.now; asked = c.asked; lost = c.lost; met = c.met }, record w.1 { acked = c.acked }))
-    (same_elements (λ p. changed p (unchanged p)) w.0.participants (λ p among. refl)) (mild_changes_keep w (record c { change = unchanged }) keeps mild)
+pub world_changes : (w : Played) (c : Changes) → Invariant w → IsWithinFrame w.0 (record c { change = unchanged })
+    → Invariant (record w.0 { nodes = c.nodes; views = c.views; replies = c.replies; now = c.now; asked = c.asked; lost = c.lost; met = c.met }, record w.1 { acked = c.acked })
+world_changes w c keeps within_frame =
+    subst (λ ps. Invariant (record w.0 { nodes = c.nodes; participants = ps; views = c.views; replies = c.replies; now = c.now; asked = c.asked; lost = c.lost; met = c.met }, record w.1 { acked = c.acked }))
+    (same_elements (λ p. changed p (unchanged p)) w.0.participants (λ p among. refl)) (frame_rule w (record c { change = unchanged }) keeps within_frame)
 
 pub more_blocks_keep : MoreBlocksKeep
 more_blocks_keep w st met keeps grows = world_changes (w, st) (record (no_changes (w, st)) { met = met }) keeps (record {
@@ -351,14 +351,14 @@ more_blocks_keep w st met keeps grows = world_changes (w, st) (record (no_change
   views = keeps.met.views;
   moment = keeps.moment;
   grows = grows;
-  each = unchanged_mild (w, st) keeps met grows;
+  each = unchanged_within_frame (w, st) keeps met grows;
 })
 
 -- Other nodes of the same peers, and other acknowledgements.
-pub ring_keeps : (w : Played) (r : ℕ) (next : World) (acked : List Post) → Keeps w → w.0.replicas ≡ Some r → next ≡ record w.0 { nodes = next.nodes; asked = next.asked } → AreNodes r next
-    → map peer_of next.nodes ≡ map peer_of w.0.nodes → AllByRecursion (λ n. IsStore n.blocks × AllByRecursion (λ e. Contains w.0.met e.1.bytes) n.blocks) next.nodes → Keeps (next, record w.1 { acked = acked })
+pub ring_keeps : (w : Played) (r : ℕ) (next : World) (acked : List Post) → Invariant w → w.0.replicas ≡ Some r → next ≡ record w.0 { nodes = next.nodes; asked = next.asked } → AreNodes r next
+    → map peer_of next.nodes ≡ map peer_of w.0.nodes → AllByRecursion (λ n. IsStore n.blocks × AllByRecursion (λ e. Contains w.0.met e.1.bytes) n.blocks) next.nodes → Invariant (next, record w.1 { acked = acked })
 ring_keeps w r next acked keeps ringed rest ring same held =
-    subst (λ (v : World). Keeps (v, record w.1 { acked = acked })) (sym rest)
+    subst (λ (v : World). Invariant (v, record w.1 { acked = acked })) (sym rest)
     (world_changes w (record (no_changes w) { nodes = next.nodes; asked = next.asked; acked = acked }) keeps (record {
       peers = λ p h. subst (λ made. Contains made p) (sym same) h;
       made = made_still w.0 next.nodes keeps.peers same ring.known;
@@ -367,7 +367,7 @@ ring_keeps w r next acked keeps ringed rest ring same held =
       views = keeps.met.views;
       moment = keeps.moment;
       grows = λ b h. h;
-      each = unchanged_mild w keeps w.0.met (λ b h. h);
+      each = unchanged_within_frame w keeps w.0.met (λ b h. h);
     }))
 
 -- ---- one participant
@@ -407,11 +407,11 @@ module _ (w : World) (apart : AreApart (map (λ p. p.name) w.participants)) (nam
           by true same = sym ((bytes_eq-Decides o.name q.name).0 same)
           by false other = refl
 
--- A mild change of one participant.
-pub participant_keeps : (w : Played) (name : List ℕ) (p : Participant) (d : Change) → Keeps w → participant w.0 name ≡ Some p → IsMildChange w.0.met p d → Keeps (with_participant w.0 (changed p d), w.1)
-participant_keeps w name p d keeps is mild =
-    subst (λ ps. Keeps (record w.0 { participants = ps }, w.1)) (sym (same_maps (λ q. cond (bytes_eq q.name p.name) (changed p d) q) (λ q. changed q (pick q)) w.0.participants same))
-    (mild_changes_keep w (record (no_changes w) { change = pick }) keeps (record {
+-- A change of one participant within the frame condition.
+pub participant_keeps : (w : Played) (name : List ℕ) (p : Participant) (d : Change) → Invariant w → participant w.0 name ≡ Some p → IsChangeWithinFrame w.0.met p d → Invariant (with_participant w.0 (changed p d), w.1)
+participant_keeps w name p d keeps is within_frame =
+    subst (λ ps. Invariant (record w.0 { participants = ps }, w.1)) (sym (same_maps (λ q. cond (bytes_eq q.name p.name) (changed p d) q) (λ q. changed q (pick q)) w.0.participants same))
+    (frame_rule w (record (no_changes w) { change = pick }) keeps (record {
       peers = λ q h. h;
       made = keeps.peers;
       ring = of_ring w.0 w.0.replicas keeps.ring;
@@ -419,7 +419,7 @@ participant_keeps w name p d keeps is mild =
       views = keeps.met.views;
       moment = keeps.moment;
       grows = λ b h. h;
-      each = λ q among. mild_pick q among (bytes_eq q.name p.name) refl;
+      each = λ q among. pick_within_frame q among (bytes_eq q.name p.name) refl;
     }))
   where
     pick : Participant → Change
@@ -435,17 +435,17 @@ participant_keeps w name p d keeps is mild =
         by true e = ap (λ o. changed o d) (one q among e)
         by false e = refl
 
-    mild_pick : (q : Participant) → Contains w.0.participants q → (b : Bool) → bytes_eq q.name p.name ≡ b → IsMildChange w.0.met q (cond b d (unchanged q))
-    mild_pick q among true e = subst (λ o. IsMildChange w.0.met o d) (one q among e) mild
-    mild_pick q among false e = unchanged_mild w keeps w.0.met (λ b h. h) q among
+    pick_within_frame : (q : Participant) → Contains w.0.participants q → (b : Bool) → bytes_eq q.name p.name ≡ b → IsChangeWithinFrame w.0.met q (cond b d (unchanged q))
+    pick_within_frame q among true e = subst (λ o. IsChangeWithinFrame w.0.met o d) (one q among e) within_frame
+    pick_within_frame q among false e = unchanged_within_frame w keeps w.0.met (λ b h. h) q among
 
 -- the keys of participants, with one in its place that has the same
-pub same_keys : (w : World) → AreApart (map (λ p. p.name) w.participants) → (name : List ℕ) (p : Participant) → participant w name ≡ Some p → (q : Participant) → q.name ≡ p.name → own q.agent ≡ own p.agent
-    → map (λ (o : Participant). (own o.agent).0) (with_participant w q).participants ≡ map (λ (o : Participant). (own o.agent).0) w.participants
-same_keys w apart name p is q named owned = same_map (λ (o : Participant). (own o.agent).0) (λ o. cond (bytes_eq o.name q.name) q o) w.participants (λ o among. by o among (bytes_eq o.name q.name) refl)
+pub same_keys : (w : World) → AreApart (map (λ p. p.name) w.participants) → (name : List ℕ) (p : Participant) → participant w name ≡ Some p → (q : Participant) → q.name ≡ p.name → own_hss_key q.agent ≡ own_hss_key p.agent
+    → map (λ (o : Participant). (own_hss_key o.agent).0) (with_participant w q).participants ≡ map (λ (o : Participant). (own_hss_key o.agent).0) w.participants
+same_keys w apart name p is q named owned = same_map (λ (o : Participant). (own_hss_key o.agent).0) (λ o. cond (bytes_eq o.name q.name) q o) w.participants (λ o among. by o among (bytes_eq o.name q.name) refl)
   where
-    by : (o : Participant) → Contains w.participants o → (b : Bool) → bytes_eq o.name q.name ≡ b → (own (cond b q o).agent).0 ≡ (own o.agent).0
+    by : (o : Participant) → Contains w.participants o → (b : Bool) → bytes_eq o.name q.name ≡ b → (own_hss_key (cond b q o).agent).0 ≡ (own_hss_key o.agent).0
     by o among true same =
         let one : p ≡ o = one_named (λ (x : Participant). x.name) w.participants p o apart (found_named w.participants name p is).0 among (sym ((bytes_eq-Decides o.name q.name).0 same ∙ named)) in
-        ap (λ (k : PubKey). k.0) owned ∙ ap (λ (x : Participant). (own x.agent).0) one
+        ap (λ (k : PubKey). k.0) owned ∙ ap (λ (x : Participant). (own_hss_key x.agent).0) one
     by o among false other = refl

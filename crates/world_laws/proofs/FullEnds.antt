@@ -18,17 +18,17 @@ use Rattle.agent_model.specs.Standing.{Refresh}
 use Rattle.agent_model.specs.Turning.{TurnEnd, Turns}
 use Rattle.agent_model.specs.Turning.Turns.{behind, below, answers as turn_answers}
 use Rattle.turn_laws.specs.Laws.{HasRoom}
-use Rattle.session_model.specs.Courses.{Fails, IsRefusal, LacksMemory, Settles, TakesTurn}
-use Rattle.session_model.specs.Courses.Fails.{fails, goes_on as fails_not}
-use Rattle.session_model.specs.Courses.LacksMemory.{lacks}
-use Rattle.session_model.specs.Courses.Settles.{settles as settles_all}
-use Rattle.session_model.specs.Courses.TakesTurn.{answers, begins_anew, gives_up}
+use Rattle.session_model.specs.Executions.{Fails, IsRefusal, LacksMemory, Settles, TakesTurn}
+use Rattle.session_model.specs.Executions.Fails.{fails, goes_on as fails_not}
+use Rattle.session_model.specs.Executions.LacksMemory.{lacks}
+use Rattle.session_model.specs.Executions.Settles.{settles as settles_all}
+use Rattle.session_model.specs.Executions.TakesTurn.{answers, begins_again, gives_up}
 use Rattle.session_model.specs.Sessions.{Cache, Hears, Refreshing, Said, Session, Takes, TakesAll, acknowledged, after_put}
 use Rattle.session_model.specs.Sessions.Hears.{gets_on, got, puts_on, puts}
 use Rattle.session_model.specs.Sessions.Takes.{posted, cached}
 use Rattle.session_model.specs.Sessions.TakesAll.{none as takes_none, more as takes_more}
-use Rattle.world_model.specs.Agents.{Agent, Kept, hss}
-use Rattle.world_model.specs.Steps.{Acts, Scene, Steps, StepsOn, after_turn, RunsOut}
+use Rattle.world_model.specs.Agents.{HssAgent, HssKept, hss_signing}
+use Rattle.world_model.specs.Steps.{Acts, Configuration, Steps, StepsOn, after_turn, RunsOut}
 use Rattle.world_model.specs.Steps.Acts.{asks, asks_in_vain, is_refused, settles, turns}
 use Rattle.world_model.specs.Steps.Steps.{acts, lacks_memory}
 use Rattle.world_model.specs.Steps.StepsOn.{is_over as steps_over, more as steps_more, none as steps_none}
@@ -36,7 +36,7 @@ use Rattle.world_model.specs.World.{Participant, named_bytes, participant}
 use Rattle.world_model.specs.Steps.RunsOut.{more as runs_more}
 use Rattle.world_laws.specs.FullTurns.{AreBytes, GoesToItsEnd, SessionsGoToTheirEnds, SessionsEndOrClash}
 use Rattle.world_laws.specs.FullTurns.GoesToItsEnd.{ends as it_ends, clashes as it_clashes, goes_on as it_goes_on}
-use Rattle.world_laws.specs.Keeps.{IsInHand, Keeps}
+use Rattle.world_laws.specs.Invariant.{IsInHand, Invariant}
 use Rattle.world_laws.specs.Laws.{GoesFully, HasMemoryAt}
 use Rattle.world_laws.specs.Laws.GoesFully.{ends, clashes, goes_on, has_turn}
 use Rattle.world_laws.proofs.Apart.{clash_is_decided}
@@ -74,26 +74,26 @@ fails_back (fails_not none) at = at
 lacks_back : {s t : Session} → LacksMemory s t → t.stage ≡ Refreshing → ⊥
 lacks_back (lacks notes shown given end xid asked is refreshed asks_it rest front) at = cc at
 
-settles_back : {a after : Agent} {s t : Session} → Settles a s after t → t.stage ≡ Refreshing → ⊥
+settles_back : {a after : HssAgent} {s t : Session} → Settles a s after t → t.stage ≡ Refreshing → ⊥
 settles_back (settles_all said acks is) at = cc at
 
-turn_back : {now : Moment} {a after : Agent} {view : View} {failing : Bool} {s t : Session} {end : TurnEnd} {saving : Option Kept} → TakesTurn hss (record { agent = a; view = view; now = now; fails = failing }) s end after saving t → s.stage ≡ Refreshing
+turn_back : {now : Moment} {a after : HssAgent} {view : View} {failing : Bool} {s t : Session} {end : TurnEnd} {saving : Option HssKept} → TakesTurn hss_signing (record { agent = a; view = view; now = now; fails = failing }) s end after saving t → s.stage ≡ Refreshing
 turn_back (answers notes given xid asked reply applied after saving done asks_it turned) = done.0
-turn_back (begins_anew notes given xid asked end after saving done asks_it turned refused few) = done.0
+turn_back (begins_again notes given xid asked end after saving done asks_it turned refused few) = done.0
 turn_back (gives_up notes given xid asked end after saving done asks_it turned refused many) = done.0
 
 -- ---- room
 
 -- a turn that is refused publishes nothing more
-refused_room : {given : Refresh} {a after : Agent} {view : View} {failing : Bool} {asked : Asked} {now : Moment} {end : TurnEnd} {saving : Option Kept} → Turns hss given (record { agent = a; view = view; now = now; fails = failing }) asked end after saving → IsRefusal end → HasRoom a → HasRoom after
+refused_room : {given : Refresh} {a after : HssAgent} {view : View} {failing : Bool} {asked : Asked} {now : Moment} {end : TurnEnd} {saving : Option HssKept} → Turns hss_signing given (record { agent = a; view = view; now = now; fails = failing }) asked end after saving → IsRefusal end → HasRoom a → HasRoom after
 refused_room (behind far) refused room = room
 refused_room (below near low) refused room = room
 refused_room (turn_answers h written reply after saving near over basis may becomes defined) refused room = absurd refused
 
 -- so one after which the session refreshes
-turn_room : {now : Moment} {a after : Agent} {view : View} {failing : Bool} {s t : Session} {end : TurnEnd} {saving : Option Kept} → TakesTurn hss (record { agent = a; view = view; now = now; fails = failing }) s end after saving t → t.stage ≡ Refreshing → HasRoom a → HasRoom after
+turn_room : {now : Moment} {a after : HssAgent} {view : View} {failing : Bool} {s t : Session} {end : TurnEnd} {saving : Option HssKept} → TakesTurn hss_signing (record { agent = a; view = view; now = now; fails = failing }) s end after saving t → t.stage ≡ Refreshing → HasRoom a → HasRoom after
 turn_room (answers notes given xid asked reply applied after saving done asks_it turned) at room = cc at
-turn_room (begins_anew notes given xid asked end after saving done asks_it turned refused few) at room = refused_room turned refused room
+turn_room (begins_again notes given xid asked end after saving done asks_it turned refused few) at room = refused_room turned refused room
 turn_room (gives_up notes given xid asked end after saving done asks_it turned refused many) at room = cc at
 
 module _ (r : ℕ) (name : List ℕ) where
@@ -113,10 +113,10 @@ module _ (r : ℕ) (name : List ℕ) where
       by false = all.0
 
   -- where the session refreshes after a step it did before, and there is as much room
-  abbrev Stays : Scene → Scene → Type 0
+  abbrev Stays : Configuration → Configuration → Type 0
   Stays c next = (c.session.stage ≡ Refreshing) × (HaveRoom c.world.participants → HaveRoom next.world.participants)
 
-  acts_room : {p : Participant} {c next : Scene} → Acts hss_judged r p c next → next.session.stage ≡ Refreshing → (c.session.stage ≡ Refreshing) × (RoomOf p → HaveRoom c.world.participants → HaveRoom next.world.participants)
+  acts_room : {p : Participant} {c next : Configuration} → Acts hss_judged r p c next → next.session.stage ≡ Refreshing → (c.session.stage ≡ Refreshing) × (RoomOf p → HaveRoom c.world.participants → HaveRoom next.world.participants)
   acts_room {p = p} {c = c} (asks node question answer next heard t cache fate hears goes) at =
       (hears_back hears (fails_back goes at), λ room all. placed_room (record p { cache = cache }) next.participants room (subst HaveRoom (sym (fate_same fate)) all))
   acts_room (asks_in_vain node question answer next heard t cache fate hears lacking) at = absurd (lacks_back lacking at)
@@ -125,7 +125,7 @@ module _ (r : ℕ) (name : List ℕ) where
   acts_room {p = p} {c = c} (is_refused view end after saving t in_view refusal takes) at = (turn_back takes, λ room all. placed_room (after_turn p after saving) c.world.participants (λ e. turn_room takes at (room e)) all)
   acts_room (settles after t is) at = absurd (settles_back is at)
 
-  step_room : {c next : Scene} → Steps hss_judged r name c next → next.session.stage ≡ Refreshing → Stays c next
+  step_room : {c next : Configuration} → Steps hss_judged r name c next → next.session.stage ≡ Refreshing → Stays c next
   step_room {c = c} (acts p taken cache next is takes act) at =
       let w = acts_room act at in (
         sym (takes_stage takes) ∙ w.0,
@@ -133,7 +133,7 @@ module _ (r : ℕ) (name : List ℕ) where
       )
   step_room (lacks_memory p taken t cache is takes lacking) at = absurd (lacks_back lacking at)
 
-  steps_room : {count : ℕ} {c next : Scene} → StepsOn hss_judged r name count c next → next.session.stage ≡ Refreshing → Stays c next
+  steps_room : {count : ℕ} {c next : Configuration} → StepsOn hss_judged r name count c next → next.session.stage ≡ Refreshing → Stays c next
   steps_room steps_none at = (at, λ all. all)
   steps_room (steps_over said over) at = (at, λ all. all)
   steps_room (steps_more step rest) at =
@@ -143,7 +143,7 @@ module _ (r : ℕ) (name : List ℕ) where
 
   -- ---- to the end
 
-  to_its_end : {c : Scene} → GoesFully r name c → Keeps (c.world, c.story) → IsInHand c r → c.world.replicas ≡ Some r → c.session.by ≡ name → AreBytes c.session.message
+  to_its_end : {c : Configuration} → GoesFully r name c → Invariant (c.world, c.ghost_state) → IsInHand c r → c.world.replicas ≡ Some r → c.session.by ≡ name → AreBytes c.session.message
       → (c.session.stage ≡ Refreshing → HaveRoom c.world.participants) → GoesToItsEnd r name c
   to_its_end (ends runs memory) keeps hand ringed named bytes room = it_ends runs memory
   to_its_end (clashes clash) keeps hand ringed named bytes room = it_clashes clash
@@ -173,21 +173,21 @@ sessions_go_to_their_ends c r p keeps hand ringed refreshing is_p bytes room =
 -- ---- in one
 
 module _ (r : ℕ) (name : List ℕ) where
-  pub runs_behind : {count : ℕ} {c mid next : Scene} → StepsOn hss_judged r name count c mid → RunsOut hss_judged r name mid next → RunsOut hss_judged r name c next
+  pub runs_behind : {count : ℕ} {c mid next : Configuration} → StepsOn hss_judged r name count c mid → RunsOut hss_judged r name mid next → RunsOut hss_judged r name c next
   runs_behind steps_none runs = runs
   runs_behind (steps_over said over) runs = runs
   runs_behind (steps_more step rest) runs = runs_more step (runs_behind rest runs)
 
-  steps_behind : {count more : ℕ} {c mid next : Scene} → StepsOn hss_judged r name count c mid → StepsOn hss_judged r name more mid next → (all : ℕ) × StepsOn hss_judged r name all c next
+  steps_behind : {count more : ℕ} {c mid next : Configuration} → StepsOn hss_judged r name count c mid → StepsOn hss_judged r name more mid next → (all : ℕ) × StepsOn hss_judged r name all c next
   steps_behind {more = more} steps_none steps = (more, steps)
   steps_behind {more = more} (steps_over said over) steps = (more, steps)
   steps_behind (steps_more step rest) steps = (let w = steps_behind rest steps in (suc w.0, steps_more step w.1))
 
   -- its end, or where names clash
-  abbrev EndOrClash : Scene → Type 0
-  EndOrClash c = ((next : Scene) × RunsOut hss_judged r name c next × HasMemoryAt next.session) ⊎ ((count : ℕ) × (next : Scene) × StepsOn hss_judged r name count c next × HasClash (named_bytes next.world))
+  abbrev EndOrClash : Configuration → Type 0
+  EndOrClash c = ((next : Configuration) × RunsOut hss_judged r name c next × HasMemoryAt next.session) ⊎ ((count : ℕ) × (next : Configuration) × StepsOn hss_judged r name count c next × HasClash (named_bytes next.world))
 
-  end_or_clash : {c : Scene} → GoesToItsEnd r name c → EndOrClash c
+  end_or_clash : {c : Configuration} → GoesToItsEnd r name c → EndOrClash c
   end_or_clash (it_ends {c = c} {next = next} runs memory) = inl (next, runs, memory)
   end_or_clash (it_clashes {c = c} clash) = inr (0, c, steps_none, clash)
   end_or_clash (it_goes_on {c = c} {next = next} count steps memory rest) = by (end_or_clash rest)

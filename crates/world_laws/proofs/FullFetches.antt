@@ -17,7 +17,7 @@ use Rattle.turn_model.specs.Candidates.{IsTriedBefore}
 use Rattle.dht_ids.specs.declared.judge.Judged.{Judged}
 use Rattle.dhash_model.specs.declared.miss.Miss.{Miss}
 use Rattle.agent_model.specs.Standing.{Chain, Standing}
-use Rattle.session_model.specs.Brought.{BlockOf, Brought, Content, Heads, HeadsOf, Want, stamp_of}
+use Rattle.session_model.specs.Brought.{BlockOf, Brought, Content, Heads, HeadsOf, WantedOfRing, stamp_of}
 use Rattle.session_model.specs.Walks.{Gives, GivesNone, InTryingOrder, Lacks, LogEnd, Stops, Tries, WalkEnd, Walks, Wants}
 use Rattle.session_model.specs.Walks.Walks.{came as all_came, wants as next_wanted, misses as one_misses, garbled as one_garbled, back as one_back}
 use Rattle.session_model.specs.Walks.Tries.{none as none_tried, wants as trial_wants, misses as trial_misses, gives as trial_gives, passes as trial_passes, garbled as trial_garbled}
@@ -56,7 +56,7 @@ weight_append : (start : ℕ) (xs ys : List Stamp) → weight start (xs ++ ys) �
 weight_append start [] ys = omega arith
 weight_append start (x ∷ xs) ys = omega (arith, weight_append start xs ys)
 
-tries_short : {view : View} {owner : PubKey} {start floor : Vector} {edge : Option Edge} {ts : List Stamp} {brought : List Brought} {faults : List ChainFault} {end : LogEnd} {want : Want}
+tries_short : {view : View} {owner : PubKey} {start floor : Vector} {edge : Option Edge} {ts : List Stamp} {brought : List Brought} {faults : List ChainFault} {end : LogEnd} {want : WantedOfRing}
     → Tries (record { view = view; owner = owner; start = start; floor = floor; edge = edge }) ts brought faults end → end ≡ Lacks want → length brought < weight (seq_of start (head_key_of owner)) ts
 tries_short none_tried is = absurd (cc is)
 tries_short (trial_wants walk) is = omega (arith, walk_lacks walk refl)
@@ -109,15 +109,15 @@ module _ (s : Standing) (start : Vector) where
   -- However it goes on, the fetch of these logs comes to its end.
   pub data FetchEnds (owners : List PubKey) : List Brought → Type 0 where
     fetch_comes_to : {brought : List Brought} (notes : List Note) (chains : List Chain) (end : RefreshEnd) → FetchesAll (record { standing = s; start = start }) owners brought notes chains end
-        → ((want : Want) (came : Brought) → end ≡ Needs want → IsOfWant want came → FetchEnds owners (brought ++ came ∷ [])) → FetchEnds owners brought
+        → ((want : WantedOfRing) (came : Brought) → end ≡ Needs want → IsOfWant want came → FetchEnds owners (brought ++ came ∷ [])) → FetchEnds owners brought
 
-  -- behind a log that is fetched
+  -- after a log that is fetched
   behind : (owner : PubKey) (owners : List PubKey) (brought : List Brought) (notes : List Note) (log : LogEnd) → Fetches (record { standing = s; start = start }) owner brought notes log → end_of_log log ≡ None → {more : List Brought} → FetchEnds owners more
       → FetchEnds (owner ∷ owners) (brought ++ more)
   behind owner owners brought notes log fetch goes {more} (fetch_comes_to others chains end fetches next) = fetch_comes_to (notes ++ others) (chains_of owner log ++ chains) end (goes_on fetch goes fetches)
       (λ want came is of. subst (FetchEnds (owner ∷ owners)) (sym (append_assoc brought more (came ∷ []))) (behind owner owners brought notes log fetch goes (next want came is of)))
 
-  lacks_it : (log : LogEnd) (want : Want) → end_of_log log ≡ Some (Needs want) → log ≡ Lacks want
+  lacks_it : (log : LogEnd) (want : WantedOfRing) → end_of_log log ≡ Some (Needs want) → log ≡ Lacks want
   lacks_it (Lacks other) want e = ap Lacks (cc e)
   lacks_it (Stops miss) want e = cc e
   lacks_it (Gives records) want e = cc e
@@ -126,7 +126,7 @@ module _ (s : Standing) (start : Vector) where
   module _ (owner : PubKey) (owners : List PubKey) (later : (brought : List Brought) (notes : List Note) (chains : List Chain) (end : RefreshEnd) → FetchesAll (record { standing = s; start = start }) owners brought notes chains end → FetchEnds owners brought) where
     -- a bound of what may be brought for the log while something lacks
     record IsBounded (Fits : List Brought → Type 0) (most : ℕ) : Type 0 where
-      few : (brought : List Brought) (notes : List Note) (want : Want) → Fits brought → Fetches (record { standing = s; start = start }) owner brought notes (Lacks want) → length brought < most
+      few : (brought : List Brought) (notes : List Note) (want : WantedOfRing) → Fits brought → Fetches (record { standing = s; start = start }) owner brought notes (Lacks want) → length brought < most
       on : (brought : List Brought) (came : Brought) → Fits brought → Fits (brought ++ came ∷ [])
 
     module _ {Fits : List Brought → Type 0} {most : ℕ} (bounded : IsBounded Fits most) where
@@ -136,7 +136,7 @@ module _ (s : Standing) (start : Vector) where
       bounded_end zero {brought} enough fits (stays {notes = notes} {log = log} {end = end} fetch is) = fetch_comes_to notes [] end (stays fetch is)
           (λ want came e of. absurd (none want (subst (Fetches (record { standing = s; start = start }) owner brought notes) (lacks_it log want (is ∙ ap Some e)) fetch)))
         where
-          none : (want : Want) → Fetches (record { standing = s; start = start }) owner brought notes (Lacks want) → ⊥
+          none : (want : WantedOfRing) → Fetches (record { standing = s; start = start }) owner brought notes (Lacks want) → ⊥
           none want lacking = omega (arith, enough, bounded.few brought notes want fits lacking)
       bounded_end (suc n) {brought} enough fits (stays {notes = notes} {log = log} {end = end} fetch is) = fetch_comes_to notes [] end (stays fetch is)
           (λ want came e of. let then_so = all_goes_on s start want came of (stays {owners = owners} fetch is) e in
@@ -153,7 +153,7 @@ module _ (s : Standing) (start : Vector) where
     own_bounded : owner ≡ s.own → IsBounded (λ brought. Unit {0}) (weight base last)
     own_bounded own = record { few = λ brought notes want fits fetch. few fetch refl; on = λ brought came fits. tt }
       where
-        few : {brought : List Brought} {notes : List Note} {end : LogEnd} {want : Want} → Fetches (record { standing = s; start = start }) owner brought notes end → end ≡ Lacks want → length brought < weight base last
+        few : {brought : List Brought} {notes : List Note} {end : LogEnd} {want : WantedOfRing} → Fetches (record { standing = s; start = start }) owner brought notes end → end ≡ Lacks want → length brought < weight base last
         few (wants_heads other) is = absurd (other own)
         few (no_heads miss other) is = absurd (other own)
         few (of_heads heads tried brought faults end other are tries) is = absurd (other own)
@@ -175,7 +175,7 @@ module _ (s : Standing) (start : Vector) where
     missed_bounded : (owner ≡ s.own → ⊥) → (miss : Miss) → IsBounded (BeginsWith (Err miss)) 0
     missed_bounded other miss = record { few = λ brought notes want fits fetch. absurd (none fits fetch refl); on = λ brought came fits. begins_on (Err miss) came fits }
       where
-        none : {brought : List Brought} {notes : List Note} {end : LogEnd} {want : Want} → BeginsWith (Err miss) brought → Fetches (record { standing = s; start = start }) owner brought notes end → end ≡ Lacks want → ⊥
+        none : {brought : List Brought} {notes : List Note} {end : LogEnd} {want : WantedOfRing} → BeginsWith (Err miss) brought → Fetches (record { standing = s; start = start }) owner brought notes end → end ≡ Lacks want → ⊥
         none fits (wants_heads not) is = nil_cons (HeadsOf owner (Err miss)) fits.0 fits.1
         none fits (no_heads lost not) is = cc is
         none fits (of_heads got tried brought faults end not are tries) is = came_or_not got miss brought fits.0 fits.1
@@ -185,7 +185,7 @@ module _ (s : Standing) (start : Vector) where
     heads_bounded : (owner ≡ s.own → ⊥) → (heads : List Judged) → IsBounded (BeginsWith (Ok heads)) (suc (weight base (map stamp_of heads) + weight base last))
     heads_bounded other heads = record { few = λ brought notes want fits fetch. few fits fetch refl; on = λ brought came fits. begins_on (Ok heads) came fits }
       where
-        few : {brought : List Brought} {notes : List Note} {end : LogEnd} {want : Want} → BeginsWith (Ok heads) brought → Fetches (record { standing = s; start = start }) owner brought notes end → end ≡ Lacks want
+        few : {brought : List Brought} {notes : List Note} {end : LogEnd} {want : WantedOfRing} → BeginsWith (Ok heads) brought → Fetches (record { standing = s; start = start }) owner brought notes end → end ≡ Lacks want
             → length brought < suc (weight base (map stamp_of heads) + weight base last)
         few fits (wants_heads not) is = absurd (nil_cons (HeadsOf owner (Ok heads)) fits.0 fits.1)
         few fits (no_heads miss not) is = absurd (cc is)
@@ -202,7 +202,7 @@ module _ (s : Standing) (start : Vector) where
     same_owner : (a b : PubKey) → Lacks (Heads a) ≡ Lacks (Heads b) → a ≡ b
     same_owner a b e = cc e
 
-    after_heads : (owner ≡ s.own → ⊥) → (want : Want) (came : Brought) → IsOfWant want came → Lacks (Heads owner) ≡ Lacks want → AllCome s start (owner ∷ owners) (came ∷ []) → FetchEnds (owner ∷ owners) (came ∷ [])
+    after_heads : (owner ≡ s.own → ⊥) → (want : WantedOfRing) (came : Brought) → IsOfWant want came → Lacks (Heads owner) ≡ Lacks want → AllCome s start (owner ∷ owners) (came ∷ []) → FetchEnds (owner ∷ owners) (came ∷ [])
     after_heads other (Heads of) (HeadsOf log got) same is then_so =
         let one : log ≡ owner = same ∙ sym (same_owner owner of is) in
         subst (λ (o : PubKey). FetchEnds (owner ∷ owners) (HeadsOf o got ∷ [])) (sym one) (first_came other got (subst (λ (o : PubKey). AllCome s start (owner ∷ owners) (HeadsOf o got ∷ [])) one then_so))

@@ -16,7 +16,7 @@ use Rattle.script_model.specs.declared.command.Command.{Command}
 use Rattle.script_model.specs.declared.command.Command.TheVariants as command
 use Rattle.script_model.specs.declared.command.Piece.{Piece}
 use Rattle.script_model.specs.Lines.{command_of}
-use Rattle.world_model.specs.Agents.{standing_in}
+use Rattle.world_model.specs.Agents.{hss_standing_in}
 use Rattle.world_model.specs.Calls.{AsLine, BeginsWith, FinishLine, OpenLine, Sending, StepLine, is_step_count, replied, reply_line, sending_of, shown_end, shown_miss, shown_note}
 use Rattle.world_model.specs.Calls.AsLine.{sends_nothing as whole_sends_nothing, calls}
 use Rattle.world_model.specs.Calls.OpenLine.{sends_nothing as opening_sends_nothing, is_open, opens}
@@ -24,25 +24,25 @@ use Rattle.world_model.specs.Calls.StepLine.{not_open as stepping_not_open, out_
 use Rattle.world_model.specs.Calls.FinishLine.{not_open as finishing_not_open, ends}
 use Rattle.world_model.specs.Logs.{Played}
 use Rattle.world_model.specs.Step.{Does, MayDo, MayDoFirst, WithinLimit, is_end, most_bytes}
-use Rattle.world_model.specs.Steps.{RunsOut, Scene, StepsOn}
+use Rattle.world_model.specs.Steps.{RunsOut, Configuration, StepsOn}
 use Rattle.world_model.specs.Steps.StepsOn.{is_over as steps_over, more as steps_more, none as steps_none}
 use Rattle.world_model.specs.Steps.RunsOut.{is_over as runs_over, more as runs_more}
-use Rattle.world_model.specs.Story.{beginning, having_begun, with_began, without_began}
+use Rattle.world_model.specs.GhostState.{beginning, having_begun, with_began, without_began}
 use Rattle.world_model.specs.World.{NamedSession, Participant, World, entries, named_bytes, participant, session_named, with_session, without_session}
 use Rattle.world_laws.specs.Causes.{HasCause, said_at}
 use Rattle.world_laws.specs.FullRuns.{Clashes, FullLines, HasBytes, HaveRoom, MetLittle}
 use Rattle.world_laws.specs.Effects.{IsOfSessions}
-use Rattle.world_laws.specs.Keeps.{HasSaid, IsAtStage, Keeps}
+use Rattle.world_laws.specs.Invariant.{HasSaid, IsAtStage, Invariant}
 use Rattle.world_laws.specs.Laws.{HadMemory, HasMemoryIn}
 use Rattle.world_laws.proofs.Apart.{clash_is_decided}
 use Rattle.world_laws.proofs.Bringing.{found_named}
 use Rattle.world_laws.proofs.BytesLines.{IsWhich, another, as_command, finish_command, named_session_bytes, open_command, sent_bytes, step_command, which}
 use Rattle.world_laws.proofs.BytesSteps.{begins_bytes}
-use Rattle.world_laws.proofs.CallScenes.{begun_scene, begun_well, open_scene, open_well}
+use Rattle.world_laws.proofs.CallConfigurations.{begun_configuration, begun_well, open_configuration, open_well}
 use Rattle.world_laws.proofs.Existing.{command_does}
 use Rattle.world_laws.proofs.ExistingCalls.{some_open, some_participant}
 use Rattle.world_laws.proofs.ExistingMessages.{some_session}
-use Rattle.world_laws.proofs.FullScenes.{LacksBefore, RunsWell, begins_memory, scene_runs, scene_steps}
+use Rattle.world_laws.proofs.FullConfigurations.{LacksBefore, RunsWell, begins_memory, configuration_runs, configuration_steps}
 use Rattle.world_laws.proofs.LineFits.{Fits, command_fits}
 use Rattle.world_laws.proofs.OneCalls.{begins_by, found_session, replied_named, shows_so}
 use Rattle.world_laws.proofs.OneSteps.{GoesWell, over_steps}
@@ -52,7 +52,7 @@ use Rattle.world_laws.proofs.QuietLines.{Quietly, quiet_command, runs_same, step
 use Rattle.world_laws.proofs.SessionLinesSteps.{runs_lead}
 use Rattle.world_laws.proofs.ShownReplies.{cause_shows, lack_shown}
 
--- where the line goes on, memory was there and names tell apart, or names clash
+-- where the line goes on, memory was there and no names collide, or names clash
 abbrev pub IsFull : Played → List ℕ → Outcome Played → Type 0
 IsFull w line outcome = HadMemory w line outcome ⊎ Clashes outcome
 
@@ -62,19 +62,19 @@ HasFull w line Does = (outcome : Outcome Played) × Does outcome × IsFull w lin
 
 -- ---- the end of a session
 
--- what it says there, and that it shows no reply for want of memory, if it isn't over so
-run_over : {r : ℕ} {name : List ℕ} {c end : Scene} → RunsOut hss_judged r name c end → (o : Option Said) × (end.session.stage ≡ Over o)
+-- what it says there, and that it shows no reply when out of memory, if it isn't over so
+run_over : {r : ℕ} {name : List ℕ} {c end : Configuration} → RunsOut hss_judged r name c end → (o : Option Said) × (end.session.stage ≡ Over o)
 run_over (runs_over said over) = (said, over)
 run_over (runs_more step rest) = run_over rest
 
--- it says something; and what is shown of it begins with a reply for want of memory only where that was said before
-record IsEnd (c end : Scene) : Type 0 where
+-- it says something; and what is shown of it begins with a reply when out of memory only where that was said before
+record IsEnd (c end : Configuration) : Type 0 where
   said : Said
   over : end.session.stage ≡ Over (Some said)
   shown : LacksBefore c end → (xid : ℕ) (rest : List ℕ) → shown_end end.session said ≡ reply_line (reply xid SystemError) ++ rest → c.session.stage ≡ Over (Some (said_no_memory xid))
 
-module _ (r : ℕ) (c end : Scene) (well : GoesWell r c) (runs : RunsOut hss_judged r c.session.by c end) where
-  lacking : LacksBefore c end → (said : Said) → end.session.stage ≡ Over (Some said) → HasCause end.story end.began.number end.session said → (xid : ℕ) (rest : List ℕ)
+module _ (r : ℕ) (c end : Configuration) (well : GoesWell r c) (runs : RunsOut hss_judged r c.session.by c end) where
+  lacking : LacksBefore c end → (said : Said) → end.session.stage ≡ Over (Some said) → HasCause end.ghost_state end.began.number end.session said → (xid : ℕ) (rest : List ℕ)
       → shown_end end.session said ≡ reply_line (reply xid SystemError) ++ rest → c.session.stage ≡ Over (Some (said_no_memory xid))
   lacking before said over cause xid rest e = elim (cause_shows cause) [
     | inl lacks ↦
@@ -87,14 +87,14 @@ module _ (r : ℕ) (c end : Scene) (well : GoesWell r c) (runs : RunsOut hss_jud
   its_end =
       let led = runs_lead r c.session.by runs refl well.keeps well.hand well.ringed in
       let over = run_over runs in
-      by over.0 over.1 (subst (IsAtStage end.world r end.session) over.1 led.leaves.1.goes_on.stage) (subst (λ (x : Stage). HasSaid end.story end.began.number end.session (said_at x)) over.1 led.leaves.1.said)
+      by over.0 over.1 (subst (IsAtStage end.world r end.session) over.1 led.leaves.1.goes_on.stage) (subst (λ (x : Stage). HasSaid end.ghost_state end.began.number end.session (said_at x)) over.1 led.leaves.1.said)
     where
-      by : (o : Option Said) → end.session.stage ≡ Over o → IsAtStage end.world r end.session (Over o) → HasSaid end.story end.began.number end.session o → IsEnd c end
+      by : (o : Option Said) → end.session.stage ≡ Over o → IsAtStage end.world r end.session (Over o) → HasSaid end.ghost_state end.began.number end.session o → IsEnd c end
       by None over some cause = cc some
       by (Some said) over some cause = record { said = said; over = over; shown = λ before xid rest e. lacking before said over cause xid rest e }
 
 -- a session that is over stays
-pub over_stays : {r : ℕ} {name : List ℕ} {count : ℕ} {c next : Scene} → StepsOn hss_judged r name count c next → (o : Option Said) → c.session.stage ≡ Over o → next.session ≡ c.session
+pub over_stays : {r : ℕ} {name : List ℕ} {count : ℕ} {c next : Configuration} → StepsOn hss_judged r name count c next → (o : Option Said) → c.session.stage ≡ Over o → next.session ≡ c.session
 over_stays steps_none o over = refl
 over_stays (steps_over said at) o over = refl
 over_stays {r = r} (steps_more step rest) o over = absurd (over_steps r step o over)
@@ -149,7 +149,7 @@ module _ (w : World) (name : List ℕ) where
       by true = mine
       by false = all.0
 
-module _ (w : Played) (line : List ℕ) (keeps : Keeps w) (room : HaveRoom w.0) (bytes : HasBytes w.0) where
+module _ (w : Played) (line : List ℕ) (keeps : Invariant w) (room : HaveRoom w.0) (bytes : HasBytes w.0) where
   room_of : (name : List ℕ) (p : Participant) → participant w.0 name ≡ Some p → HasRoom p.agent
   room_of name p is = each (λ (q : Participant). HasRoom q.agent) w.0.participants p room (found_named w.0.participants name p is).0
 
@@ -159,17 +159,17 @@ module _ (w : Played) (line : List ℕ) (keeps : Keeps w) (room : HaveRoom w.0) 
   as_full log ps fits (Some s) sends =
       let sent = sent_by w.0 log ps s sends in
       let ring = some_participant w.0 w.1 keeps s.by (found_named w.0.participants log s.by sent.is_by).0 in
-      let begins = some_session s.by.name s.message (entries w.0) (standing_in s.by.agent s.view) in
+      let begins = some_session s.by.name s.message (entries w.0) (hss_standing_in s.by.agent s.view) in
       called s sends ring.0 ring.1 begins.0 begins.1
     where
       called : (s : Sending) → sending_of w.0 log ps ≡ Some s → (r : ℕ) → w.0.replicas ≡ Some r → (t : Session) → BeginsWith w.0 s t → HasFull w line (AsLine hss_judged w (Some s))
       called s sends r ringed t begins =
           let well = begun_well w keeps r ringed log ps s sends t begins in
-          let runs : RunsWell r (begun_scene w s t) = scene_runs r (begun_scene w s t) well (begins_bytes w.0 s t begins (sent_bytes w keeps bytes log ps fits s sends)) (λ p is. room_of t.by p is) in
-          let end = its_end r (begun_scene w s t) runs.0 well runs.1 in (
-            Goes (replied runs.0.world end.said, runs.0.story) (shown_end runs.0.session end.said),
-            calls s r t runs.0 end.said ringed begins (subst (λ (n : List ℕ). RunsOut hss_judged r n (begun_scene w s t) runs.0) (begins_by w.0 s t begins) runs.1) end.over,
-            full_or w line (replied runs.0.world end.said, runs.0.story) (shown_end runs.0.session end.said) (elim runs.2 [
+          let runs : RunsWell r (begun_configuration w s t) = configuration_runs r (begun_configuration w s t) well (begins_bytes w.0 s t begins (sent_bytes w keeps bytes log ps fits s sends)) (λ p is. room_of t.by p is) in
+          let end = its_end r (begun_configuration w s t) runs.0 well runs.1 in (
+            Goes (replied runs.0.world end.said, runs.0.ghost_state) (shown_end runs.0.session end.said),
+            calls s r t runs.0 end.said ringed begins (subst (λ (n : List ℕ). RunsOut hss_judged r n (begun_configuration w s t) runs.0) (begins_by w.0 s t begins) runs.1) end.over,
+            full_or w line (replied runs.0.world end.said, runs.0.ghost_state) (shown_end runs.0.session end.said) (elim runs.2 [
               | inl before ↦ inl (record {
                 shown = λ xid rest e. absurd (begins_memory w.0 s t begins xid (end.shown before xid rest e));
                 sessions = as_before w.0 (replied runs.0.world end.said).sessions (λ x c. subst (λ (ss : List NamedSession). Contains ss x) (replied_sessions runs.0.world end.said ∙ (runs_same runs.1).1) c);
@@ -184,7 +184,7 @@ module _ (w : Played) (line : List ℕ) (keeps : Keeps w) (room : HaveRoom w.0) 
   open_full name (Some s) = by (is_some (session_named w.0 name)) refl
     where
       begins : (t : Session) × BeginsWith w.0 s t
-      begins = some_session s.by.name s.message (entries w.0) (standing_in s.by.agent s.view)
+      begins = some_session s.by.name s.message (entries w.0) (hss_standing_in s.by.agent s.view)
 
       opened : Played
       opened = (record w.0 { sessions = w.0.sessions ++ record { name = name; session = begins.0 } ∷ [] }, record (having_begun w.1) { sessions = w.1.sessions ++ (name, beginning w.1 s.by.name) ∷ [] })
@@ -202,16 +202,16 @@ module _ (w : Played) (line : List ℕ) (keeps : Keeps w) (room : HaveRoom w.0) 
       )
 
   module _ (name : List ℕ) (s : Session) (is : session_named w.0 name ≡ Some s) (r : ℕ) (ringed : w.0.replicas ≡ Some r) where
-    here_well : GoesWell r (open_scene w name s)
+    here_well : GoesWell r (open_configuration w name s)
     here_well = open_well w keeps r ringed name s is
 
-    here_runs : RunsWell r (open_scene w name s)
-    here_runs = scene_runs r (open_scene w name s) here_well (named_session_bytes w keeps bytes name s is) (λ p is_p. room_of s.by p is_p)
+    here_runs : RunsWell r (open_configuration w name s)
+    here_runs = configuration_runs r (open_configuration w name s) here_well (named_session_bytes w keeps bytes name s is) (λ p is_p. room_of s.by p is_p)
 
     steps_full : (count : ℕ) → is_step_count count ≡ true → HasFull w line (StepLine hss_judged w name count (Some s))
     steps_full count counts =
-        let to = scene_steps r count (open_scene w name s) here_runs in
-        let next : Played = (with_session to.0.world name to.0.session, with_began to.0.story name to.0.began) in (
+        let to = configuration_steps r count (open_configuration w name s) here_runs in
+        let next : Played = (with_session to.0.world name to.0.session, with_began to.0.ghost_state name to.0.began) in (
           Goes next [],
           steps s r to.0 counts ringed to.1,
           full_or w line next [] (elim to.2 [
@@ -226,8 +226,8 @@ module _ (w : Played) (line : List ℕ) (keeps : Keeps w) (room : HaveRoom w.0) 
 
     finish_full : command_of line ≡ Some (command.Finish name) → HasFull w line (FinishLine hss_judged w name (Some s))
     finish_full is_finish =
-        let end = its_end r (open_scene w name s) here_runs.0 here_well here_runs.1 in
-        let next : Played = (replied (without_session here_runs.0.world name) end.said, without_began here_runs.0.story name) in (
+        let end = its_end r (open_configuration w name s) here_runs.0 here_well here_runs.1 in
+        let next : Played = (replied (without_session here_runs.0.world name) end.said, without_began here_runs.0.ghost_state name) in (
           Goes next (shown_end here_runs.0.session end.said),
           ends s r here_runs.0 end.said ringed here_runs.1 end.over,
           full_or w line next (shown_end here_runs.0.session end.said) (elim here_runs.2 [

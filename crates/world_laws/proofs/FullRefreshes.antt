@@ -6,7 +6,7 @@ use Rattle.agent_model.specs.Standing.{Refresh, Standing}
 use Rattle.dhash_model.specs.declared.miss.Miss.{Miss}
 use Rattle.snapshot_model.specs.Reading.{Root}
 use Rattle.turn_model.specs.Basis.{Basis}
-use Rattle.session_model.specs.Brought.{BlockOf, Brought, Content, Heads, HeadsOf, Want}
+use Rattle.session_model.specs.Brought.{BlockOf, Brought, Content, Heads, HeadsOf, WantedOfRing}
 use Rattle.session_model.specs.Refreshing.{LoadEnd, LoadWants, Loaded, LoadsFor, Needs, Note, RefreshEnd, Refreshes, counting, start_of}
 use Rattle.session_model.specs.Refreshing.LoadsFor.{none as nothing_to_load, some as snapshot_to_load}
 use Rattle.session_model.specs.Refreshing.Refreshes.{fetching, loading}
@@ -20,7 +20,7 @@ use Rattle.world_laws.proofs.FullLoads.{LoadEnds, load_ends}
 use Rattle.world_laws.proofs.FullLoads.LoadEnds.{load_comes_to}
 
 module _ (s : Standing) where
-  -- behind what was loaded
+  -- after what was loaded
   fetched : (basis : Option Basis) (loaded : List Brought) → LoadsFor s.to_load loaded (Loaded basis) → {brought : List Brought} → FetchEnds s (start_of s (counting s.floor basis)) s.view.members brought → EndsAtLast s (loaded ++ brought)
   fetched basis loaded loads {brought} (fetch_comes_to notes chains end fetches next) =
       refresh_comes_to notes (record { started = start_of s (counting s.floor basis); chains = chains; basis = counting s.floor basis }) end (fetching basis loads fetches)
@@ -31,14 +31,14 @@ module _ (s : Standing) where
       let start = start_of s (counting s.floor basis) in
       subst (EndsAtLast s) (append-nil loaded) (fetched basis loaded loads (fetch_ends s start s.view.members (all_begin s start s.view.members).fetches))
 
-  same_needed : (a b : Want) → Needs a ≡ Needs b → a ≡ b
+  same_needed : (a b : WantedOfRing) → Needs a ≡ Needs b → a ≡ b
   same_needed a b e = cc e
 
   same_content : (a b : Key) → Content a ≡ Content b → a ≡ b
   same_content a b e = cc e
 
   -- what comes of a block that is wanted is that block, or why it didn't come
-  by_block : (brought : List Brought) (key : Key) → ((came : Result (List ℕ) Miss) → EndsAtLast s (brought ++ BlockOf key came ∷ [])) → (want : Want) (came : Brought) → Needs (Content key) ≡ Needs want → IsOfWant want came
+  by_block : (brought : List Brought) (key : Key) → ((came : Result (List ℕ) Miss) → EndsAtLast s (brought ++ BlockOf key came ∷ [])) → (want : WantedOfRing) (came : Brought) → Needs (Content key) ≡ Needs want → IsOfWant want came
       → EndsAtLast s (brought ++ came ∷ [])
   by_block brought key next (Content wanted) (BlockOf name came) e same =
       subst (λ (k : Key). EndsAtLast s (brought ++ BlockOf k came ∷ [])) (same_content key wanted (same_needed (Content key) (Content wanted) e) ∙ sym same) (next came)

@@ -1,19 +1,19 @@
--- Each script has one run in which memory is never wanting, or names clash on the way.
+-- Each script has one run in which memory never runs out, or names clash on the way.
 use Rattle.std.proofs.Common.{◌⊎◌, inl, inr, ℕ, ◌+◌, List, [], ◌∷◌, ◌++◌, refl, ap}
 use Rattle.ivy_base.specs.Naming.{HasClash}
-use Rattle.script_driver.specs.Run.{Outcome, Goes, Ends, Refuses, Exceeds, Obeys, Ran, Runs, WithLaw, behind, ended, limited, refused, shown}
+use Rattle.script_driver.specs.Run.{Outcome, Goes, Ends, Refuses, Exceeds, Obeys, Ran, Runs, WithLaw, behind, ended_run, limited, refused, shown}
 use Rattle.world_model.specs.Logs.{Played}
 use Rattle.world_model.specs.Step.{IvyStep}
-use Rattle.world_model.specs.Story.{empty_story}
+use Rattle.world_model.specs.GhostState.{empty_ghost_state}
 use Rattle.world_model.specs.World.{empty_world, named_bytes}
 use Rattle.world_laws.specs.FullRuns.{Clashes, ClashesOn, FullScripts, FullStarts, HasBytes, PublishFew}
-use Rattle.world_laws.specs.Keeps.{Keeps}
+use Rattle.world_laws.specs.Invariant.{Invariant}
 use Rattle.world_laws.specs.Laws.{HadMemory}
 use Rattle.world_laws.proofs.BytesLines.{bytes_come, empty_has_bytes}
 use Rattle.world_laws.proofs.EachLine.{each_line_keeps}
 use Rattle.world_laws.proofs.FirstWorld.{empty_keeps}
 use Rattle.world_laws.proofs.FullLines.{full_lines}
-use Rattle.world_laws.proofs.OneLines.{full_runs_are_one}
+use Rattle.world_laws.proofs.OneLines.{full_runs_are_unique}
 use Rattle.world_laws.proofs.Rooms.{empty_publishes_few, few_posts_come, there_is_room}
 
 abbrev HasRun : Played → ℕ → List (List ℕ) → Type 0
@@ -53,7 +53,7 @@ clashes_later w next line lines output step later = record {
   clash = later.clash;
 }
 
-runs_or_clashes : (w : Played) (number : ℕ) (lines : List (List ℕ)) → Keeps w → PublishFew w.0 → HasBytes w.0 → HasRun w number lines ⊎ ClashesOn w lines
+runs_or_clashes : (w : Played) (number : ℕ) (lines : List (List ℕ)) → Invariant w → PublishFew w.0 → HasBytes w.0 → HasRun w number lines ⊎ ClashesOn w lines
 unfolding Runs
 runs_or_clashes w number [] keeps few bytes = inl (refused number, refl)
 runs_or_clashes w number (line ∷ lines) keeps few bytes =
@@ -68,15 +68,15 @@ runs_or_clashes w number (line ∷ lines) keeps few bytes =
       | inl runs ↦ inl (behind output runs.0, (Goes next output, (step, memory), (runs.0, runs.1, refl)))
       | inr clashes ↦ inr (clashes_later w next line lines output (step, memory) clashes)
     ]
-    after Ends step how later = inl (ended, (Ends, (step, tt), refl))
+    after Ends step how later = inl (ended_run, (Ends, (step, tt), refl))
     after Refuses step how later = inl (refused number, (Refuses, (step, tt), refl))
     after Exceeds step how later = inl (limited number, (Exceeds, (step, tt), refl))
 
 pub full_scripts : FullScripts
 full_scripts w number lines keeps few bytes = elim (runs_or_clashes w number lines keeps few bytes) [
-  | inl runs ↦ inl (runs.0, (runs.1, λ other also. full_runs_are_one w number lines other runs.0 keeps also runs.1))
+  | inl runs ↦ inl (runs.0, (runs.1, λ other also. full_runs_are_unique w number lines other runs.0 keeps also runs.1))
   | inr clashes ↦ inr clashes
 ]
 
 pub full_starts : FullStarts
-full_starts number lines = full_scripts (empty_world, empty_story) number lines empty_keeps empty_publishes_few empty_has_bytes
+full_starts number lines = full_scripts (empty_world, empty_ghost_state) number lines empty_keeps empty_publishes_few empty_has_bytes

@@ -8,7 +8,7 @@ use Rattle.std.proofs.lemmas.List.Elements.{Contains-append_left, Contains-appen
 use Rattle.std.proofs.lemmas.Slice.Eq.{bytes_eq-Decides}
 use Rattle.ring_model.proofs.Lists.{all_weaker}
 use Rattle.ivy_base.specs.declared.key.Key.{Key}
-use Rattle.ivy_base.specs.Naming.{NamesTellApart}
+use Rattle.ivy_base.specs.Naming.{IsCollisionFree}
 use Rattle.dhash_model.specs.Signed.{hss_judged}
 use Rattle.log_model.proofs.Lists.{each, each_append, in_cons, in_nothing}
 use Rattle.log_model.specs.Record.{Record}
@@ -25,24 +25,24 @@ use Rattle.dht_ids.specs.declared.post.Post.{Post}
 use Rattle.dhash_model.specs.declared.miss.Miss.{Miss}
 use Rattle.agent_model.specs.Standing.{Refresh}
 use Rattle.session_model.specs.Asking.{AsksNext}
-use Rattle.session_model.specs.Brought.{Brought, BlockOf, Part, Want, all_heads, brought_in, heads_of}
-use Rattle.session_model.specs.Courses.{Fails}
-use Rattle.session_model.specs.Courses.Fails.{fails as refresh_fails, goes_on as refresh_goes}
+use Rattle.session_model.specs.Brought.{Brought, BlockOf, Part, WantedOfRing, all_heads, brought_in, heads_of}
+use Rattle.session_model.specs.Executions.{Fails}
+use Rattle.session_model.specs.Executions.Fails.{fails as refresh_fails, goes_on as refresh_goes}
 use Rattle.session_model.specs.Refreshing.{FailsBy, Note, Refreshes}
 use Rattle.session_model.specs.Replies.{missed_reply, said_of}
 use Rattle.session_model.specs.Sessions.{Cache, Gets, Hears, IsGet, Over, Publishing, Refreshing, Said, Session, Stage, Wants, keeping, wanted_key, with_part}
 use Rattle.session_model.specs.Sessions.Hears.{gets_on, got, puts_on, puts}
 use Rattle.session_laws.specs.Going.{ComesTo}
-use Rattle.world_model.specs.Agents.{Agent}
+use Rattle.world_model.specs.Agents.{HssAgent}
 use Rattle.world_model.specs.Fates.{FateOf}
 use Rattle.world_model.specs.World.{World, Participant, named_bytes, participant, peer_of, with_participant}
-use Rattle.world_model.specs.Story.{Began, Knowing, Story, knowing_of, receiving}
-use Rattle.world_model.specs.Steps.{Scene, acked_by, ask_told}
+use Rattle.world_model.specs.GhostState.{Began, Knowing, GhostState, knowing_of, receiving}
+use Rattle.world_model.specs.Steps.{Configuration, acked_by, ask_told}
 use Rattle.world_laws.specs.Causes.{said_at}
 use Rattle.world_laws.specs.Causes.HasCause.{missed as missed_cause}
-use Rattle.world_laws.specs.Keeps.{GoesOn, HasSaid, IsAnswerIn, IsAtStage, IsInHand, IsMetHead, IsRefreshing, IsSoundSession, Keeps, KeepsUp}
-use Rattle.world_laws.specs.Keeps.KeepsUp.{still, grown, dropped}
-use Rattle.world_laws.specs.Frames.{Change, IsMildChange, changed, unchanged}
+use Rattle.world_laws.specs.Invariant.{GoesOn, HasSaid, IsAnswerIn, IsAtStage, IsInHand, IsMetHead, IsRefreshing, IsSoundSession, Invariant, KeepsUp}
+use Rattle.world_laws.specs.Invariant.KeepsUp.{still, grown, dropped}
+use Rattle.world_laws.specs.Frames.{Change, IsChangeWithinFrame, changed, unchanged}
 use Rattle.world_laws.specs.Laws.{GetsBringKeep}
 use Rattle.world_laws.proofs.Bringing.{found_named}
 use Rattle.world_laws.proofs.Frames.{answer_stays, goes_on_still, into_map, participant_keeps, same_keys, sound_still}
@@ -58,17 +58,17 @@ use Rattle.world_laws.proofs.TakingOn.{brought_then, comes_with, on_so}
 -- ---- a session that was brought more
 
 -- heads more were received, and blocks more were met
-record IsMore (w : World) (st : Story) (name : List ℕ) (before after : List Part) : Type 0 where
+record IsMore (w : World) (st : GhostState) (name : List ℕ) (before after : List Part) : Type 0 where
   heads : (e : Entry) → Contains (all_heads (brought_in after)) e → Contains (all_heads (brought_in before)) e ⊎ Contains (knowing_of st name).received e
   blocks : (key : Key) (bytes : List ℕ) → Contains (brought_in after) (BlockOf key (Ok bytes)) → Contains (brought_in before) (BlockOf key (Ok bytes)) ⊎ IsMetBlock w.met key bytes
 
-keeps_up_brought : (s : Session) (of : Holding) (a : Agent) (known : List Record) (parts : List Part) (current : List Heard) (stage : Stage) (notes : List Note) (missed_by : Option Miss) → KeepsUp s of a known
+keeps_up_brought : (s : Session) (of : Holding) (a : HssAgent) (known : List Record) (parts : List Part) (current : List Heard) (stage : Stage) (notes : List Note) (missed_by : Option Miss) → KeepsUp s of a known
     → KeepsUp (with_others s parts current stage notes missed_by) of a known
 keeps_up_brought s of a known parts current stage notes missed_by (still load held floor) = still load held floor
 keeps_up_brought s of a known parts current stage notes missed_by (grown load all far) = grown load all far
 keeps_up_brought s of a known parts current stage notes missed_by (dropped other first load basis) = dropped other first load basis
 
-sound_brought : (w : World) (st : Story) (s : Session) (b : Began) (parts : List Part) (current : List Heard) (stage : Stage) (notes : List Note) (missed_by : Option Miss) → IsMore w st s.by s.parts parts → IsSoundSession w st s b
+sound_brought : (w : World) (st : GhostState) (s : Session) (b : Began) (parts : List Part) (current : List Heard) (stage : Stage) (notes : List Note) (missed_by : Option Miss) → IsMore w st s.by s.parts parts → IsSoundSession w st s b
     → IsSoundSession w st (with_others s parts current stage notes missed_by) b
 sound_brought w st s b parts current stage notes missed_by more h = record {
   by = h.by;
@@ -106,9 +106,9 @@ found_some (k ∷ ks) name h = by (bytes_eq k.name name) refl (λ later. found_s
 
 -- ---- the ask
 
-module _ (c : Scene) (r : ℕ) (p : Participant) (keeps : Keeps (c.world, c.story)) (hand : IsInHand c r) (ringed : c.world.replicas ≡ Some r) (is_p : participant c.world c.session.by ≡ Some p)
+module _ (c : Configuration) (r : ℕ) (p : Participant) (keeps : Invariant (c.world, c.ghost_state)) (hand : IsInHand c r) (ringed : c.world.replicas ≡ Some r) (is_p : participant c.world c.session.by ≡ Some p)
     (node : Peer) (question : Ask) (answer : Answer) (next : World) (fate : FateOf hss_judged c.world node question answer next) (at : c.session.stage ≡ Refreshing)
-    (want : Want) (brought : Brought) (wants : Wants hss_judged r c.session want)
+    (want : WantedOfRing) (brought : Brought) (wants : Wants hss_judged r c.session want)
     (asks_next : AsksNext (wanted_key want) (ask.Get (wanted_key want)) (IsGet hss_judged r c.session.entries want) c.session.current node question)
     (gets : Gets hss_judged r c.session.entries want (c.session.current ++ told node question answer) brought) where
   abbrev w : World
@@ -131,17 +131,17 @@ module _ (c : Scene) (r : ℕ) (p : Participant) (keeps : Keeps (c.world, c.stor
   fits = fits_of question asks_next.is_of
 
   left : AskLeaves r w next
-  left = leaves w c.story r keeps ringed next node question answer fits.0 fits.1 fate
+  left = leaves w c.ghost_state r keeps ringed next node question answer fits.0 fits.1 fate
 
   more : (b : List ℕ) → Contains w.met b → Contains next.met b
-  more = grows w c.story r keeps ringed next node question answer fits.0 fits.1 fate
+  more = grows w c.ghost_state r keeps ringed next node question answer fits.0 fits.1 fate
 
   peers_then : (q : Peer) → Contains (map peer_of w.nodes) q → Contains (map peer_of next.nodes) q
-  peers_then = still_peers w c.story r keeps ringed next node question answer fits.0 fits.1 fate
+  peers_then = still_peers w c.ghost_state r keeps ringed next node question answer fits.0 fits.1 fate
 
   heard_then : AllByRecursion (λ a. IsAnswerIn next a.got) asks
   heard_then = each_append (λ (a : Heard). IsAnswerIn next a.got) s.current (told node question answer) (all_weaker _ _ s.current (λ a g. answer_stays w next more peers_then a.got g) hand.goes_on.heard)
-      (told_each (IsAnswerIn next) node question answer (given_then w c.story r keeps ringed next node question answer fits.0 fits.1 fate))
+      (told_each (IsAnswerIn next) node question answer (given_then w c.ghost_state r keeps ringed next node question answer fits.0 fits.1 fate))
 
   brings : BringsMet next want brought
   brings = brings_met next gets heard_then
@@ -158,28 +158,28 @@ module _ (c : Scene) (r : ℕ) (p : Participant) (keeps : Keeps (c.world, c.stor
   same_heads = ap (λ (parts : List Part). all_heads (brought_in parts)) (drop_at s.parts (record { brought = brought; asks = asks } ∷ []) (length s.parts) refl) ∙ append-nil (heads_of brought)
 
   module _ (acked : List Post) where
-    abbrev asked_story : Story
-    asked_story = record c.story { acked = acked }
+    abbrev asked_ghost_state : GhostState
+    asked_ghost_state = record c.ghost_state { acked = acked }
 
-    abbrev then_story : Story
-    then_story = receiving asked_story p.name told_heads
+    abbrev then_ghost_state : GhostState
+    then_ghost_state = receiving asked_ghost_state p.name told_heads
 
-    asked_keeps : Keeps (next, asked_story)
-    asked_keeps = ask_keeps w c.story r keeps ringed next node question answer fits.0 fits.1 fate acked
+    asked_keeps : Invariant (next, asked_ghost_state)
+    asked_keeps = ask_keeps w c.ghost_state r keeps ringed next node question answer fits.0 fits.1 fate acked
 
-    told_keeps : Keeps (next, then_story)
-    told_keeps = receiving_keeps next asked_story p.name told_heads asked_keeps (subst (AllByRecursion (IsMetHead next.met)) (sym same_heads) brings.heads)
+    told_keeps : Invariant (next, then_ghost_state)
+    told_keeps = receiving_keeps next asked_ghost_state p.name told_heads asked_keeps (subst (AllByRecursion (IsMetHead next.met)) (sym same_heads) brings.heads)
 
-    still_in_hand : IsInHand (record { world = next; story = then_story; session = s; began = c.began }) r
+    still_in_hand : IsInHand (record { world = next; ghost_state = then_ghost_state; session = s; began = c.began }) r
     still_in_hand = record {
       number = hand.number;
       goes_on = goes_on_still w next more peers_then r s hand.goes_on (unchanged hand.goes_on.by) (found_then hand.goes_on.by hand.goes_on.is_by);
-      said = subst (λ (x : Stage). HasSaid then_story c.began.number s (said_at x)) (sym at) tt;
-      sound = λ apart. still_sound (hand.sound (subst (λ (v : World). NamesTellApart (named_bytes v)) left.rest apart));
+      said = subst (λ (x : Stage). HasSaid then_ghost_state c.began.number s (said_at x)) (sym at) tt;
+      sound = λ apart. still_sound (hand.sound (subst (λ (v : World). IsCollisionFree (named_bytes v)) left.rest apart));
     }
       where
-        still_sound : IsSoundSession w c.story s c.began → IsSoundSession next then_story s c.began
-        still_sound g = session_more asked_story p.name told_heads next s c.began (sound_still w next c.story more s c.began g (unchanged g.by) acked (found_then g.by g.is_by))
+        still_sound : IsSoundSession w c.ghost_state s c.began → IsSoundSession next then_ghost_state s c.began
+        still_sound g = session_more asked_ghost_state p.name told_heads next s c.began (sound_still w next c.ghost_state more s c.began g (unchanged g.by) acked (found_then g.by g.is_by))
 
     abbrev d : Change
     d = record (unchanged p) { cache = keeping hss_judged r brought p.cache }
@@ -190,26 +190,26 @@ module _ (c : Scene) (r : ℕ) (p : Participant) (keeps : Keeps (c.world, c.stor
     is_p_then : participant next s.by ≡ Some p
     is_p_then = found_then p is_p
 
-    mild : IsMildChange next.met p d
-    mild = record {
+    within_frame : IsChangeWithinFrame next.met p d
+    within_frame = record {
       kept = refl;
       pending = λ post h. h;
       fewer = omega arith;
       cached = keeping_met next r brought p.cache brings.blocks (each (λ (q : Participant). IsMetCache next.met q.cache) next.participants p told_keeps.met.cached (found_named next.participants s.by p is_p_then).0);
     }
 
-    then_keeps : Keeps (then_world, then_story)
-    then_keeps = participant_keeps (next, then_story) s.by p d told_keeps is_p_then mild
+    then_keeps : Invariant (then_world, then_ghost_state)
+    then_keeps = participant_keeps (next, then_ghost_state) s.by p d told_keeps is_p_then within_frame
 
     on : GoesOn then_world r s
-    on = goes_on_then (record { world = next; story = then_story; session = s; began = c.began }) r p told_keeps still_in_hand is_p_then d
+    on = goes_on_then (record { world = next; ghost_state = then_ghost_state; session = s; began = c.began }) r p told_keeps still_in_hand is_p_then d
 
-    apart_before : NamesTellApart (named_bytes then_world) → NamesTellApart (named_bytes next)
-    apart_before apart = subst (λ keys. NamesTellApart (next.met ++ keys)) (same_keys next told_keeps.apart s.by p is_p_then (changed p d) refl refl) apart
+    apart_before : IsCollisionFree (named_bytes then_world) → IsCollisionFree (named_bytes next)
+    apart_before apart = subst (λ keys. IsCollisionFree (next.met ++ keys)) (same_keys next told_keeps.apart s.by p is_p_then (changed p d) refl refl) apart
 
     -- ---- the session
 
-    is_more : IsMore then_world then_story s.by s.parts heard.parts
+    is_more : IsMore then_world then_ghost_state s.by s.parts heard.parts
     is_more = record {
       heads = λ e h. ⊎_elim (λ old. inl old) (λ new. inr (received e new)) (heads_cases (brought_in s.parts) brought e (subst (λ l. Contains (all_heads l) e) (brought_then s.parts brought asks) h));
       blocks = λ key bytes h. ⊎_elim (λ old. inl old) (λ new. inr (of_one key bytes new))
@@ -219,18 +219,18 @@ module _ (c : Scene) (r : ℕ) (p : Participant) (keeps : Keeps (c.world, c.stor
         of_one : (key : Key) (bytes : List ℕ) → Contains (brought ∷ []) (BlockOf key (Ok bytes)) → IsMetBlock next.met key bytes
         of_one key bytes h = ⊎_elim (λ is. brings.blocks key bytes is) (λ none. absurd (in_nothing (BlockOf key (Ok bytes)) none)) (in_cons brought [] (BlockOf key (Ok bytes)) h)
 
-        named : Contains (map (λ (k : Knowing). k.name) asked_story.participants) p.name
+        named : Contains (map (λ (k : Knowing). k.name) asked_ghost_state.participants) p.name
         named = subst (λ (names : List (List ℕ)). Contains names p.name) (sym asked_keeps.fits.participants) (into_map (λ (q : Participant). q.name) next.participants p (found_named next.participants s.by p is_p_then).0)
 
-        received : (e : Entry) → Contains (heads_of brought) e → Contains (knowing_of then_story s.by).received e
+        received : (e : Entry) → Contains (heads_of brought) e → Contains (knowing_of then_ghost_state s.by).received e
         received e h =
-            let found = found_some asked_story.participants p.name named in
-            subst (λ (n : List ℕ). Contains (knowing_of then_story n).received e) (found_named next.participants s.by p is_p_then).1
-            (has_received asked_story p.name told_heads found.0 found.1 e (subst (λ l. Contains l e) (sym same_heads) h))
+            let found = found_some asked_ghost_state.participants p.name named in
+            subst (λ (n : List ℕ). Contains (knowing_of then_ghost_state n).received e) (found_named next.participants s.by p is_p_then).1
+            (has_received asked_ghost_state p.name told_heads found.0 found.1 e (subst (λ l. Contains l e) (sym same_heads) h))
 
     -- as it stands then
     in_hand_so : (stage : Stage) (notes : List Note) (missed_by : Option Miss) → (let t : Session = with_others s heard.parts [] stage notes missed_by in
-        IsAtStage then_world r t stage → HasSaid then_story c.began.number t (said_at stage) → IsInHand (record { world = then_world; story = then_story; session = t; began = c.began }) r)
+        IsAtStage then_world r t stage → HasSaid then_ghost_state c.began.number t (said_at stage) → IsInHand (record { world = then_world; ghost_state = then_ghost_state; session = t; began = c.began }) r)
     in_hand_so stage notes missed_by at_stage has_said = record {
       number = hand.number;
       goes_on = record {
@@ -245,8 +245,8 @@ module _ (c : Scene) (r : ℕ) (p : Participant) (keeps : Keeps (c.world, c.stor
         stage = at_stage;
       };
       said = has_said;
-      sound = λ apart. sound_brought then_world then_story s c.began heard.parts [] stage notes missed_by is_more
-          (sound_then (record { world = next; story = then_story; session = s; began = c.began }) r p told_keeps still_in_hand is_p_then d (still_in_hand.sound (apart_before apart)));
+      sound = λ apart. sound_brought then_world then_ghost_state s c.began heard.parts [] stage notes missed_by is_more
+          (sound_then (record { world = next; ghost_state = then_ghost_state; session = s; began = c.began }) r p told_keeps still_in_hand is_p_then d (still_in_hand.sound (apart_before apart)));
     }
 
     refreshing : IsRefreshing r s
@@ -267,36 +267,36 @@ module _ (c : Scene) (r : ℕ) (p : Participant) (keeps : Keeps (c.world, c.stor
       goes_on = on_so r heard hand.goes_on.some_entry refl came.end (λ miss is. not came.notes came.given miss at (subst (Refreshes s.standing (brought_in heard.parts) came.notes came.given) is came.refreshes));
     }
 
-    brought_so : (t : Session) → Fails heard t → IsInHand (record { world = then_world; story = then_story; session = t; began = c.began }) r
+    brought_so : (t : Session) → Fails heard t → IsInHand (record { world = then_world; ghost_state = then_ghost_state; session = t; began = c.began }) r
     brought_so _ (refresh_fails notes given miss xid asked is refreshes asks_it) =
         in_hand_so (Over (Some (said_of xid (missed_reply asked miss)))) notes (Some miss) refl (missed_cause xid asked given miss asks_it refreshes refl)
     brought_so _ (refresh_goes not) = in_hand_so s.stage s.notes s.missed (subst (IsAtStage then_world r heard) (sym at) (refreshing_on not))
-        (subst (λ (x : Stage). HasSaid then_story c.began.number heard (said_at x)) (sym at) tt)
+        (subst (λ (x : Stage). HasSaid then_ghost_state c.began.number heard (said_at x)) (sym at) tt)
 
   same_parts : (t : Session) → Fails heard t → t.parts ≡ heard.parts
   same_parts _ (refresh_fails notes given miss xid asked is refreshes asks_it) = refl
   same_parts _ (refresh_goes not) = refl
 
-  got_so : (t : Session) → Fails heard t → (let world : World = with_participant next (record p { cache = keeping hss_judged r brought p.cache }) in let story : Story = ask_told c.story p.name s t in
-      Keeps (world, story) × IsInHand (record { world = world; story = story; session = t; began = c.began }) r × (story.turns ≡ c.story.turns))
+  got_so : (t : Session) → Fails heard t → (let world : World = with_participant next (record p { cache = keeping hss_judged r brought p.cache }) in let ghost_state : GhostState = ask_told c.ghost_state p.name s t in
+      Invariant (world, ghost_state) × IsInHand (record { world = world; ghost_state = ghost_state; session = t; began = c.began }) r × (ghost_state.turns ≡ c.ghost_state.turns))
   got_so t goes = subst (λ (parts : List Part). (let world : World = with_participant next (record p { cache = keeping hss_judged r brought p.cache }) in
-      let story : Story = record (receiving c.story p.name (all_heads (brought_in (drop (length s.parts) parts)))) { acked = acked } in
-      Keeps (world, story) × IsInHand (record { world = world; story = story; session = t; began = c.began }) r × (story.turns ≡ c.story.turns)))
+      let ghost_state : GhostState = record (receiving c.ghost_state p.name (all_heads (brought_in (drop (length s.parts) parts)))) { acked = acked } in
+      Invariant (world, ghost_state) × IsInHand (record { world = world; ghost_state = ghost_state; session = t; began = c.began }) r × (ghost_state.turns ≡ c.ghost_state.turns)))
       (sym (same_parts t goes)) (then_keeps acked, brought_so acked t goes, refl)
     where
       acked : List Post
-      acked = c.story.acked ++ acked_by s.stage t.stage
+      acked = c.ghost_state.acked ++ acked_by s.stage t.stage
 
 -- ---- the law
 
 not_both : (s : Session) (said : Option Said) (posts : List Post) (acks : List Ack) → s.stage ≡ Refreshing → s.stage ≡ Publishing said posts acks → ⊥
 not_both s said posts acks e f = cc (sym e ∙ f)
 
-by_hearing : (c : Scene) (r : ℕ) (p : Participant) (keeps : Keeps (c.world, c.story)) (hand : IsInHand c r) (ringed : c.world.replicas ≡ Some r) (is_p : participant c.world c.session.by ≡ Some p)
+by_hearing : (c : Configuration) (r : ℕ) (p : Participant) (keeps : Invariant (c.world, c.ghost_state)) (hand : IsInHand c r) (ringed : c.world.replicas ≡ Some r) (is_p : participant c.world c.session.by ≡ Some p)
     (node : Peer) (question : Ask) (answer : Answer) (next : World) (fate : FateOf hss_judged c.world node question answer next) (at : c.session.stage ≡ Refreshing)
     (heard t : Session) (cache : Cache) → heard.parts ≢ c.session.parts → Hears hss_judged r c.session p.cache node question answer heard cache → Fails heard t
-    → (let world : World = with_participant next (record p { cache = cache }) in let story : Story = ask_told c.story p.name c.session t in
-    Keeps (world, story) × IsInHand (record { world = world; story = story; session = t; began = c.began }) r × (story.turns ≡ c.story.turns))
+    → (let world : World = with_participant next (record p { cache = cache }) in let ghost_state : GhostState = ask_told c.ghost_state p.name c.session t in
+    Invariant (world, ghost_state) × IsInHand (record { world = world; ghost_state = ghost_state; session = t; began = c.began }) r × (ghost_state.turns ≡ c.ghost_state.turns))
 by_hearing c r p keeps hand ringed is_p node question answer next fate at _ t _ other (gets_on want wants next_ask part) goes = absurd (other refl)
 by_hearing c r p keeps hand ringed is_p node question answer next fate at _ t _ other (got want brought wants next_ask whole) goes =
     got_so c r p keeps hand ringed is_p node question answer next fate at want brought wants next_ask whole t goes

@@ -30,7 +30,7 @@ use Rattle.nfs_model.specs.declared.replies.Reply.{Reply}
 use Rattle.nfs_model.specs.declared.replies.Reply.TheVariants as reply
 use Rattle.nfs_model.specs.declared.replies.Tail.{Tail}
 use Rattle.nfs_model.specs.Answers.{about, unless}
-use Rattle.nfs_model.specs.Changing.{Nothing, Operations, Plan, Refuse, about as plan_about, directory_checks, finish, invalid_times, inode_under, is_changing, is_empty_under, made, made_number, may_change, may_cut, move_checks, name_checks, plan, plan_create, plan_file, plan_file_at, plan_rename_between, same_target, set_attribute_checks, standing, taken, too_large, unless as plan_unless}
+use Rattle.nfs_model.specs.Changing.{Nothing, Operations, Plan, Refuse, plan_about, directory_checks, finish, invalid_times, inode_under, is_changing, is_empty_under, made, made_number, may_change, may_cut, move_checks, name_checks, plan, plan_create, plan_file, plan_file_at, plan_rename_between, same_target, set_attribute_checks, standing, taken, too_large, plan_unless}
 use Rattle.nfs_model.specs.Checks.{Check, is_dot, is_dot_dot}
 use Rattle.nfs_model.specs.Objects.{Object, is_owner, may_read, may_write, object_of}
 use Rattle.nfs_model.specs.Pages.{cookie_verifier, long_length, page_checks, plain_length}

@@ -15,18 +15,18 @@ use Rattle.dht_ids.specs.declared.ask.Heard.{Heard}
 use Rattle.dht_ids.specs.declared.judge.Judged.{Judged}
 use Rattle.dht_ids.specs.declared.peer.Peer.{Peer}
 use Rattle.dhash_model.specs.declared.miss.Miss.{Miss}
-use Rattle.dhash_model.specs.Course.{Told, result_of, told_all}
-use Rattle.dhash_model.specs.Course.IsCourse.{no_route, of_owners}
+use Rattle.dhash_model.specs.Execution.{Told, result_of, told_all}
+use Rattle.dhash_model.specs.Execution.IsExecution.{no_route, of_owners}
 use Rattle.dhash_model.specs.GetBlock.{IsGetOfBlock, block_in, is_of_get}
 use Rattle.dhash_model.specs.GetHead.{IsGetOfHead}
-use Rattle.dhash_model.specs.Cache.{others, same_key as same_cached}
+use Rattle.dhash_model.specs.Cache.{others, keys_equal as same_cached}
 use Rattle.block_cache.proofs.Pairs.{kept_valid}
-use Rattle.session_model.specs.Brought.{Brought, HeadsOf, BlockOf, Want, heads_of, stamp_of}
+use Rattle.session_model.specs.Brought.{Brought, HeadsOf, BlockOf, WantedOfRing, heads_of, stamp_of}
 use Rattle.session_model.specs.Sessions.{Cache, Gets, keeping}
 use Rattle.session_model.specs.Sessions.Gets.{heads as got_heads, content as got_content}
 use Rattle.session_laws.specs.Going.{IsOfWant}
 use Rattle.world_model.specs.World.{World}
-use Rattle.world_laws.specs.Keeps.{IsAnswerIn, IsMetHead}
+use Rattle.world_laws.specs.Invariant.{IsAnswerIn, IsMetHead}
 use Rattle.world_laws.proofs.Taking.{IsMetBlock, IsMetCache}
 
 -- what f makes of them
@@ -104,7 +104,7 @@ module _ (w : World) where
 
   -- ---- what is brought
 
-  pub record BringsMet (want : Want) (b : Brought) : Type 0 where
+  pub record BringsMet (want : WantedOfRing) (b : Brought) : Type 0 where
     pub of : IsOfWant want b
     pub heads : AllByRecursion (IsMetHead w.met) (heads_of b)
     pub blocks : (key : Key) (bytes : List ℕ) → b ≡ BlockOf key (Ok bytes) → IsMetBlock w.met key bytes
@@ -113,7 +113,7 @@ module _ (w : World) where
   entries_met key [] h = tt
   entries_met key (j ∷ heads) h = ((h.0.0, j, h.0.1, h.0.2, refl), entries_met key heads h.1)
 
-  pub brings_met : {r : ℕ} {entries : List Peer} {want : Want} {asks : List Heard} {b : Brought} → Gets hss_judged r entries want asks b → AllByRecursion (λ (h : Heard). IsAnswerIn w h.got) asks → BringsMet want b
+  pub brings_met : {r : ℕ} {entries : List Peer} {want : WantedOfRing} {asks : List Heard} {b : Brought} → Gets hss_judged r entries want asks b → AllByRecursion (λ (h : Heard). IsAnswerIn w h.got) asks → BringsMet want b
   brings_met {r} {entries} (got_heads {owner = owner} {asks = asks} came gets) h = record { of = refl; heads = by came gets; blocks = λ key bytes e. cc e }
     where
       by : (got : Result (List Judged) Miss) → IsGetOfHead (hss_judged (head_key_of owner)) (head_key_of owner) r entries asks got → AllByRecursion (IsMetHead w.met) (heads_of (HeadsOf owner got))

@@ -8,9 +8,9 @@ use Rattle.script_model.specs.declared.command.Command.{Command}
 use Rattle.script_model.specs.Lines.{command_of}
 use Rattle.session_model.specs.Sessions.{Said}
 use Rattle.world_model.specs.Calls.{replied}
-use Rattle.world_model.specs.Agents.{opened}
-use Rattle.world_model.specs.Logs.{Played, fresh_signer, newcomer, with_view}
-use Rattle.world_model.specs.Steps.{Scene}
+use Rattle.world_model.specs.Agents.{hss_opened}
+use Rattle.world_model.specs.Logs.{Played, fresh_signer, new_participant, with_view}
+use Rattle.world_model.specs.Steps.{Configuration}
 use Rattle.world_model.specs.World.{World}
 use Rattle.world_laws.proofs.AllLines.{does_line}
 use Rattle.world_laws.proofs.Lines.{meets_more}
@@ -34,15 +34,15 @@ module _ (b : List ℕ) where
   asked : (w next : World) → next ≡ record w { nodes = next.nodes; asked = next.asked } → Contains w.met b → Contains next.met b
   asked w next is h = subst (λ (v : World). Contains v.met b) (sym is) h
 
-  moved : {r : ℕ} {name : List ℕ} (c next : Scene) → Move hss_judged r name c next → Contains c.world.met b → Contains next.world.met b
+  moved : {r : ℕ} {name : List ℕ} (c next : Configuration) → Move hss_judged r name c next → Contains c.world.met b → Contains next.world.met b
   moved c _ (takes p taken cache is taking) h = h
   moved c _ (asks node question answer next fate) h = asked c.world next (fate_rest fate) h
   moved c _ (hears p node question answer next heard t cache is fate hearing goes) h = asked c.world next (fate_rest fate) h
   moved c _ (lacks t lacking) h = h
-  moved c _ (turns p view end after saving t work story began is in_view taking told) h = met_stays c.world.met (map (λ (x : Post). x.bytes) after.pending) b h
+  moved c _ (turns p view end after saving t work ghost_state began is in_view taking told) h = met_stays c.world.met (map (λ (x : Post). x.bytes) after.pending) b h
   moved c _ (settles p after t is settling) h = h
 
-  left : {w : Played} {k : Command} {r : ℕ} {name : List ℕ} {c end : Scene} {next : Played} → Plays hss_judged w r k name c end next → Has w → (Contains c.world.met b → Contains end.world.met b) → Has next
+  left : {w : Played} {k : Command} {r : ℕ} {name : List ℕ} {c end : Configuration} {next : Played} → Plays hss_judged w r k name c end next → Has w → (Contains c.world.met b → Contains end.world.met b) → Has next
   left (calls log pieces s t end sends begins runs over) h on = on h
   left (steps name count s end is going) h on = on h
   left (ends name s end is runs over) h on = on h
@@ -61,14 +61,14 @@ module _ (b : List ℕ) where
   changed k w _ (of_nodes _ ring next is) h = is.grows b h
   changed k w _ (makes_view name names others members former r view next are also new own_keys small ringed is put) h =
       asked (with_view w.0 name view) next (fates_rest put.fates) (meets_more w.0.met (view_block view) b h)
-  changed k w _ (comes name id seed sets new) h = met_stays w.0.met (map (λ (x : Post). x.bytes) (newcomer name (opened (fresh_signer id seed sets) w.0.now)).agent.pending) b h
+  changed k w _ (comes name id seed sets new) h = met_stays w.0.met (map (λ (x : Post). x.bytes) (new_participant name (hss_opened (fresh_signer id seed sets) w.0.now)).agent.pending) b h
   changed k w _ (touches sort name p q posts is_p is) h = met_stays w.0.met (map (λ (x : Post). x.bytes) posts) b h
   changed k w _ (renews sort name p q posts set is_p is) h = met_stays w.0.met (map (λ (x : Post). x.bytes) posts) b h
   changed k w _ (opens name log pieces s t new sends begins) h = h
-  changed k w next (plays sort r name c end _ ringed is) h = left is h (all_moves (λ (x : Scene). Contains x.world.met b) moved (played_moves is))
+  changed k w next (plays sort r name c end _ ringed is) h = left is h (all_moves (λ (x : Configuration). Contains x.world.met b) moved (played_moves is))
 
   later : {k : Command} (w next : Played) → LaterEffect hss_judged w k next → Has w → Has next
-  later w _ (publishes k alone r p end ringed is over on) h = all_moves (λ (x : Scene). Contains x.world.met b) moved (runs_move on) h
+  later w _ (publishes k alone r p end ringed is over on) h = all_moves (λ (x : Configuration). Contains x.world.met b) moved (runs_move on) h
   later w _ (replies k whole said) h = replied_has w.0 said h
 
 pub met_grows : MetGrows

@@ -9,12 +9,12 @@ use Rattle.script_model.specs.declared.command.Command.TheVariants as command
 use Rattle.script_model.specs.Lines.{command_of}
 use Rattle.world_model.specs.Logs.{Played}
 use Rattle.world_model.specs.Step.{Does, IvyStep}
-use Rattle.world_model.specs.Steps.{Scene}
+use Rattle.world_model.specs.Steps.{Configuration}
 use Rattle.world_laws.specs.Effects.{Effect, EndsSession, Plays}
 use Rattle.world_laws.specs.Effects.Effect.{comes, loses, makes_view, of_nodes, opens, plays, renews, shows, times, touches}
 use Rattle.world_laws.specs.Effects.Plays.{calls, ends, steps}
 use Rattle.world_laws.specs.Headline.{HoldsOf, ShowsReply}
-use Rattle.world_laws.specs.Keeps.{Keeps}
+use Rattle.world_laws.specs.Invariant.{Invariant}
 use Rattle.world_laws.specs.Laws.{HeadlineHolds, IsCall, OthersHaveNoTurn}
 use Rattle.world_laws.proofs.AllLines.{does_line}
 use Rattle.world_laws.proofs.Effects.{by_effects, lines_have_effects}
@@ -24,7 +24,7 @@ use Rattle.world_laws.proofs.SessionLines.{call_lines_keep}
 -- ---- no turn is had
 
 -- a session goes on by it
-pub is_call : {k : Command} {w next : Played} {r : ℕ} {name : List ℕ} {c end : Scene} → Plays hss_judged w r k name c end next → IsCall k
+pub is_call : {k : Command} {w next : Played} {r : ℕ} {name : List ℕ} {c end : Configuration} → Plays hss_judged w r k name c end next → IsCall k
 is_call (calls log pieces s t end sends begins runs over) = tt
 is_call (steps name count s end is going) = tt
 is_call (ends name s end is runs over) = tt
@@ -61,7 +61,7 @@ call_or_other c = inr (λ h. h, λ h. h)
 one_command : (c d : Command) → Some c ≡ Some d → c ≡ d
 one_command c d e = cc e
 
-module _ (w next : Played) (output : List ℕ) (keeps : Keeps w) where
+module _ (w next : Played) (output : List ℕ) (keeps : Invariant w) where
   command_holds : (c : Command) → Does hss_judged w c (Goes next output) → HoldsOf w c next output
   command_holds c does = ⊎_elim
       (λ call. (call_lines_keep c w next output call keeps does).1)

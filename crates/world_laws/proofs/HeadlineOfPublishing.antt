@@ -9,20 +9,20 @@ use Rattle.dht_ids.specs.declared.peer.Peer.{Peer}
 use Rattle.dht_ids.specs.declared.post.Ack.{Ack}
 use Rattle.dht_ids.specs.declared.post.Post.{Post}
 use Rattle.agent_model.specs.Turning.{TurnEnd}
-use Rattle.session_model.specs.Courses.{Fails, LacksMemory, Settles, TakesTurn}
-use Rattle.session_model.specs.Courses.Fails.{fails, goes_on}
-use Rattle.session_model.specs.Courses.LacksMemory.{lacks}
-use Rattle.session_model.specs.Courses.Settles.{settles as settles_all}
-use Rattle.session_model.specs.Courses.TakesTurn.{answers as turn_answers, begins_anew, gives_up}
+use Rattle.session_model.specs.Executions.{Fails, LacksMemory, Settles, TakesTurn}
+use Rattle.session_model.specs.Executions.Fails.{fails, goes_on}
+use Rattle.session_model.specs.Executions.LacksMemory.{lacks}
+use Rattle.session_model.specs.Executions.Settles.{settles as settles_all}
+use Rattle.session_model.specs.Executions.TakesTurn.{answers as turn_answers, begins_again, gives_up}
 use Rattle.script_model.specs.declared.command.Command.{Command}
 use Rattle.session_model.specs.Sessions.{Cache, Hears, Publishing, Refreshing, Said, Session, TakesSome, acknowledged, after_put}
 use Rattle.session_model.specs.Sessions.Takes.{cached, posted}
 use Rattle.session_model.specs.Sessions.TakesSome.{more as some_more, none as some_none}
 use Rattle.session_model.specs.Sessions.Hears.{gets_on, got, puts_on, puts}
-use Rattle.world_model.specs.Agents.{Agent, Kept, hss}
+use Rattle.world_model.specs.Agents.{HssAgent, HssKept, hss_signing}
 use Rattle.world_model.specs.Logs.{Played}
-use Rattle.world_model.specs.Steps.{Scene}
-use Rattle.world_model.specs.Story.{HadTurn}
+use Rattle.world_model.specs.Steps.{Configuration}
+use Rattle.world_model.specs.GhostState.{HadTurn}
 use Rattle.world_laws.specs.Effects.{LaterEffect}
 use Rattle.world_laws.specs.Effects.LaterEffect.{publishes, replies}
 use Rattle.world_laws.specs.Moves.{Move}
@@ -58,26 +58,26 @@ fails_past past (goes_on none) = past
 pub lacks_past : {s t : Session} → LacksMemory s t → IsPast t
 lacks_past (lacks notes shown given end xid asked at refreshed asks_it rest front) = λ e. cc e
 
-pub settles_past : {a after : Agent} {s t : Session} → Settles a s after t → IsPast t
+pub settles_past : {a after : HssAgent} {s t : Session} → Settles a s after t → IsPast t
 settles_past (settles_all said acks at) = λ e. cc e
 
-pub turn_refreshes : {now : Moment} {a : Agent} {view : View} {failing : Bool} {s : Session} {end : TurnEnd} {after : Agent} {saving : Option Kept} {t : Session} → TakesTurn hss (record { agent = a; view = view; now = now; fails = failing }) s end after saving t → s.stage ≡ Refreshing
+pub turn_refreshes : {now : Moment} {a : HssAgent} {view : View} {failing : Bool} {s : Session} {end : TurnEnd} {after : HssAgent} {saving : Option HssKept} {t : Session} → TakesTurn hss_signing (record { agent = a; view = view; now = now; fails = failing }) s end after saving t → s.stage ≡ Refreshing
 turn_refreshes (turn_answers notes given xid asked reply applied after saving done asks_it turned) = done.0
-turn_refreshes (begins_anew notes given xid asked end after saving done asks_it turned refused few) = done.0
+turn_refreshes (begins_again notes given xid asked end after saving done asks_it turned refused few) = done.0
 turn_refreshes (gives_up notes given xid asked end after saving done asks_it turned refused many) = done.0
 
 module _ (had : List HadTurn) where
   -- these are the turns, and it doesn't refresh
-  record HasNoMore (c : Scene) : Type 0 where
+  record HasNoMore (c : Configuration) : Type 0 where
     past : IsPast c.session
-    same : c.story.turns ≡ had
+    same : c.ghost_state.turns ≡ had
 
-  move_has_none : {r : ℕ} {name : List ℕ} (c next : Scene) → Move hss_judged r name c next → HasNoMore c → HasNoMore next
+  move_has_none : {r : ℕ} {name : List ℕ} (c next : Configuration) → Move hss_judged r name c next → HasNoMore c → HasNoMore next
   move_has_none c _ (takes p taken cache is taking) h = record { past = takes_past taking h.past; same = h.same }
   move_has_none c _ (asks node question answer next fate) h = record { past = h.past; same = h.same }
   move_has_none c _ (hears p node question answer next heard t cache is fate hearing goes) h = record { past = fails_past (hears_past h.past hearing) goes; same = h.same }
   move_has_none c _ (move_lacks t lacking) h = record { past = lacks_past lacking; same = h.same }
-  move_has_none c _ (turns p view end after saving t work story began is in_view taking told) h = absurd (h.past (turn_refreshes taking))
+  move_has_none c _ (turns p view end after saving t work ghost_state began is in_view taking told) h = absurd (h.past (turn_refreshes taking))
   move_has_none c _ (move_settles p after t is settling) h = record { past = settles_past settling; same = h.same }
 
   -- a later effect has none

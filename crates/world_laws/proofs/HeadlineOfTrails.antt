@@ -14,23 +14,23 @@ use Rattle.dht_ids.specs.declared.ask.Heard.{Heard}
 use Rattle.dht_ids.specs.declared.peer.Peer.{Peer}
 use Rattle.agent_model.specs.Turning.{TurnEnd}
 use Rattle.session_model.specs.Brought.{Brought, Part, asks_in}
-use Rattle.session_model.specs.Courses.{Fails, LacksMemory, Settles, TakesTurn}
-use Rattle.session_model.specs.Courses.Fails.{fails, goes_on}
-use Rattle.session_model.specs.Courses.LacksMemory.{lacks}
-use Rattle.session_model.specs.Courses.Settles.{settles as settles_all}
-use Rattle.session_model.specs.Courses.TakesTurn.{answers as turn_answers, begins_anew, gives_up}
+use Rattle.session_model.specs.Executions.{Fails, LacksMemory, Settles, TakesTurn}
+use Rattle.session_model.specs.Executions.Fails.{fails, goes_on}
+use Rattle.session_model.specs.Executions.LacksMemory.{lacks}
+use Rattle.session_model.specs.Executions.Settles.{settles as settles_all}
+use Rattle.session_model.specs.Executions.TakesTurn.{answers as turn_answers, begins_again, gives_up}
 use Rattle.session_model.specs.Sessions.{Cache, Hears, Session, Takes, TakesAll, TakesSome, with_part}
 use Rattle.session_model.specs.Sessions.Hears.{gets_on, got, puts_on, puts}
 use Rattle.session_model.specs.Sessions.Takes.{posted, cached}
 use Rattle.session_model.specs.Sessions.TakesAll.{none as takes_none, more as takes_more}
 use Rattle.session_model.specs.Sessions.TakesSome.{none as some_none, more as some_more}
-use Rattle.world_model.specs.Agents.{Agent, Kept, hss}
-use Rattle.world_model.specs.Fates.{FateOf, counted}
+use Rattle.world_model.specs.Agents.{HssAgent, HssKept, hss_signing}
+use Rattle.world_model.specs.Fates.{FateOf, ask_counted}
 use Rattle.world_model.specs.Fates.FateOf.{lost, stopped, answers}
 use Rattle.world_model.specs.Keepers.{fails_next}
 use Rattle.world_model.specs.Nodes.{answered}
 use Rattle.world_model.specs.World.{Participant, World, with_node}
-use Rattle.world_model.specs.Steps.{Acts, RunsOut, Scene, Steps, with_cache}
+use Rattle.world_model.specs.Steps.{Acts, RunsOut, Configuration, Steps, with_cache}
 use Rattle.world_model.specs.Steps.Acts.{asks, asks_in_vain, turns, is_refused, settles}
 use Rattle.world_model.specs.Steps.Steps.{acts, lacks_memory}
 use Rattle.world_model.specs.Steps.RunsOut.{is_over as runs_over, more as runs_more}
@@ -57,11 +57,11 @@ parts_in s h among = Contains-append_left (asks_in s.parts) s.current h (subst (
 bare_part : (s : Session) (brought : Brought) → AreIn (trail_of (with_part s brought [])) (trail_of s)
 bare_part s brought h among = parts_in s h (subst (λ (l : List Heard). Contains l h) (part_trail s brought []) among)
 
--- what is behind the asks on their way is heard
+-- what is after the asks on their way is heard
 or_told : (s : Session) (more : List Heard) (h : Heard) → Contains (asks_in s.parts ++ (s.current ++ more)) h → Contains (trail_of s) h ⊎ Contains more h
 or_told s more h among = Contains-append_cases (trail_of s) more h (subst (λ (l : List Heard). Contains l h) (sym (append_assoc (asks_in s.parts) s.current more)) among)
 
--- ---- what a session's course leaves
+-- ---- what a session's execution leaves
 
 fails_in : (s t : Session) → Fails s t → AreIn (trail_of t) (trail_of s)
 fails_in s _ (fails notes given miss xid asked at refreshed asks_it) = parts_in s
@@ -70,13 +70,13 @@ fails_in s _ (goes_on none) = λ h among. among
 lacks_in : (s t : Session) → LacksMemory s t → AreIn (trail_of t) (trail_of s)
 lacks_in s _ (lacks notes shown given end xid asked at refreshed asks_it rest front) = parts_in s
 
-settles_in : (a : Agent) (s : Session) (after : Agent) (t : Session) → Settles a s after t → AreIn (trail_of t) (trail_of s)
+settles_in : (a : HssAgent) (s : Session) (after : HssAgent) (t : Session) → Settles a s after t → AreIn (trail_of t) (trail_of s)
 settles_in a s _ _ (settles_all said acks at) = λ h among. among
 
-turn_in : (now : Moment) (a : Agent) (view : View) (failing : Bool) (s : Session) (end : TurnEnd) (after : Agent) (saving : Option Kept) (t : Session) → TakesTurn hss (record { agent = a; view = view; now = now; fails = failing }) s end after saving t
+turn_in : (now : Moment) (a : HssAgent) (view : View) (failing : Bool) (s : Session) (end : TurnEnd) (after : HssAgent) (saving : Option HssKept) (t : Session) → TakesTurn hss_signing (record { agent = a; view = view; now = now; fails = failing }) s end after saving t
     → AreIn (trail_of t) (trail_of s)
 turn_in now a view failing s _ _ _ _ (turn_answers notes given xid asked reply applied after saving done asks_it turned) = λ h among. among
-turn_in now a view failing s _ _ _ _ (begins_anew notes given xid asked end after saving done asks_it turned refused few) = λ h among. absurd (in_nothing h among)
+turn_in now a view failing s _ _ _ _ (begins_again notes given xid asked end after saving done asks_it turned refused few) = λ h among. absurd (in_nothing h among)
 turn_in now a view failing s _ _ _ _ (gives_up notes given xid asked end after saving done asks_it turned refused many) = parts_in s
 
 module _ {r : ℕ} where
@@ -117,9 +117,9 @@ told_so node (ask.PutHead key bytes) answer h among = (let is = told_only _ h am
 -- caches don't count for it
 fate_still : (w : World) (participants : List Participant) (to : Peer) (question : Ask) (answer : Answer) (next : World) → FateOf hss_judged (record w { participants = participants }) to question answer next
     → (other : World) × FateOf hss_judged w to question answer other
-fate_still w participants to question _ _ (lost l) = (counted w, lost l)
-fate_still w participants to question _ _ (stopped n l is dead) = (counted w, stopped n l is dead)
-fate_still w participants to question _ _ (answers n l is live) = (with_node (counted w) (answered hss_judged n question).1, answers n l is live)
+fate_still w participants to question _ _ (lost l) = (ask_counted w, lost l)
+fate_still w participants to question _ _ (stopped n l is dead) = (ask_counted w, stopped n l is dead)
+fate_still w participants to question _ _ (answers n l is live) = (with_node (ask_counted w) (answered hss_judged n question).1, answers n l is live)
 
 -- it was asked in that world, and this is its fate there
 record IsAskedIn (w : World) (h : Heard) : Type 0 where
@@ -141,7 +141,7 @@ asked_in w participants node question answer next fate h among =
     }
 
 module _ (r : ℕ) (name : List ℕ) where
-  acts_in : (c : Scene) (p q : Participant) (taken : Session) (cache : Cache) (next : Scene) → Acts hss_judged r q (with_cache hss_judged r c p taken cache) next
+  acts_in : (c : Configuration) (p q : Participant) (taken : Session) (cache : Cache) (next : Configuration) → Acts hss_judged r q (with_cache hss_judged r c p taken cache) next
       → (h : Heard) → Contains (trail_of next.session) h → Contains (trail_of taken) h ⊎ IsAskedIn c.world h
   acts_in c p q taken cache _ (asks node question answer next heard t after fate hears goes) h among =
       ⊎_elim inl (λ new. inr (asked_in c.world _ node question answer next fate h new)) (hears_in taken q.cache node question answer heard after hears h (fails_in heard t goes h among))
@@ -150,17 +150,17 @@ module _ (r : ℕ) (name : List ℕ) where
   acts_in c p q taken cache _ (is_refused view end after saving t in_view refusal takes) h among = inl (turn_in c.world.now q.agent view (fails_next q.keeper) taken end after saving t takes h among)
   acts_in c p q taken cache _ (settles after t is) h among = inl (settles_in q.agent taken after t is h among)
 
-  step_in : (c next : Scene) → Steps hss_judged r name c next → (h : Heard) → Contains (trail_of next.session) h → Contains (trail_of c.session) h ⊎ IsAskedIn c.world h
+  step_in : (c next : Configuration) → Steps hss_judged r name c next → (h : Heard) → Contains (trail_of next.session) h → Contains (trail_of c.session) h ⊎ IsAskedIn c.world h
   step_in c _ (acts p taken cache next is_p takes act) h among = ⊎_elim (λ old. inl (takes_all_in takes h old)) inr (acts_in c p _ taken cache next act h among)
   step_in c _ (lacks_memory p taken t cache is_p takes lacking) h among = inl (takes_some_in takes h (lacks_in taken t lacking h among))
 
   -- ---- all up to the end
 
-  pub trails_are_heard : {c end : Scene} → RunsOut hss_judged r name c end → (h : Heard) → Contains (trail_of end.session) h → Contains (trail_of c.session) h ⊎ IsHeard r name c end h
+  pub trails_are_heard : {c end : Configuration} → RunsOut hss_judged r name c end → (h : Heard) → Contains (trail_of end.session) h → Contains (trail_of c.session) h ⊎ IsHeard r name c end h
   trails_are_heard (runs_over said over) h among = inl among
   trails_are_heard (runs_more {c} {between} {next} step rest) h among = ⊎_elim
       (λ old. ⊎_elim inl
-      (λ asked. inr (record { count = zero; scene = c; leads = steps_none; goes_on = runs_more step rest; question = asked.question; next = asked.next; fate = asked.fate; tells = asked.tells }))
+      (λ asked. inr (record { count = zero; configuration = c; leads = steps_none; goes_on = runs_more step rest; question = asked.question; next = asked.next; fate = asked.fate; tells = asked.tells }))
       (step_in c between step h old))
-      (λ way. inr (record { count = suc way.count; scene = way.scene; leads = steps_more step way.leads; goes_on = way.goes_on; question = way.question; next = way.next; fate = way.fate; tells = way.tells }))
+      (λ way. inr (record { count = suc way.count; configuration = way.configuration; leads = steps_more step way.leads; goes_on = way.goes_on; question = way.question; next = way.next; fate = way.fate; tells = way.tells }))
       (trails_are_heard rest h among)

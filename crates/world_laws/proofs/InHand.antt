@@ -3,7 +3,7 @@ use Rattle.std.proofs.Common.{◌≡◌, ◌≢◌, ◌⊎◌, inl, inr, ⊎_eli
 use Rattle.std.specs.List.{AllByRecursion, list_any}
 use Rattle.ring_model.proofs.Lists.{all_weaker}
 use Rattle.ivy_base.specs.declared.key.Key.{Key}
-use Rattle.ivy_base.specs.Naming.{NamesTellApart}
+use Rattle.ivy_base.specs.Naming.{IsCollisionFree}
 use Rattle.dhash_model.specs.Signed.{hss_judged}
 use Rattle.log_model.proofs.Lists.{each, each_append, from_filter}
 use Rattle.log_model.specs.Record.{Record}
@@ -18,28 +18,28 @@ use Rattle.dht_ids.specs.declared.post.Ack.{Ack}
 use Rattle.dht_ids.specs.declared.post.Post.{Post}
 use Rattle.dhash_model.specs.declared.miss.Miss.{Miss}
 use Rattle.agent_model.specs.Others.{is_of}
-use Rattle.session_model.specs.Courses.{LacksMemory, Settles}
-use Rattle.session_model.specs.Courses.LacksMemory.{lacks}
-use Rattle.session_model.specs.Courses.Settles.{settles as settles_all}
+use Rattle.session_model.specs.Executions.{LacksMemory, Settles}
+use Rattle.session_model.specs.Executions.LacksMemory.{lacks}
+use Rattle.session_model.specs.Executions.Settles.{settles as settles_all}
 use Rattle.session_model.specs.Asking.{AsksNext}
-use Rattle.session_model.specs.Brought.{Want}
+use Rattle.session_model.specs.Brought.{WantedOfRing}
 use Rattle.session_model.specs.Refreshing.{Needs, Note}
 use Rattle.session_model.specs.Replies.{said_no_memory}
 use Rattle.session_model.specs.Sessions.{Cache, Hears, IsGet, Over, Publishing, Refreshing, Said, Session, Stage, Wants, after_put, held_back, wanted_key}
 use Rattle.session_model.specs.Sessions.Hears.{gets_on, got, puts_on, puts}
-use Rattle.world_model.specs.Agents.{Agent}
+use Rattle.world_model.specs.Agents.{HssAgent}
 use Rattle.world_model.specs.Fates.{FateOf}
 use Rattle.world_model.specs.World.{World, Participant, named_bytes, participant, peer_of, with_participant}
-use Rattle.world_model.specs.Story.{Began, Story}
-use Rattle.world_model.specs.Steps.{Scene, acked_by, ask_told}
+use Rattle.world_model.specs.GhostState.{Began, GhostState}
+use Rattle.world_model.specs.Steps.{Configuration, acked_by, ask_told}
 use Rattle.world_laws.specs.Causes.{HasCause, said_at}
 use Rattle.world_laws.specs.Causes.HasCause.{alone, missed, turned, no_memory}
-use Rattle.world_laws.specs.Keeps.{AreApart, GoesOn, HasSaid, IsAnswerIn, IsAtStage, IsInHand, IsMetPost, IsRefreshing, IsSoundSession, Keeps, KeepsUp}
-use Rattle.world_laws.specs.Keeps.KeepsUp.{still, grown, dropped}
-use Rattle.world_laws.specs.Frames.{Change, IsMildChange, changed, unchanged}
+use Rattle.world_laws.specs.Invariant.{AreApart, GoesOn, HasSaid, IsAnswerIn, IsAtStage, IsInHand, IsMetPost, IsRefreshing, IsSoundSession, Invariant, KeepsUp}
+use Rattle.world_laws.specs.Invariant.KeepsUp.{still, grown, dropped}
+use Rattle.world_laws.specs.Frames.{Change, IsChangeWithinFrame, changed, unchanged}
 use Rattle.world_laws.specs.Laws.{GetsGoOnKeep, LackingKeeps, PutsKeep, SettlingKeeps, VainAsksKeep}
-use Rattle.session_laws.proofs.AskedGets.{gets_are_one}
-use Rattle.session_laws.proofs.AskedPuts.{puts_are_one}
+use Rattle.session_laws.proofs.AskedGets.{gets_are_deterministic}
+use Rattle.session_laws.proofs.AskedPuts.{puts_are_deterministic}
 use Rattle.world_laws.proofs.Bringing.{found_named, some_same}
 use Rattle.world_laws.proofs.Frames.{answer_stays, found_placed, goes_on_still, participant_keeps, placed_itself, said_still, same_keys, sound_still}
 use Rattle.world_laws.proofs.MoreMet.{more_posts}
@@ -52,12 +52,12 @@ use Rattle.world_laws.proofs.Publishing.{HearsPut, ask_keeps, ask_tells, begins,
 abbrev further : Session → List Heard → Stage → List Note → Option Miss → Session
 further s current stage notes missed_by = record s { current = current; stage = stage; notes = notes; missed = missed_by }
 
-keeps_up_further : (s : Session) (of : Holding) (a : Agent) (known : List Record) (current : List Heard) (stage : Stage) (notes : List Note) (missed_by : Option Miss) → KeepsUp s of a known → KeepsUp (further s current stage notes missed_by) of a known
+keeps_up_further : (s : Session) (of : Holding) (a : HssAgent) (known : List Record) (current : List Heard) (stage : Stage) (notes : List Note) (missed_by : Option Miss) → KeepsUp s of a known → KeepsUp (further s current stage notes missed_by) of a known
 keeps_up_further s of a known current stage notes missed_by (still load held floor) = still load held floor
 keeps_up_further s of a known current stage notes missed_by (grown load all far) = grown load all far
 keeps_up_further s of a known current stage notes missed_by (dropped other first load basis) = dropped other first load basis
 
-sound_further : (w : World) (st : Story) (s : Session) (b : Began) (current : List Heard) (stage : Stage) (notes : List Note) (missed_by : Option Miss) → IsSoundSession w st s b → IsSoundSession w st (further s current stage notes missed_by) b
+sound_further : (w : World) (st : GhostState) (s : Session) (b : Began) (current : List Heard) (stage : Stage) (notes : List Note) (missed_by : Option Miss) → IsSoundSession w st s b → IsSoundSession w st (further s current stage notes missed_by) b
 sound_further w st s b current stage notes missed_by h = record {
   by = h.by;
   is_by = h.is_by;
@@ -75,18 +75,18 @@ sound_further w st s b current stage notes missed_by h = record {
   blocks = h.blocks;
 }
 
-cause_further : (st : Story) (n : ℕ) (s : Session) (current : List Heard) (stage : Stage) (said : Said) → HasCause st n s said → HasCause st n (record s { current = current; stage = stage }) said
+cause_further : (st : GhostState) (n : ℕ) (s : Session) (current : List Heard) (stage : Stage) (said : Said) → HasCause st n s said → HasCause st n (record s { current = current; stage = stage }) said
 cause_further st n s current stage _ (alone given by) = alone given by
 cause_further st n s current stage _ (missed xid asked given miss asks refreshed is) = missed xid asked given miss asks refreshed is
 cause_further st n s current stage _ (turned h xid asked given among of asks refreshed) =
     turned h xid asked given among (record { number_is = of.number_is; by = of.by; message = of.message; entries = of.entries; standing = of.standing; parts = of.parts }) asks refreshed
 cause_further st n s current stage _ (no_memory xid asked asks) = no_memory xid asked asks
 
-said_further : (st : Story) (n : ℕ) (s : Session) (current : List Heard) (stage : Stage) (o : Option Said) → HasSaid st n s o → HasSaid st n (record s { current = current; stage = stage }) o
+said_further : (st : GhostState) (n : ℕ) (s : Session) (current : List Heard) (stage : Stage) (o : Option Said) → HasSaid st n s o → HasSaid st n (record s { current = current; stage = stage }) o
 said_further st n s current stage None h = tt
 said_further st n s current stage (Some said) h = cause_further st n s current stage said h
 
--- ---- want of memory
+-- ---- running out of memory
 
 pub lacking_keeps : LackingKeeps
 lacking_keeps c r _ hand (lacks notes shown given end xid asked at refreshed asks rest front) = record {
@@ -103,16 +103,16 @@ lacking_keeps c r _ hand (lacks notes shown given end xid asked at refreshed ask
     stage = refl;
   };
   said = no_memory xid asked asks;
-  sound = λ apart. sound_further c.world c.story c.session c.began [] (Over (Some (said_no_memory xid))) shown None (hand.sound apart);
+  sound = λ apart. sound_further c.world c.ghost_state c.session c.began [] (Over (Some (said_no_memory xid))) shown None (hand.sound apart);
 }
 
 -- ---- settling
 
-module _ (c : Scene) (r : ℕ) (p : Participant) (keeps : Keeps (c.world, c.story)) (hand : IsInHand c r) (is_p : participant c.world c.session.by ≡ Some p) where
+module _ (c : Configuration) (r : ℕ) (p : Participant) (keeps : Invariant (c.world, c.ghost_state)) (hand : IsInHand c r) (is_p : participant c.world c.session.by ≡ Some p) where
   same_by : hand.goes_on.by ≡ p
   same_by = some_same hand.goes_on.by p (sym hand.goes_on.is_by ∙ is_p)
 
-  -- the session's agent, with a mild change of it
+  -- the session's agent, with a change of it within the frame condition
   module _ (d : Change) where
     abbrev pub v : World
     v = with_participant c.world (changed p d)
@@ -123,13 +123,13 @@ module _ (c : Scene) (r : ℕ) (p : Participant) (keeps : Keeps (c.world, c.stor
     pub goes_on_then : GoesOn v r c.session
     goes_on_then = goes_on_still c.world v (λ b h. h) (λ q h. h) r c.session hand.goes_on d (found hand.goes_on.by hand.goes_on.is_by)
 
-    pub sound_then : IsSoundSession c.world c.story c.session c.began → IsSoundSession v c.story c.session c.began
-    sound_then h = sound_still c.world v c.story (λ b g. g) c.session c.began h d c.story.acked (found h.by h.is_by)
+    pub sound_then : IsSoundSession c.world c.ghost_state c.session c.began → IsSoundSession v c.ghost_state c.session c.began
+    sound_then h = sound_still c.world v c.ghost_state (λ b g. g) c.session c.began h d c.ghost_state.acked (found h.by h.is_by)
 
-  settled_so : (after : Agent) (t : Session) → Settles p.agent c.session after t
-      → Keeps (with_participant c.world (record p { agent = after }), c.story) × IsInHand (record c { world = with_participant c.world (record p { agent = after }); session = t }) r
+  settled_so : (after : HssAgent) (t : Session) → Settles p.agent c.session after t
+      → Invariant (with_participant c.world (record p { agent = after }), c.ghost_state) × IsInHand (record c { world = with_participant c.world (record p { agent = after }); session = t }) r
   settled_so _ _ (settles_all said acks at) = (
-    participant_keeps (c.world, c.story) c.session.by p fewer keeps is_p mild,
+    participant_keeps (c.world, c.ghost_state) c.session.by p fewer keeps is_p within_frame,
     record {
       number = hand.number;
       goes_on = record {
@@ -143,8 +143,8 @@ module _ (c : Scene) (r : ℕ) (p : Participant) (keeps : Keeps (c.world, c.stor
         pending = on.pending;
         stage = (subst (IsAtStage c.world r c.session) at hand.goes_on.stage).0;
       };
-      said = said_further c.story c.began.number c.session c.session.current (Over said) said (subst (λ (x : Stage). HasSaid c.story c.began.number c.session (said_at x)) at hand.said);
-      sound = λ apart. sound_further (v fewer) c.story c.session c.began c.session.current (Over said) c.session.notes c.session.missed (sound_then fewer (hand.sound (apart_before apart)));
+      said = said_further c.ghost_state c.began.number c.session c.session.current (Over said) said (subst (λ (x : Stage). HasSaid c.ghost_state c.began.number c.session (said_at x)) at hand.said);
+      sound = λ apart. sound_further (v fewer) c.ghost_state c.session c.began c.session.current (Over said) c.session.notes c.session.missed (sound_then fewer (hand.sound (apart_before apart)));
     },
   )
     where
@@ -154,8 +154,8 @@ module _ (c : Scene) (r : ℕ) (p : Participant) (keeps : Keeps (c.world, c.stor
       fewer : Change
       fewer = record (unchanged p) { pending = filter dropped_by p.agent.pending }
 
-      mild : IsMildChange c.world.met p fewer
-      mild = record {
+      within_frame : IsChangeWithinFrame c.world.met p fewer
+      within_frame = record {
         kept = refl;
         pending = λ q among. (from_filter dropped_by p.agent.pending q among).0;
         fewer = short_filter dropped_by p.agent.pending;
@@ -165,15 +165,15 @@ module _ (c : Scene) (r : ℕ) (p : Participant) (keeps : Keeps (c.world, c.stor
       on : GoesOn (v fewer) r c.session
       on = goes_on_then fewer
 
-      apart_before : NamesTellApart (named_bytes (v fewer)) → NamesTellApart (named_bytes c.world)
-      apart_before apart = subst (λ keys. NamesTellApart (c.world.met ++ keys)) (same_keys c.world keeps.apart c.session.by p is_p (changed p fewer) refl refl) apart
+      apart_before : IsCollisionFree (named_bytes (v fewer)) → IsCollisionFree (named_bytes c.world)
+      apart_before apart = subst (λ keys. IsCollisionFree (c.world.met ++ keys)) (same_keys c.world keeps.apart c.session.by p is_p (changed p fewer) refl refl) apart
 
 pub settling_keeps : SettlingKeeps
 settling_keeps c r p after t keeps hand is_p is = settled_so c r p keeps hand is_p after t is
 
 -- ---- asks by which nothing is brought
 
-module _ (c : Scene) (r : ℕ) (p : Participant) (keeps : Keeps (c.world, c.story)) (hand : IsInHand c r) (ringed : c.world.replicas ≡ Some r) (is_p : participant c.world c.session.by ≡ Some p)
+module _ (c : Configuration) (r : ℕ) (p : Participant) (keeps : Invariant (c.world, c.ghost_state)) (hand : IsInHand c r) (ringed : c.world.replicas ≡ Some r) (is_p : participant c.world c.session.by ≡ Some p)
     (node : Peer) (question : Ask) (answer : Answer) (next : World) (heard : Session) (cache : Cache) (fate : FateOf hss_judged c.world node question answer next) (fits : IsForData question × PutsMet c.world.met question) where
   abbrev w : World
   w = c.world
@@ -182,17 +182,17 @@ module _ (c : Scene) (r : ℕ) (p : Participant) (keeps : Keeps (c.world, c.stor
   s = c.session
 
   left : AskLeaves r w next
-  left = leaves w c.story r keeps ringed next node question answer fits.0 fits.1 fate
+  left = leaves w c.ghost_state r keeps ringed next node question answer fits.0 fits.1 fate
 
   more : (b : List ℕ) → Contains w.met b → Contains next.met b
-  more = grows w c.story r keeps ringed next node question answer fits.0 fits.1 fate
+  more = grows w c.ghost_state r keeps ringed next node question answer fits.0 fits.1 fate
 
   peers_then : (q : Peer) → Contains (map peer_of w.nodes) q → Contains (map peer_of next.nodes) q
-  peers_then = still_peers w c.story r keeps ringed next node question answer fits.0 fits.1 fate
+  peers_then = still_peers w c.ghost_state r keeps ringed next node question answer fits.0 fits.1 fate
 
   heard_then : AllByRecursion (λ a. IsAnswerIn next a.got) (s.current ++ told node question answer)
   heard_then = each_append (λ (a : Heard). IsAnswerIn next a.got) s.current (told node question answer) (all_weaker _ _ s.current (λ a g. answer_stays w next more peers_then a.got g) hand.goes_on.heard)
-      (told_each (IsAnswerIn next) node question answer (given_then w c.story r keeps ringed next node question answer fits.0 fits.1 fate))
+      (told_each (IsAnswerIn next) node question answer (given_then w c.ghost_state r keeps ringed next node question answer fits.0 fits.1 fate))
 
   goes_with : (current : List Heard) (stage : Stage) → AllByRecursion (λ a. IsAnswerIn next a.got) current → IsAtStage next r (record s { current = current; stage = stage }) stage → GoesOn next r (record s { current = current; stage = stage })
   goes_with current stage answers_in at_stage = record {
@@ -208,40 +208,40 @@ module _ (c : Scene) (r : ℕ) (p : Participant) (keeps : Keeps (c.world, c.stor
   }
 
   abbrev acked_then : List Post
-  acked_then = c.story.acked ++ acked_by s.stage heard.stage
+  acked_then = c.ghost_state.acked ++ acked_by s.stage heard.stage
 
   -- the session as it is then, with what it says
   hand_with : (current : List Heard) (stage : Stage) → heard ≡ record s { current = current; stage = stage } → said_at stage ≡ said_at s.stage → AllByRecursion (λ a. IsAnswerIn next a.got) current
-      → IsAtStage next r (record s { current = current; stage = stage }) stage → IsInHand (record { world = next; story = record c.story { acked = acked_then }; session = heard; began = c.began }) r
+      → IsAtStage next r (record s { current = current; stage = stage }) stage → IsInHand (record { world = next; ghost_state = record c.ghost_state { acked = acked_then }; session = heard; began = c.began }) r
   hand_with current stage is same_said answers_in at_stage =
-      subst (λ (t : Session). IsInHand (record { world = next; story = record c.story { acked = acked_then }; session = t; began = c.began }) r) (sym is) (record {
+      subst (λ (t : Session). IsInHand (record { world = next; ghost_state = record c.ghost_state { acked = acked_then }; session = t; began = c.began }) r) (sym is) (record {
         number = hand.number;
         goes_on = goes_with current stage answers_in at_stage;
-        said = said_further (record c.story { acked = acked_then }) c.began.number s current stage (said_at stage)
-            (subst (HasSaid (record c.story { acked = acked_then }) c.began.number s) (sym same_said) (said_still c.story acked_then c.began.number s (said_at s.stage) hand.said));
-        sound = λ apart. sound_further next (record c.story { acked = acked_then }) s c.began current stage s.notes s.missed
-            (sound_next (hand.sound (subst (λ (v : World). NamesTellApart (named_bytes v)) left.rest apart)));
+        said = said_further (record c.ghost_state { acked = acked_then }) c.began.number s current stage (said_at stage)
+            (subst (HasSaid (record c.ghost_state { acked = acked_then }) c.began.number s) (sym same_said) (said_still c.ghost_state acked_then c.began.number s (said_at s.stage) hand.said));
+        sound = λ apart. sound_further next (record c.ghost_state { acked = acked_then }) s c.began current stage s.notes s.missed
+            (sound_next (hand.sound (subst (λ (v : World). IsCollisionFree (named_bytes v)) left.rest apart)));
       })
     where
-      sound_next : IsSoundSession w c.story s c.began → IsSoundSession next (record c.story { acked = acked_then }) s c.began
-      sound_next g = sound_still w next c.story more s c.began g (unchanged g.by) acked_then (ap (λ (v : World). participant v s.by) left.rest ∙ g.is_by)
+      sound_next : IsSoundSession w c.ghost_state s c.began → IsSoundSession next (record c.ghost_state { acked = acked_then }) s c.began
+      sound_next g = sound_still w next c.ghost_state more s c.began g (unchanged g.by) acked_then (ap (λ (v : World). participant v s.by) left.rest ∙ g.is_by)
 
   same_world : cache ≡ p.cache → with_participant next (record p { cache = cache }) ≡ next
   same_world same_cache =
       ap (λ x. with_participant next (record p { cache = x })) same_cache
       ∙ placed_itself next (subst (λ (v : World). AreApart (map (λ q. q.name) v.participants)) (sym left.rest) keeps.apart) s.by p (ap (λ (v : World). participant v s.by) left.rest ∙ is_p)
 
-  same_story : heard.parts ≡ s.parts → ask_told c.story p.name s heard ≡ record c.story { acked = acked_then }
-  same_story same_parts = ask_tells c.story p.name s heard (subst AreApart (sym keeps.fits.participants) keeps.apart) same_parts
+  same_ghost_state : heard.parts ≡ s.parts → ask_told c.ghost_state p.name s heard ≡ record c.ghost_state { acked = acked_then }
+  same_ghost_state same_parts = ask_tells c.ghost_state p.name s heard (subst AreApart (sym keeps.fits.participants) keeps.apart) same_parts
 
-  asked_so : cache ≡ p.cache → heard.parts ≡ s.parts → IsInHand (record { world = next; story = record c.story { acked = acked_then }; session = heard; began = c.began }) r
-      → Keeps (with_participant next (record p { cache = cache }), ask_told c.story p.name s heard)
-      × IsInHand (record { world = with_participant next (record p { cache = cache }); story = ask_told c.story p.name s heard; session = heard; began = c.began }) r × ((ask_told c.story p.name s heard).turns ≡ c.story.turns)
+  asked_so : cache ≡ p.cache → heard.parts ≡ s.parts → IsInHand (record { world = next; ghost_state = record c.ghost_state { acked = acked_then }; session = heard; began = c.began }) r
+      → Invariant (with_participant next (record p { cache = cache }), ask_told c.ghost_state p.name s heard)
+      × IsInHand (record { world = with_participant next (record p { cache = cache }); ghost_state = ask_told c.ghost_state p.name s heard; session = heard; began = c.began }) r × ((ask_told c.ghost_state p.name s heard).turns ≡ c.ghost_state.turns)
   asked_so same_cache same_parts in_hand = (
-    subst (λ (v : World). Keeps (v, ask_told c.story p.name s heard)) (sym (same_world same_cache))
-        (subst (λ (u : Story). Keeps (next, u)) (sym (same_story same_parts)) (ask_keeps w c.story r keeps ringed next node question answer fits.0 fits.1 fate acked_then)),
-    subst (λ (v : World). IsInHand (record { world = v; story = ask_told c.story p.name s heard; session = heard; began = c.began }) r) (sym (same_world same_cache))
-        (subst (λ (u : Story). IsInHand (record { world = next; story = u; session = heard; began = c.began }) r) (sym (same_story same_parts)) in_hand),
+    subst (λ (v : World). Invariant (v, ask_told c.ghost_state p.name s heard)) (sym (same_world same_cache))
+        (subst (λ (u : GhostState). Invariant (next, u)) (sym (same_ghost_state same_parts)) (ask_keeps w c.ghost_state r keeps ringed next node question answer fits.0 fits.1 fate acked_then)),
+    subst (λ (v : World). IsInHand (record { world = v; ghost_state = ask_told c.ghost_state p.name s heard; session = heard; began = c.began }) r) (sym (same_world same_cache))
+        (subst (λ (u : GhostState). IsInHand (record { world = next; ghost_state = u; session = heard; began = c.began }) r) (sym (same_ghost_state same_parts)) in_hand),
     refl,
   )
 
@@ -251,7 +251,7 @@ said_after : (said : Option Said) (q : Post) (posts : List Post) (acks : List Ac
 said_after said q posts acks true = refl
 said_after said q posts acks false = refl
 
-module _ (c : Scene) (r : ℕ) (p : Participant) (keeps : Keeps (c.world, c.story)) (hand : IsInHand c r) (ringed : c.world.replicas ≡ Some r) (is_p : participant c.world c.session.by ≡ Some p)
+module _ (c : Configuration) (r : ℕ) (p : Participant) (keeps : Invariant (c.world, c.ghost_state)) (hand : IsInHand c r) (ringed : c.world.replicas ≡ Some r) (is_p : participant c.world c.session.by ≡ Some p)
     (node : Peer) (question : Ask) (answer : Answer) (next : World) (heard : Session) (cache : Cache) (fate : FateOf hss_judged c.world node question answer next) (h : HearsPut r c.session p.cache node question answer heard cache) where
   puts_now : IsAtStage c.world r c.session (Publishing h.said (h.post ∷ h.posts) h.acks)
   puts_now = subst (IsAtStage c.world r c.session) h.at hand.goes_on.stage
@@ -266,9 +266,9 @@ module _ (c : Scene) (r : ℕ) (p : Participant) (keeps : Keeps (c.world, c.stor
   after_a_put t some fresh true = (puts_now.0, posts_then.1, begins r t some fresh h.posts)
   after_a_put t some fresh false = (puts_now.0, fewer_met next.met h.post h.posts posts_then.1, begins r t some fresh (held_back h.post h.posts))
 
-  put_so : Keeps (with_participant next (record p { cache = cache }), ask_told c.story p.name c.session heard)
-      × IsInHand (record { world = with_participant next (record p { cache = cache }); story = ask_told c.story p.name c.session heard; session = heard; began = c.began }) r
-      × ((ask_told c.story p.name c.session heard).turns ≡ c.story.turns)
+  put_so : Invariant (with_participant next (record p { cache = cache }), ask_told c.ghost_state p.name c.session heard)
+      × IsInHand (record { world = with_participant next (record p { cache = cache }); ghost_state = ask_told c.ghost_state p.name c.session heard; session = heard; began = c.began }) r
+      × ((ask_told c.ghost_state p.name c.session heard).turns ≡ c.ghost_state.turns)
   put_so = asked_so c r p keeps hand ringed is_p node question answer next heard cache fate put_fits h.same_cache
       (⊎_elim (λ one. ap (λ (t : Session). t.parts) one.1) (λ one. ap (λ (t : Session). t.parts) one.1) h.then_is)
       (⊎_elim
@@ -277,7 +277,7 @@ module _ (c : Scene) (r : ℕ) (p : Participant) (keeps : Keeps (c.world, c.stor
       (subst (IsAtStage next r (record c.session { current = c.session.current ++ told node question answer })) (sym h.at) (
         puts_now.0,
         posts_then,
-        ⊎_elim (λ whole. absurd (one.0 whole)) (λ begun. begun) ((puts_are_one hss_judged r c.session h.post).2 c.session.current node question answer h.next),
+        ⊎_elim (λ whole. absurd (one.0 whole)) (λ begun. begun) ((puts_are_deterministic hss_judged r c.session h.post).2 c.session.current node question answer h.next),
       )))
       (λ one. hand_with c r p keeps hand ringed is_p node question answer next heard cache fate put_fits [] (after_put h.said h.post h.posts h.acks one.0) one.1
       (said_after h.said h.post h.posts h.acks one.0 ∙ sym (ap said_at h.at)) tt
@@ -296,7 +296,7 @@ route_or_get met question key (inr e) = subst (λ q. IsForData q × PutsMet met 
 
 record HearsGet (r : ℕ) (s : Session) (cache : Cache) (node : Peer) (question : Ask) (answer : Answer) (heard : Session) (after : Cache) : Type 0 where
   same_cache : after ≡ cache
-  want : Want
+  want : WantedOfRing
   wants : Wants hss_judged r s want
   next : AsksNext (wanted_key want) (ask.Get (wanted_key want)) (IsGet hss_judged r s.entries want) s.current node question
   part : IsGet hss_judged r s.entries want (s.current ++ told node question answer) → ⊥
@@ -315,7 +315,7 @@ hears_get r s cache node question answer _ _ at same (got want brought wants nex
 hears_get r s cache node question answer _ _ at same (puts_on said q posts acks stage next part) = absurd (not_both s said (q ∷ posts) acks at stage)
 hears_get r s cache node question answer _ _ at same (puts said q posts acks came stage next whole) = absurd (not_both s said (q ∷ posts) acks at stage)
 
-module _ (c : Scene) (r : ℕ) (p : Participant) (keeps : Keeps (c.world, c.story)) (hand : IsInHand c r) (ringed : c.world.replicas ≡ Some r) (is_p : participant c.world c.session.by ≡ Some p)
+module _ (c : Configuration) (r : ℕ) (p : Participant) (keeps : Invariant (c.world, c.ghost_state)) (hand : IsInHand c r) (ringed : c.world.replicas ≡ Some r) (is_p : participant c.world c.session.by ≡ Some p)
     (node : Peer) (question : Ask) (answer : Answer) (next : World) (heard : Session) (cache : Cache) (fate : FateOf hss_judged c.world node question answer next) (at : c.session.stage ≡ Refreshing)
     (h : HearsGet r c.session p.cache node question answer heard cache) where
   get_fits : IsForData question × PutsMet c.world.met question
@@ -333,12 +333,12 @@ module _ (c : Scene) (r : ℕ) (p : Participant) (keeps : Keeps (c.world, c.stor
     given = h.wants.2;
     end = Needs h.want;
     refreshed = h.wants.3;
-    goes_on = ⊎_elim (λ whole. absurd (h.part whole)) (λ begun. begun) ((gets_are_one hss_judged r c.session.entries h.want).2 c.session.current node question answer h.next);
+    goes_on = ⊎_elim (λ whole. absurd (h.part whole)) (λ begun. begun) ((gets_are_deterministic hss_judged r c.session.entries h.want).2 c.session.current node question answer h.next);
   }
 
-  get_so : Keeps (with_participant next (record p { cache = cache }), ask_told c.story p.name c.session heard)
-      × IsInHand (record { world = with_participant next (record p { cache = cache }); story = ask_told c.story p.name c.session heard; session = heard; began = c.began }) r
-      × ((ask_told c.story p.name c.session heard).turns ≡ c.story.turns)
+  get_so : Invariant (with_participant next (record p { cache = cache }), ask_told c.ghost_state p.name c.session heard)
+      × IsInHand (record { world = with_participant next (record p { cache = cache }); ghost_state = ask_told c.ghost_state p.name c.session heard; session = heard; began = c.began }) r
+      × ((ask_told c.ghost_state p.name c.session heard).turns ≡ c.ghost_state.turns)
   get_so = asked_so c r p keeps hand ringed is_p node question answer next heard cache fate get_fits h.same_cache (ap (λ (t : Session). t.parts) h.is)
       (hand_with c r p keeps hand ringed is_p node question answer next heard cache fate get_fits (c.session.current ++ told node question answer) c.session.stage h.is refl
       (heard_then c r p keeps hand ringed is_p node question answer next heard cache fate get_fits)
@@ -363,7 +363,7 @@ lacking_refreshes s _ (lacks notes shown given end xid asked at refreshed asks r
 
 pub vain_asks_keep : VainAsksKeep
 vain_asks_keep c r p node question answer next heard t cache keeps hand ringed is_p fate hears lacking = (
-  ask_keeps c.world c.story r keeps ringed next node question answer fits.0 fits.1 fate c.story.acked,
+  ask_keeps c.world c.ghost_state r keeps ringed next node question answer fits.0 fits.1 fate c.ghost_state.acked,
   lacking_keeps (record c { world = next }) r t in_hand lacking,
 )
   where
@@ -371,13 +371,13 @@ vain_asks_keep c r p node question answer next heard t cache keeps hand ringed i
     fits = get_fits_of c.world.met r c.session p.cache node question answer heard cache (lacking_refreshes c.session t lacking) hears
 
     left_so : AskLeaves r c.world next
-    left_so = leaves c.world c.story r keeps ringed next node question answer fits.0 fits.1 fate
+    left_so = leaves c.world c.ghost_state r keeps ringed next node question answer fits.0 fits.1 fate
 
     more_met : (b : List ℕ) → Contains c.world.met b → Contains next.met b
-    more_met = grows c.world c.story r keeps ringed next node question answer fits.0 fits.1 fate
+    more_met = grows c.world c.ghost_state r keeps ringed next node question answer fits.0 fits.1 fate
 
     peers_so : (q : Peer) → Contains (map peer_of c.world.nodes) q → Contains (map peer_of next.nodes) q
-    peers_so = still_peers c.world c.story r keeps ringed next node question answer fits.0 fits.1 fate
+    peers_so = still_peers c.world c.ghost_state r keeps ringed next node question answer fits.0 fits.1 fate
 
     found_so : (q : Participant) → participant c.world c.session.by ≡ Some q → participant next c.session.by ≡ Some (changed q (unchanged q))
     found_so q is = ap (λ (v : World). participant v c.session.by) left_so.rest ∙ is
@@ -387,8 +387,8 @@ vain_asks_keep c r p node question answer next heard t cache keeps hand ringed i
       number = hand.number;
       goes_on = goes_on_still c.world next more_met peers_so r c.session hand.goes_on (unchanged hand.goes_on.by) (found_so hand.goes_on.by hand.goes_on.is_by);
       said = hand.said;
-      sound = λ apart. still_sound (hand.sound (subst (λ (v : World). NamesTellApart (named_bytes v)) left_so.rest apart));
+      sound = λ apart. still_sound (hand.sound (subst (λ (v : World). IsCollisionFree (named_bytes v)) left_so.rest apart));
     }
       where
-        still_sound : IsSoundSession c.world c.story c.session c.began → IsSoundSession next c.story c.session c.began
-        still_sound g = sound_still c.world next c.story more_met c.session c.began g (unchanged g.by) c.story.acked (found_so g.by g.is_by)
+        still_sound : IsSoundSession c.world c.ghost_state c.session c.began → IsSoundSession next c.ghost_state c.session c.began
+        still_sound g = sound_still c.world next c.ghost_state more_met c.session c.began g (unchanged g.by) c.ghost_state.acked (found_so g.by g.is_by)

@@ -15,8 +15,8 @@ use Rattle.log_model.specs.Vector.{Stamp, reach}
 use Rattle.log_model.specs.View.{View}
 use Rattle.hash_signature_model.specs.Signer.{Signer}
 use Rattle.turn_model.specs.Known.{EndsAt}
-use Rattle.world_model.specs.Agents.{hss}
-use Rattle.world_laws.specs.Keeps.{AreSignedOnce, NamesOneOf, sealed_with}
+use Rattle.world_model.specs.Agents.{hss_signing}
+use Rattle.world_laws.specs.Invariant.{AreSignedOnce, NamesOneOf, sealed_with}
 use Rattle.world_laws.proofs.SignedHeads.{from_map}
 use Rattle.agent_model.specs.Agent.{own_key}
 
@@ -53,12 +53,12 @@ reach_short (Some t) log ends h =
     omega (arith, low, at)
 
 -- Heads over records of a chain, up to so far, are over those that it begins with up to there.
-pub heads_low : (signer : Signer) (made far : ℕ) (heads : List (List ℕ)) (view : View) (owner : PubKey) (o : Option Stamp) (log rest : List Record) → length (own_key hss signer).0 ≡ 60 → far < 2 ^ 32 → AreSignedOnce signer made far heads
+pub heads_low : (signer : Signer) (made far : ℕ) (heads : List (List ℕ)) (view : View) (owner : PubKey) (o : Option Stamp) (log rest : List Record) → length (own_key hss_signing signer).0 ≡ 60 → far < 2 ^ 32 → AreSignedOnce signer made far heads
     → IsChain view owner (log ++ rest) → AllByRecursion (λ r. r.seq < 2 ^ 32) (log ++ rest) → EndsAt o log → far ≤ reach o → AllByRecursion (NamesOneOf signer (log ++ rest)) heads → AllByRecursion (NamesOneOf signer log) heads
 heads_low signer made far heads view owner o log rest size small signed chain short ends is_far named = each_from (NamesOneOf signer log) heads (λ b c.
     let over = each (NamesOneOf signer (log ++ rest)) heads b named c in
     let found = from_map (sealed_with signer) signed.signed b (subst (λ (l : List (List ℕ)). Contains l b) signed.spelled c) in
     let low = (each (λ (h : ℕ × Stamp). (h.0 < made) × (h.1.seq ≤ far)) signed.signed found.0 signed.below found.1).1 in
-    let same : over.1.seq ≡ found.0.1.seq = seq_told (own_key hss signer) (own_entry over.1).1 found.0.1 _ _ size (each (λ (r : Record). r.seq < 2 ^ 32) (log ++ rest) over.1 short over.2) (omega (arith, low, small)) (sym over.3 ∙ found.2) in
+    let same : over.1.seq ≡ found.0.1.seq = seq_told (own_key hss_signing signer) (own_entry over.1).1 found.0.1 _ _ size (each (λ (r : Record). r.seq < 2 ^ 32) (log ++ rest) over.1 short over.2) (omega (arith, low, small)) (sym over.3 ∙ found.2) in
     let end = reach_short o log ends (numbered_first 1 log rest (numbered view owner (log ++ rest) chain)) in
     (over.0, over.1, low_is_first 1 log rest (numbered view owner (log ++ rest) chain) over.1 over.2 (omega (arith, same, low, is_far, end)), over.3))

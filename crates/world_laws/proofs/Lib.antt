@@ -12,7 +12,7 @@ pub mod DoneSteps
 mod NotMisled
 pub mod FirstWorld
 pub mod Alike
-pub mod OtherLogs
+pub mod Noninterference
 pub mod KeptBytes
 pub mod SignedHeads
 pub mod MoreMet
@@ -39,7 +39,7 @@ pub mod KnownHeads
 pub mod OtherBytes
 pub mod UseLines
 pub mod SignatureBytes
-pub mod Newcomer
+pub mod NewParticipant
 pub mod LogLines
 pub mod LineFits
 pub mod RestartLines
@@ -67,7 +67,7 @@ pub mod TurnsWorld
 mod TurnsSigning
 pub mod TurnsKnown
 mod TurnsKept
-mod TurnsScene
+mod TurnsConfiguration
 mod AnsweredTurnsFit
 pub mod AnsweredTurns
 pub mod RefusedTurns
@@ -86,7 +86,7 @@ pub mod ExistingRounds
 pub mod ExistingRepairs
 pub mod SpelledPosts
 pub mod ExistingSnaps
-pub mod OneCourse
+pub mod OneExecution
 pub mod OneHeard
 pub mod OneTurns
 pub mod OneSteps
@@ -124,9 +124,9 @@ pub mod ShownReplies
 pub mod NoKeys
 mod BytesSteps
 mod QuietLines
-mod CallScenes
+mod CallConfigurations
 pub mod BytesLines
-mod FullScenes
+mod FullConfigurations
 pub mod FullLines
 pub mod FullScripts
 pub mod MemoryDecided

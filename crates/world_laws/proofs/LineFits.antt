@@ -9,8 +9,8 @@ use Rattle.script_driver.specs.Run.{line_limit}
 use Rattle.script_model.specs.declared.command.Command.{Command}
 use Rattle.script_model.specs.declared.command.Command.TheVariants as command
 use Rattle.script_model.specs.declared.command.NodeWord.{NodeWord}
-use Rattle.script_model.specs.Lines.{as_of, at_of, call_command, command_of, command_of_words, damage_of, end_of, is_comment, join_of, keep_of, kept_of, log_of, lose_of, of_log, of_node, open_of, ring_command, ring_of, round_of, setup_command, show_command, shown_of, step_of, use_of, view_of}
-use Rattle.script_model.specs.Words.{◌>>=◌, byte_of, each_of, hex_bytes, key_of, name_of, names_of, node_of, number_below, parts_at, piece_of, sets_of, words_of}
+use Rattle.script_model.specs.Lines.{as_of, at_of, call_command, command_of, command_of_words, damage_of, end_line_of, is_comment, join_of, keep_of, kept_word_of, log_line_of, lose_of, of_log, of_node, open_of, ring_command, ring_of, round_of, setup_command, show_command, shown_of, step_line_of, use_of, view_of}
+use Rattle.script_model.specs.Words.{◌>>=◌, byte_of, each_of, hex_bytes, key_of, name_of, names_of, node_word_of, number_below, parts_at, piece_of, sets_of, words_of}
 use Rattle.world_model.specs.Logs.{fresh_signer}
 use Rattle.world_laws.proofs.LineKeys.{key_is_signer}
 use Rattle.world_laws.proofs.PieceBytes.{IsOfBytes, pieces_are}
@@ -74,7 +74,7 @@ ring_fits (n ∷ []) = tt
 ring_fits (n ∷ r ∷ []) = fits2 (number_below (2 ^ 64) n) (number_below (2 ^ 64) r) (λ x y. command.Ring x y) (λ x y e. tt)
 ring_fits (n ∷ r ∷ w ∷ ws) = tt
 
-log_fits : (ws : List (List ℕ)) → SomeFits (log_of ws)
+log_fits : (ws : List (List ℕ)) → SomeFits (log_line_of ws)
 log_fits [] = tt
 log_fits (p ∷ []) = tt
 log_fits (p ∷ i ∷ []) = tt
@@ -112,13 +112,13 @@ open_fits (s ∷ []) = tt
 open_fits (s ∷ p ∷ []) = tt
 open_fits (s ∷ p ∷ w ∷ ws) = fits3 (name_of s) (name_of p) (each_of piece_of (w ∷ ws)) (λ x y z. command.Open x y z) (λ x y z e f. pieces_are (w ∷ ws) z f)
 
-step_fits : (ws : List (List ℕ)) → SomeFits (step_of ws)
+step_fits : (ws : List (List ℕ)) → SomeFits (step_line_of ws)
 step_fits [] = tt
 step_fits (s ∷ []) = tt
 step_fits (s ∷ k ∷ []) = fits2 (name_of s) (number_below (2 ^ 64) k) (λ x y. command.Step x y) (λ x y e. tt)
 step_fits (s ∷ k ∷ w ∷ ws) = tt
 
-end_fits : (ws : List (List ℕ)) → SomeFits (end_of ws)
+end_fits : (ws : List (List ℕ)) → SomeFits (end_line_of ws)
 end_fits [] = tt
 end_fits (s ∷ []) = fits1 (name_of s) (λ x. command.Finish x) (λ x. tt)
 end_fits (s ∷ w ∷ ws) = tt
@@ -142,19 +142,19 @@ damage_fits [] = tt
 damage_fits (n ∷ []) = tt
 damage_fits (n ∷ k ∷ []) = tt
 damage_fits (n ∷ k ∷ o ∷ []) = tt
-damage_fits (n ∷ k ∷ o ∷ b ∷ []) = fits4 (node_of n) (key_of k) (number_below (2 ^ 64) o) (byte_of b) (λ x y z u. command.Damage x y z u) (λ x y z u e f g. tt)
+damage_fits (n ∷ k ∷ o ∷ b ∷ []) = fits4 (node_word_of n) (key_of k) (number_below (2 ^ 64) o) (byte_of b) (λ x y z u. command.Damage x y z u) (λ x y z u e f g. tt)
 damage_fits (n ∷ k ∷ o ∷ b ∷ w ∷ ws) = tt
 
 keep_fits : (ws : List (List ℕ)) → SomeFits (keep_of ws)
 keep_fits [] = tt
 keep_fits (p ∷ []) = tt
 keep_fits (p ∷ k ∷ []) = tt
-keep_fits (p ∷ k ∷ w ∷ []) = fits3 (name_of p) (number_below (2 ^ 64) k) (kept_of w) (λ x y z. command.Keep x y z) (λ x y z e f. tt)
+keep_fits (p ∷ k ∷ w ∷ []) = fits3 (name_of p) (number_below (2 ^ 64) k) (kept_word_of w) (λ x y z. command.Keep x y z) (λ x y z e f. tt)
 keep_fits (p ∷ k ∷ w ∷ v ∷ ws) = tt
 
 of_node_fits : (make : NodeWord → Command) → ((node : NodeWord) → Fits (make node)) → (ws : List (List ℕ)) → SomeFits (of_node make ws)
 of_node_fits make h [] = tt
-of_node_fits make h (n ∷ []) = fits1 (node_of n) make h
+of_node_fits make h (n ∷ []) = fits1 (node_word_of n) make h
 of_node_fits make h (n ∷ w ∷ ws) = tt
 
 of_log_fits : (make : List ℕ → Command) → ((log : List ℕ) → Fits (make log)) → (ws : List (List ℕ)) → SomeFits (of_log make ws)
@@ -182,12 +182,12 @@ show_fits word ws = fits1 (shown_of word ws) (λ x. command.Show x) (λ x. tt)
 
 setup_fits : (word : List ℕ) (ws : List (List ℕ)) → SomeFits (setup_command word ws)
 setup_fits word ws = choose_fits
-    ((bytes_eq word (codes "ring"), ring_of ws) ∷ (bytes_eq word (codes "log"), log_of ws) ∷ (bytes_eq word (codes "view"), view_of ws) ∷ (bytes_eq word (codes "use"), use_of ws) ∷ (bytes_eq word (codes "at"), at_of ws) ∷ [])
+    ((bytes_eq word (codes "ring"), ring_of ws) ∷ (bytes_eq word (codes "log"), log_line_of ws) ∷ (bytes_eq word (codes "view"), view_of ws) ∷ (bytes_eq word (codes "use"), use_of ws) ∷ (bytes_eq word (codes "at"), at_of ws) ∷ [])
     (show_command word ws) (ring_fits ws, (log_fits ws, (view_fits ws, (use_fits ws, (at_fits ws, tt))))) (show_fits word ws)
 
 call_fits : (word : List ℕ) (ws : List (List ℕ)) → SomeFits (call_command word ws)
 call_fits word ws = choose_fits
-    ((bytes_eq word (codes "as"), as_of ws) ∷ (bytes_eq word (codes "open"), open_of ws) ∷ (bytes_eq word (codes "step"), step_of ws) ∷ (bytes_eq word (codes "end"), end_of ws) ∷ [])
+    ((bytes_eq word (codes "as"), as_of ws) ∷ (bytes_eq word (codes "open"), open_of ws) ∷ (bytes_eq word (codes "step"), step_line_of ws) ∷ (bytes_eq word (codes "end"), end_line_of ws) ∷ [])
     (setup_command word ws) (as_fits ws, (open_fits ws, (step_fits ws, (end_fits ws, tt)))) (setup_fits word ws)
 
 ring_command_fits : (word : List ℕ) (ws : List (List ℕ)) → SomeFits (ring_command word ws)

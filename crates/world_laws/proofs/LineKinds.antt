@@ -16,7 +16,7 @@ use Rattle.script_model.specs.declared.command.Shown.{Shown}
 use Rattle.script_model.specs.declared.command.Shown.TheVariants as shown
 use Rattle.script_model.specs.Lines.{command_of}
 use Rattle.world_model.specs.World.{World, Participant, participant, peer_of, session_named, view_named}
-use Rattle.world_model.specs.Story.{Story}
+use Rattle.world_model.specs.GhostState.{GhostState}
 use Rattle.world_model.specs.Ring.{RingLine, JoinLine, is_known_id, is_refused_ring, peer_numbered}
 use Rattle.world_model.specs.Ring.RingLine.{refused as ring_refused, exceeds as ring_exceeds, makes as ring_makes}
 use Rattle.world_model.specs.Ring.JoinLine.{before_ring as join_before_ring, known as join_known, exceeds as join_exceeds, alone as join_alone, joins as join_joins, fails as join_fails}
@@ -47,7 +47,7 @@ if_false false k l h = refl
 
 -- ---- lines
 
-beside_kind : (st : Story) (o : Outcome World) → kind (beside st o) ≡ kind o
+beside_kind : (st : GhostState) (o : Outcome World) → kind (beside st o) ≡ kind o
 beside_kind st (Goes next output) = refl
 beside_kind st Ends = refl
 beside_kind st Refuses = refl

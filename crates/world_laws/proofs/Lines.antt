@@ -1,4 +1,4 @@
--- Lines without sessions leave a world that keeps what it should.
+-- Lines without sessions leave a world in which the invariant holds.
 use Rattle.std.proofs.Common.{◌≡◌, inl, inr, ℕ, ◌+◌, ◌<◌, Bool, true, false, cond, ◌&&◌, List, [], ◌∷◌, ◌++◌, length, Option, Some, None, refl, sym, ap, ◌∙◌, subst, arith, Contains, nat_lt, nat_le}
 use Rattle.std.specs.Prelude.{◌==◌, map, option_map, option_and_then, unwrap_or}
 use Rattle.std.specs.List.{AllByRecursion, find, list_any}
@@ -36,14 +36,14 @@ use Rattle.ivy_io.specs.Keepers as memory
 use Rattle.world_model.specs.Keepers.{with_fault}
 use Rattle.world_model.specs.Nodes.{Node}
 use Rattle.world_model.specs.World.{World, Participant, meets, node_at, participant, peer_of, with_node, with_participant}
-use Rattle.world_model.specs.Story.{Story}
+use Rattle.world_model.specs.GhostState.{GhostState}
 use Rattle.world_model.specs.Logs.{Played, at_line, beside, goes_if, keep_by, keep_line}
 use Rattle.world_model.specs.Ring.{stop_line}
 use Rattle.world_model.specs.Faults.{damage_by, damage_line, damaged_to, key_named, lose_line, meets_some, node_named, owner_of_key}
-use Rattle.world_laws.specs.Keeps.{HasRing, Keeps}
+use Rattle.world_laws.specs.Invariant.{HasRing, Invariant}
 use Rattle.world_laws.specs.Frames.{AreOfRing, Change, DamageLinesKeep, KeeperLinesKeep, StillLinesKeep, StopLinesKeep, unchanged}
 use Rattle.world_laws.proofs.Bringing.{found_named}
-use Rattle.world_laws.proofs.Frames.{held_more, made_still, no_changes, of_ring, participant_keeps, still_some, unchanged_mild, world_changes}
+use Rattle.world_laws.proofs.Frames.{held_more, made_still, no_changes, of_ring, participant_keeps, still_some, unchanged_within_frame, world_changes}
 use Rattle.world_laws.proofs.NodeFates.{HoldsMet, each_replaced}
 use Rattle.world_laws.proofs.Shows.{shows_are_still}
 use Rattle.world_laws.proofs.StoredBlocks.{put_each, put_store}
@@ -57,31 +57,31 @@ ToSuch P Ends = Unit {0}
 ToSuch P Refuses = Unit {0}
 ToSuch P Exceeds = Unit {0}
 
-abbrev pub Keeping : Story → Outcome World → Type 0
-Keeping st (Goes next output) = Keeps (next, st)
+abbrev pub Keeping : GhostState → Outcome World → Type 0
+Keeping st (Goes next output) = Invariant (next, st)
 Keeping st Ends = Unit {0}
 Keeping st Refuses = Unit {0}
 Keeping st Exceeds = Unit {0}
 
-beside_keeps : (st : Story) (o : Outcome World) → Keeping st o → ToSuch Keeps (beside st o)
+beside_keeps : (st : GhostState) (o : Outcome World) → Keeping st o → ToSuch Invariant (beside st o)
 beside_keeps st (Goes next output) h = h
 beside_keeps st Ends h = tt
 beside_keeps st Refuses h = tt
 beside_keeps st Exceeds h = tt
 
 -- a line that is a function of the world
-pub by_world : (st : Story) (o : Outcome World) (next : Played) (output : List ℕ) → Goes next output ≡ beside st o → Keeping st o → Keeps next
-by_world st o next output does h = subst (λ (x : Outcome Played). ToSuch Keeps x) (sym does) (beside_keeps st o h)
+pub by_world : (st : GhostState) (o : Outcome World) (next : Played) (output : List ℕ) → Goes next output ≡ beside st o → Keeping st o → Invariant next
+by_world st o next output does h = subst (λ (x : Outcome Played). ToSuch Invariant x) (sym does) (beside_keeps st o h)
 
-goes_if_keeps : (st : Story) (t : Bool) (v : World) → (t ≡ true → Keeps (v, st)) → Keeping st (goes_if t v)
+goes_if_keeps : (st : GhostState) (t : Bool) (v : World) → (t ≡ true → Invariant (v, st)) → Keeping st (goes_if t v)
 goes_if_keeps st true v h = h refl
 goes_if_keeps st false v h = tt
 
 -- ---- lines that show something, or set the moment or a loss
 
-module _ (w : Played) (keeps : Keeps w) where
+module _ (w : Played) (keeps : Invariant w) where
   -- another moment, and other losses
-  later : (sec nsec : ℕ) (lost : List ℕ) → sec < 4294967296 → nsec < 1000000000 → Keeps (record w.0 { now = record { sec = sec; nsec = nsec }; lost = lost }, w.1)
+  later : (sec nsec : ℕ) (lost : List ℕ) → sec < 4294967296 → nsec < 1000000000 → Invariant (record w.0 { now = record { sec = sec; nsec = nsec }; lost = lost }, w.1)
   later sec nsec lost sec_fits nsec_fits = world_changes w (record (no_changes w) { now = record { sec = sec; nsec = nsec }; lost = lost }) keeps (record {
     peers = λ p h. h;
     made = keeps.peers;
@@ -90,7 +90,7 @@ module _ (w : Played) (keeps : Keeps w) where
     views = keeps.met.views;
     moment = record { sec = sec_fits; nsec = nsec_fits };
     grows = λ b h. h;
-    each = unchanged_mild w keeps w.0.met (λ b h. h);
+    each = unchanged_within_frame w keeps w.0.met (λ b h. h);
   })
 
   at_keeps : (sec nsec : ℕ) → Keeping w.1 (at_line w.0 sec nsec)
@@ -104,7 +104,7 @@ pub still_lines_keep : StillLinesKeep
 still_lines_keep (command.At sec nsec) still w next output keeps does = by_world w.1 (at_line w.0 sec nsec) next output does (at_keeps w keeps sec nsec)
 still_lines_keep (command.Lose count) still w next output keeps does = by_world w.1 (lose_line w.0 count) next output does (lose_keeps w keeps count)
 still_lines_keep (command.Show shown) still w next output keeps does = by_world w.1 does.0 next output does.2 (shows_are_still w.0 shown (Keeping w.1) (λ text. keeps) tt tt does.0 does.1)
-still_lines_keep command.Nothing still w next output keeps does = subst (λ (x : Outcome Played). ToSuch Keeps x) (sym does) keeps
+still_lines_keep command.Nothing still w next output keeps does = subst (λ (x : Outcome Played). ToSuch Invariant x) (sym does) keeps
 still_lines_keep _ still w next output keeps does = absurd still
 
 -- ---- a node in its place
@@ -131,8 +131,8 @@ named_among w (node.OwnerOf count word) n is =
     at_among w.nodes owned.0.id n owned.1
 
 -- A node in place of one of the same part of the ring, and more blocks that are met.
-pub node_keeps : (w : Played) (met : List (List ℕ)) (n now : Node) → Keeps w → ((b : List ℕ) → Contains w.0.met b → Contains met b) → IsAmong n w.0.nodes → now.ring ≡ n.ring → HoldsMet met now
-    → Keeps (record (with_node w.0 now) { met = met }, w.1)
+pub node_keeps : (w : Played) (met : List (List ℕ)) (n now : Node) → Invariant w → ((b : List ℕ) → Contains w.0.met b → Contains met b) → IsAmong n w.0.nodes → now.ring ≡ n.ring → HoldsMet met now
+    → Invariant (record (with_node w.0 now) { met = met }, w.1)
 node_keeps w met n now keeps grows among same_ring holds = world_changes w (record (no_changes w) { nodes = nodes; met = met }) keeps (record {
   peers = λ p h. subst (λ made. Contains made p) (sym same_peers) h;
   made = made_still w.0 nodes keeps.peers same_peers known;
@@ -141,7 +141,7 @@ node_keeps w met n now keeps grows among same_ring holds = world_changes w (reco
   views = keeps.met.views;
   moment = keeps.moment;
   grows = grows;
-  each = unchanged_mild w keeps met grows;
+  each = unchanged_within_frame w keeps met grows;
 })
   where
     nodes : List Node
@@ -170,7 +170,7 @@ node_keeps w met n now keeps grows among same_ring holds = world_changes w (reco
 
 -- ---- stop
 
-stop_keeps : (w : Played) → Keeps w → (word : NodeWord) (o : Option Node) → node_named w.0 word ≡ o → Keeping w.1 (stop_line w.0 o)
+stop_keeps : (w : Played) → Invariant w → (word : NodeWord) (o : Option Node) → node_named w.0 word ≡ o → Keeping w.1 (stop_line w.0 o)
 stop_keeps w keeps word None is = tt
 stop_keeps w keeps word (Some n) is = by n.is_live
   where
@@ -201,19 +201,19 @@ meets_it met block = by (list_any (bytes_eq block) met) refl
     by false none = Contains-append_right met (block ∷ []) block (here block [])
 
 -- a block with another byte has the same size
-spoilt_fits : (key : Key) (offset byte : ℕ) (block : Block) (blocks : Blocks) → IsStore blocks → value_at key_cmp key blocks ≡ Some block → IsStore (put key_cmp key (spoiled offset byte block) blocks)
-spoilt_fits key offset byte block blocks store is =
+corrupted_fits : (key : Key) (offset byte : ℕ) (block : Block) (blocks : Blocks) → IsStore blocks → value_at key_cmp key blocks ≡ Some block → IsStore (put key_cmp key (spoiled offset byte block) blocks)
+corrupted_fits key offset byte block blocks store is =
     let old : lookup (λ k. eq_by_cmp key_cmp key k) blocks ≡ Some block = sym (find-lookup key blocks) ∙ is in
     let sizes = held_after_put key blocks (spoiled offset byte block) store.ascending in
     let was : unwrap_or (option_map size (lookup (λ k. eq_by_cmp key_cmp key k) blocks)) 0 ≡ size block = ap (λ o. unwrap_or (option_map size o) 0) old in
     let same : size (spoiled offset byte block) ≡ size block = length-set block.bytes offset byte in
     put_store key (spoiled offset byte block) blocks store (omega (arith, sizes, was, same, store.within))
 
-module _ (w : Played) (keeps : Keeps w) (n : Node) (among : IsAmong n w.0.nodes) (key : Key) (offset byte : ℕ) where
+module _ (w : Played) (keeps : Invariant w) (n : Node) (among : IsAmong n w.0.nodes) (key : Key) (offset byte : ℕ) where
   holds_now : HoldsMet w.0.met n
   holds_now = all-among (HoldsMet w.0.met) n w.0.nodes keeps.met.held among
 
-  -- the block is spoilt, and met
+  -- the block is corrupted, and met
   module _ (block : Block) (is : value_at key_cmp key n.blocks ≡ Some block) where
     abbrev blocks : Blocks
     blocks = put key_cmp key (spoiled offset byte block) n.blocks
@@ -221,13 +221,13 @@ module _ (w : Played) (keeps : Keeps w) (n : Node) (among : IsAmong n w.0.nodes)
     abbrev new_met : List (List ℕ)
     new_met = meets w.0.met (spoiled offset byte block).bytes
 
-    spoilt_met : meets_some w.0.met (bytes_at key blocks) ≡ new_met
-    spoilt_met = ap (meets_some w.0.met) (put_is_held key (spoiled offset byte block) n.blocks)
+    corrupted_met : meets_some w.0.met (bytes_at key blocks) ≡ new_met
+    corrupted_met = ap (meets_some w.0.met) (put_is_held key (spoiled offset byte block) n.blocks)
 
-    spoilt_keeps : Keeps (record (with_node w.0 (record n { blocks = blocks })) { met = meets_some w.0.met (bytes_at key blocks) }, w.1)
-    spoilt_keeps = subst (λ met. Keeps (record (with_node w.0 (record n { blocks = blocks })) { met = met }, w.1)) (sym spoilt_met)
+    corrupted_keeps : Invariant (record (with_node w.0 (record n { blocks = blocks })) { met = meets_some w.0.met (bytes_at key blocks) }, w.1)
+    corrupted_keeps = subst (λ met. Invariant (record (with_node w.0 (record n { blocks = blocks })) { met = met }, w.1)) (sym corrupted_met)
         (node_keeps w new_met n (record n { blocks = blocks }) keeps (meets_more w.0.met (spoiled offset byte block).bytes) among refl (
-          spoilt_fits key offset byte block n.blocks holds_now.0 is,
+          corrupted_fits key offset byte block n.blocks holds_now.0 is,
           put_each (λ b. Contains new_met b.bytes) key (spoiled offset byte block) n.blocks (meets_it w.0.met (spoiled offset byte block).bytes)
               (all_weaker _ _ n.blocks (λ e h. meets_more w.0.met (spoiled offset byte block).bytes e.1.bytes h) holds_now.1),
         ))
@@ -236,7 +236,7 @@ module _ (w : Played) (keeps : Keeps w) (n : Node) (among : IsAmong n w.0.nodes)
   damaged_keeps = by (value_at key_cmp key n.blocks) refl
     where
       in_range : (block : Block) → value_at key_cmp key n.blocks ≡ Some block → (t : Bool) → Keeping w.1 (damaged_to w.0 n key (cond t (Some (put key_cmp key (spoiled offset byte block) n.blocks)) None))
-      in_range block is true = spoilt_keeps block is
+      in_range block is true = corrupted_keeps block is
       in_range block is false = tt
 
       by : (o : Option Block) → value_at key_cmp key n.blocks ≡ o
@@ -244,7 +244,7 @@ module _ (w : Played) (keeps : Keeps w) (n : Node) (among : IsAmong n w.0.nodes)
       by None is = tt
       by (Some block) is = in_range block is (nat_lt offset (length block.bytes))
 
-damage_keeps : (w : Played) → Keeps w → (word : NodeWord) (n : Option Node) → node_named w.0 word ≡ n → (key : Option Key) (offset byte : ℕ) → Keeping w.1 (damage_by w.0 n key offset byte)
+damage_keeps : (w : Played) → Invariant w → (word : NodeWord) (n : Option Node) → node_named w.0 word ≡ n → (key : Option Key) (offset byte : ℕ) → Keeping w.1 (damage_by w.0 n key offset byte)
 damage_keeps w keeps word None is key offset byte = tt
 damage_keeps w keeps word (Some n) is None offset byte = tt
 damage_keeps w keeps word (Some n) is (Some key) offset byte = damaged_keeps w keeps n (named_among w.0 word n is) key offset byte
@@ -255,7 +255,7 @@ damage_lines_keep word key offset byte w next output keeps does =
 
 -- ---- keep
 
-keeper_keeps : (w : Played) → Keeps w → (log : List ℕ) (o : Option Participant) → participant w.0 log ≡ o → (count : ℕ) (new : Bool) → Keeping w.1 (keep_by w.0 o count new)
+keeper_keeps : (w : Played) → Invariant w → (log : List ℕ) (o : Option Participant) → participant w.0 log ≡ o → (count : ℕ) (new : Bool) → Keeping w.1 (keep_by w.0 o count new)
 keeper_keeps w keeps log None is count new = tt
 keeper_keeps w keeps log (Some p) is count new = goes_if_keeps w.1 (nat_lt 0 count) (with_participant w.0 (record p { keeper = with_fault p.keeper count new })) (λ t. participant_keeps w log p planned keeps is (record {
   kept = same_kept (count == 0);
@@ -267,7 +267,7 @@ keeper_keeps w keeps log (Some p) is count new = goes_if_keeps w.1 (nat_lt 0 cou
     planned : Change
     planned = record (unchanged p) { keeper = with_fault p.keeper count new }
 
-    same_kept : (b : Bool) → (cond b p.keeper (memory.with_fault p.keeper (p.keeper.saves + count) new)).kept ≡ p.keeper.kept
+    same_kept : (b : Bool) → (cond b p.keeper (memory.with_planned_fault p.keeper (p.keeper.saves + count) new)).kept ≡ p.keeper.kept
     same_kept true = refl
     same_kept false = refl
 

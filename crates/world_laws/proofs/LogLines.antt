@@ -1,4 +1,4 @@
--- A participant that opens its log leaves a world that keeps what it should.
+-- A participant that opens its log leaves a world in which the invariant holds.
 use Rattle.std.proofs.Common.{◌≡◌, ◌⊎◌, inl, inr, ⊎_elim, ℕ, zero, suc, nat_lt, ◌*◌, ◌≤◌, Bool, true, false, cond, List, [], ◌∷◌, ◌++◌, length, map, Some, None, refl, sym, ap, ◌∙◌, subst, arith, Contains}
 use Rattle.std.specs.List.{AllByRecursion, list_all}
 use Rattle.std.proofs.lemmas.List.Elements.{Contains-append_cases}
@@ -28,17 +28,17 @@ use Rattle.dht_ids.specs.declared.post.Post.{Post}
 use Rattle.agent_model.specs.Agent.{head_post, kept_of, own_key, record_post}
 use Rattle.agent_model.specs.SavedBytes.{ArePostsSpelled}
 use Rattle.script_driver.specs.Run.{Outcome, Goes}
-use Rattle.world_model.specs.Agents.{Agent, IsKept, Kept, hss, opened, own, own_reach, sealed}
+use Rattle.world_model.specs.Agents.{HssAgent, IsHssKept, HssKept, hss_signing, hss_opened, own_hss_key, own_reach, hss_sealed}
 use Rattle.world_model.specs.World.{Participant}
-use Rattle.world_model.specs.Story.{Knowing}
+use Rattle.world_model.specs.GhostState.{Knowing}
 use Rattle.world_model.specs.Steps.{heads_by, met_by}
-use Rattle.world_model.specs.Logs.{LogLine, Played, Publishes, fresh_signer, newcomer, with_newcomer}
+use Rattle.world_model.specs.Logs.{LogLine, Played, Publishes, fresh_signer, new_participant, with_new_participant}
 use Rattle.world_model.specs.Logs.LogLine.{before_ring as log_before_ring, known as log_known, begins as log_begins}
-use Rattle.world_laws.specs.Keeps.{AreSignedOnce, Keeps, NamesOneOf, SignsOnce}
+use Rattle.world_laws.specs.Invariant.{AreSignedOnce, Invariant, NamesOneOf, SignsOnce}
 use Rattle.world_laws.specs.Frames.{LogLinesKeep}
 use Rattle.world_laws.proofs.Frames.{into_map}
 use Rattle.world_laws.proofs.Lines.{ToSuch}
-use Rattle.world_laws.proofs.Newcomer.{IsFitToCome, comes, found_new}
+use Rattle.world_laws.proofs.NewParticipant.{IsFitToCome, comes, found_new}
 use Rattle.world_laws.proofs.SignatureBytes.{opening_opaque, sealed_opaque}
 use Rattle.world_laws.proofs.SignedAmong.{fewer_signed_once, met_stays, met_then}
 use Rattle.world_laws.proofs.WholePublishing.{whole_publishing_keeps}
@@ -57,26 +57,26 @@ signs_some (set ∷ lower) = some_leaf set.h (capacity lower) (signs_some lower)
 -- ---- an agent that opens its log
 
 module _ (s : Signer) (whole : IsSigner s) (unused : s.made ≡ 0) (now : Moment) (moment : IsMoment now) where
-  abbrev a : Agent
-  a = opened s now
+  abbrev a : HssAgent
+  a = hss_opened s now
 
-  abbrev k : Kept
+  abbrev k : HssKept
   k = kept_of a
 
   abbrev r : Record
-  r = opening (own_key hss s) now
+  r = opening (own_key hss_signing s) now
 
   abbrev stamp : Stamp
   stamp = (own_entry r).1
 
   abbrev head : List ℕ
-  head = sealed s stamp
+  head = hss_sealed s stamp
 
   name_key : IsKey r.name
-  name_key = name_is_key r (opening_has_spelling (own_key hss s) now moment)
+  name_key = name_is_key r (opening_has_spelling (own_key hss_signing s) now moment)
 
   own_far : own_reach a ≡ 1
-  own_far = ap (λ b. reach (cond b (Some stamp) None)) (ties (head_key_of (own_key hss s)) (head_key_of (own_key hss s)) refl)
+  own_far = ap (λ b. reach (cond b (Some stamp) None)) (ties (head_key_of (own_key hss_signing s)) (head_key_of (own_key hss_signing s)) refl)
 
   signer_then : IsSigner (one_more_made s)
   signer_then = record { id = whole.id; seed = whole.seed; sets = whole.sets; made = omega (arith, unused, signs_some s.sets) }
@@ -85,12 +85,12 @@ module _ (s : Signer) (whole : IsSigner s) (unused : s.made ≡ 0) (now : Moment
   posts = record {
     few = omega arith;
     each = (
-      (name_key, inr refl, opening_opaque (own_key hss s) now),
-      ((record { size = length-digest (own_key hss s).0; each = bytes-digest (own_key hss s).0 }, inl refl, sealed_opaque s whole stamp name_key), tt),
+      (name_key, inr refl, opening_opaque (own_key hss_signing s) now),
+      ((record { size = length-digest (own_key hss_signing s).0; each = bytes-digest (own_key hss_signing s).0 }, inl refl, sealed_opaque s whole stamp name_key), tt),
     );
   }
 
-  pub kept_whole : IsKept k
+  pub kept_whole : IsHssKept k
   kept_whole = record {
     signer = signer_then;
     some = omega (arith, own_far);
@@ -102,13 +102,13 @@ module _ (s : Signer) (whole : IsSigner s) (unused : s.made ≡ 0) (now : Moment
   }
     where
       stamped : IsStamped (own_entry r)
-      stamped = (record { size = length-digest (own_key hss s).0; each = bytes-digest (own_key hss s).0 }, omega arith, omega arith, name_key)
+      stamped = (record { size = length-digest (own_key hss_signing s).0; each = bytes-digest (own_key hss_signing s).0 }, omega arith, omega arith, name_key)
 
   -- ---- the participant
 
   module _ (name : List ℕ) where
     abbrev p : Participant
-    p = newcomer name a
+    p = new_participant name a
 
     once : AreSignedOnce k.signer k.signer.made (own_reach a) p.left
     once = record {
@@ -134,8 +134,8 @@ module _ (s : Signer) (whole : IsSigner s) (unused : s.made ≡ 0) (now : Moment
       pending = (here head [], tt);
     }
 
-    chain : IsChain (record { members = own a ∷ []; former = [] }) (own a) (r ∷ [])
-    chain = (record { owned = refl; spelled = opening_has_spelling (own_key hss s) now moment; number = tt; named = tt }, record { seq = refl; ends = refl; prev = refl; vector = refl }, tt)
+    chain : IsChain (record { members = own_hss_key a ∷ []; former = [] }) (own_hss_key a) (r ∷ [])
+    chain = (record { owned = refl; spelled = opening_has_spelling (own_key hss_signing s) now moment; number = tt; named = tt }, record { seq = refl; ends = refl; prev = refl; vector = refl }, tt)
 
     names : AllByRecursion (NamesOneOf k.signer (r ∷ [])) (p.left ++ heads_by a.pending)
     names = ((s.made, r, here r [], refl), ((s.made, r, here r [], refl), tt))
@@ -151,13 +151,13 @@ module _ (s : Signer) (whole : IsSigner s) (unused : s.made ≡ 0) (now : Moment
       is_met post c = met_then met (map (λ (o : Post). o.bytes) a.pending) post.bytes (into_map (λ (o : Post). o.bytes) a.pending post c)
 
       record_met : Contains met_now (record_block r)
-      record_met = is_met (record_post r) (here (record_post r) (head_post hss s stamp ∷ []))
+      record_met = is_met (record_post r) (here (record_post r) (head_post hss_signing s stamp ∷ []))
 
       pub fits : IsFitToCome met_now p knows
       fits = record {
         named = refl;
         nothing_received = refl;
-        pending = ((record_met, inr refl), ((is_met (head_post hss s stamp) (there (record_post r) (head_post hss s stamp ∷ []) (head_post hss s stamp) (here (head_post hss s stamp) [])), inl refl), tt));
+        pending = ((record_met, inr refl), ((is_met (head_post hss_signing s stamp) (there (record_post r) (head_post hss_signing s stamp ∷ []) (head_post hss_signing s stamp) (here (head_post hss_signing s stamp) [])), inl refl), tt));
         cached = (empty_valid, tt);
         signs = (k, kept_whole, refl, signs);
         saved = (k, kept_whole, refl, record { agent = kept_whole; entered = λ h. h });
@@ -201,18 +201,18 @@ decide_signer id seed sets = ⊎_elim
 
 -- ---- the line
 
-log_keeps : (w : Played) → Keeps w → (name id seed : List ℕ) (sets : List Set) → IsSigner (fresh_signer id seed sets) → (out : Outcome Played) → LogLine hss_judged w name id seed sets out → ToSuch Keeps out
+log_keeps : (w : Played) → Invariant w → (name id seed : List ℕ) (sets : List Set) → IsSigner (fresh_signer id seed sets) → (out : Outcome Played) → LogLine hss_judged w name id seed sets out → ToSuch Invariant out
 log_keeps w keeps name id seed sets whole _ (log_before_ring h) = tt
 log_keeps w keeps name id seed sets whole _ (log_known h) = tt
 log_keeps w keeps name id seed sets whole _ (log_begins r p next ringed new is published) =
-    (whole_publishing_keeps (with_newcomer w came) r came next (comes w keeps r ringed came new known met grows fit) ringed (found_new w keeps r ringed came new known met grows fit)
-    (subst (λ x. Publishes hss_judged r (with_newcomer w x) x next) is published)).0
+    (whole_publishing_keeps (with_new_participant w came) r came next (comes w keeps r ringed came new known met grows fit) ringed (found_new w keeps r ringed came new known met grows fit)
+    (subst (λ x. Publishes hss_judged r (with_new_participant w x) x next) is published)).0
   where
     signer : Signer
     signer = fresh_signer id seed sets
 
     came : Participant
-    came = newcomer name (opened signer w.0.now)
+    came = new_participant name (hss_opened signer w.0.now)
 
     known : Knowing
     known = knows signer whole refl w.0.now keeps.moment name

@@ -22,27 +22,27 @@ use Rattle.world_model.specs.Calls.StepLine.{not_open as stepping_not_open, out_
 use Rattle.world_model.specs.Calls.FinishLine.{not_open as finishing_not_open, ends}
 use Rattle.world_model.specs.Logs.{Played}
 use Rattle.world_model.specs.Step.{Does}
-use Rattle.world_model.specs.Steps.{RunsOut, Scene, StepsOn}
+use Rattle.world_model.specs.Steps.{RunsOut, Configuration, StepsOn}
 use Rattle.world_model.specs.Steps.RunsOut.{is_over as runs_over, more as runs_more}
-use Rattle.world_model.specs.Story.{beginning, having_begun, with_began, without_began}
+use Rattle.world_model.specs.GhostState.{beginning, having_begun, with_began, without_began}
 use Rattle.world_model.specs.World.{NamedSession, session_named, with_session, without_session}
 use Rattle.world_laws.specs.Causes.{HasCause, said_at}
 use Rattle.world_laws.specs.FullRuns.{Clashes, LackedMemory, MemoryIsDecided}
-use Rattle.world_laws.specs.Keeps.{HasSaid, Keeps}
+use Rattle.world_laws.specs.Invariant.{HasSaid, Invariant}
 use Rattle.world_laws.specs.Laws.{HadMemory, HasMemoryIn}
 use Rattle.world_laws.proofs.AllLines.{does_line}
 use Rattle.world_laws.proofs.BytesLines.{IsWhich, another, as_command, finish_command, open_command, step_command, which}
-use Rattle.world_laws.proofs.CallScenes.{begun_scene, begun_well, open_scene, open_well}
+use Rattle.world_laws.proofs.CallConfigurations.{begun_configuration, begun_well, open_configuration, open_well}
 use Rattle.world_laws.proofs.Frames.{into_map}
 use Rattle.world_laws.proofs.FullLines.{IsFull, as_before, full, it_stands, no_text, over_stays, put_before, replied_sessions}
-use Rattle.world_laws.proofs.FullScenes.{begins_memory}
+use Rattle.world_laws.proofs.FullConfigurations.{begins_memory}
 use Rattle.world_laws.proofs.OneCalls.{begins_by, shows_so}
 use Rattle.world_laws.proofs.OneSteps.{GoesWell, over_steps}
 use Rattle.world_laws.proofs.QuietLines.{Quietly, quiet_command, runs_same, steps_same}
 use Rattle.world_laws.proofs.SessionLinesSteps.{runs_lead, steps_on_lead}
 use Rattle.world_laws.proofs.ShownReplies.{ShowsOther, cause_shows, lack_shown, said_other}
 
--- memory was there, or was wanting; or names clash
+-- memory was there, or ran out; or names clash
 abbrev IsDecided : Played → List ℕ → Outcome Played → Type 0
 IsDecided w line outcome = HadMemory w line outcome ⊎ (LackedMemory w line outcome ⊎ Clashes outcome)
 
@@ -57,14 +57,14 @@ had w line next output memory = decided w line (Goes next output) (full w line n
 -- ---- how a session ends
 
 -- what it says has its cause
-run_cause : (r : ℕ) (c end : Scene) → GoesWell r c → RunsOut hss_judged r c.session.by c end → (said : Said) → end.session.stage ≡ Over (Some said) → HasCause end.story end.began.number end.session said
-run_cause r c end well runs said over = subst (λ (x : Stage). HasSaid end.story end.began.number end.session (said_at x)) over (runs_lead r c.session.by runs refl well.keeps well.hand well.ringed).leaves.1.said
+run_cause : (r : ℕ) (c end : Configuration) → GoesWell r c → RunsOut hss_judged r c.session.by c end → (said : Said) → end.session.stage ≡ Over (Some said) → HasCause end.ghost_state end.began.number end.session said
+run_cause r c end well runs said over = subst (λ (x : Stage). HasSaid end.ghost_state end.began.number end.session (said_at x)) over (runs_lead r c.session.by runs refl well.keeps well.hand well.ringed).leaves.1.said
 
-steps_cause : (r : ℕ) {count : ℕ} (c end : Scene) → GoesWell r c → StepsOn hss_judged r c.session.by count c end → (said : Said) → end.session.stage ≡ Over (Some said) → HasCause end.story end.began.number end.session said
-steps_cause r c end well runs said over = subst (λ (x : Stage). HasSaid end.story end.began.number end.session (said_at x)) over (steps_on_lead r c.session.by runs refl well.keeps well.hand well.ringed).leaves.1.said
+steps_cause : (r : ℕ) {count : ℕ} (c end : Configuration) → GoesWell r c → StepsOn hss_judged r c.session.by count c end → (said : Said) → end.session.stage ≡ Over (Some said) → HasCause end.ghost_state end.began.number end.session said
+steps_cause r c end well runs said over = subst (λ (x : Stage). HasSaid end.ghost_state end.began.number end.session (said_at x)) over (steps_on_lead r c.session.by runs refl well.keeps well.hand well.ringed).leaves.1.said
 
 -- a session that was over is as it was
-run_stays : {r : ℕ} {name : List ℕ} {c end : Scene} → RunsOut hss_judged r name c end → (o : Option Said) → c.session.stage ≡ Over o → end.session ≡ c.session
+run_stays : {r : ℕ} {name : List ℕ} {c end : Configuration} → RunsOut hss_judged r name c end → (o : Option Said) → c.session.stage ≡ Over o → end.session ≡ c.session
 run_stays (runs_over said at) o over = refl
 run_stays {r = r} (runs_more step rest) o over = absurd (over_steps r step o over)
 
@@ -88,7 +88,7 @@ is_over_or_not (Publishing said posts acks) = inr (λ o e. absurd (publishing_is
 
 -- ---- lines
 
-module _ (w : Played) (line : List ℕ) (keeps : Keeps w) where
+module _ (w : Played) (line : List ℕ) (keeps : Invariant w) where
   -- what a call that ends shows is another reply
   shows_end : (s : Session) (said : Said) → ShowsOther said.message → (xid : ℕ) (rest : List ℕ) → shown_end s said ≡ reply_line (reply xid SystemError) ++ rest → ⊥
   shows_end s said other xid rest e = other xid (shown_miss s.missed) (flat_map shown_note s.notes) rest e
@@ -101,10 +101,10 @@ module _ (w : Played) (line : List ℕ) (keeps : Keeps w) where
   as_decided log ps _ sends whole_sends_nothing = inl tt
   as_decided log ps _ sends (calls s r t end said ringed begins runs over) =
       let well = begun_well w keeps r ringed log ps s sends t begins in
-      let its_runs : RunsOut hss_judged r t.by (begun_scene w s t) end = subst (λ (n : List ℕ). RunsOut hss_judged r n (begun_scene w s t) end) (sym (begins_by w.0 s t begins)) runs in
-      elim (cause_shows (run_cause r (begun_scene w s t) end well its_runs said over)) [
-        | inl lacks ↦ shows_lack end.session said lacks.0 lacks.1 (replied end.world said, end.story)
-        | inr other ↦ had w line (replied end.world said, end.story) (shown_end end.session said) (record {
+      let its_runs : RunsOut hss_judged r t.by (begun_configuration w s t) end = subst (λ (n : List ℕ). RunsOut hss_judged r n (begun_configuration w s t) end) (sym (begins_by w.0 s t begins)) runs in
+      elim (cause_shows (run_cause r (begun_configuration w s t) end well its_runs said over)) [
+        | inl lacks ↦ shows_lack end.session said lacks.0 lacks.1 (replied end.world said, end.ghost_state)
+        | inr other ↦ had w line (replied end.world said, end.ghost_state) (shown_end end.session said) (record {
           shown = λ xid rest e. absurd (shows_end end.session said other xid rest e);
           sessions = as_before w.0 (replied end.world said).sessions (λ x c. subst (λ (ss : List NamedSession). Contains ss x) (replied_sessions end.world said ∙ (runs_same runs).1) c);
         })
@@ -120,14 +120,14 @@ module _ (w : Played) (line : List ℕ) (keeps : Keeps w) where
   })
 
   module _ (name : List ℕ) (s : Session) (is : session_named w.0 name ≡ Some s) (r : ℕ) (ringed : w.0.replicas ≡ Some r) where
-    here_well : GoesWell r (open_scene w name s)
+    here_well : GoesWell r (open_configuration w name s)
     here_well = open_well w keeps r ringed name s is
 
-    module _ {count : ℕ} (end : Scene) (on : StepsOn hss_judged r s.by count (open_scene w name s) end) where
+    module _ {count : ℕ} (end : Configuration) (on : StepsOn hss_judged r s.by count (open_configuration w name s) end) where
       abbrev stepped : Played
-      stepped = (with_session end.world name end.session, with_began end.story name end.began)
+      stepped = (with_session end.world name end.session, with_began end.ghost_state name end.began)
 
-      -- where the session isn't over for want of memory, but where it was before
+      -- where the session isn't over because memory ran out, but where it was before
       steps_had : ((xid : ℕ) → end.session.stage ≡ Over (Some (said_no_memory xid)) → end.session ≡ s) → IsDecided w line (Goes stepped [])
       steps_had before = had w line stepped [] (record {
         shown = λ xid rest e. absurd (no_text xid rest e);
@@ -143,9 +143,9 @@ module _ (w : Played) (line : List ℕ) (keeps : Keeps w) where
           subst (Contains (map replaced end.world.sessions)) (ap (λ (b : Bool). cond b (record { name = name; session = end.session }) (record { name = name; session = s })) ((bytes_eq-Decides name name).1 refl))
           (into_map replaced end.world.sessions (record { name = name; session = s }) stood)
 
-      -- it is over: for want of memory, before or by these steps, or not
+      -- it is over: because memory ran out, before or by these steps, or not
       steps_over : (said : Said) → end.session.stage ≡ Over (Some said) → IsDecided w line (Goes stepped [])
-      steps_over said over = elim (cause_shows (steps_cause r (open_scene w name s) end here_well on said over)) [
+      steps_over said over = elim (cause_shows (steps_cause r (open_configuration w name s) end here_well on said over)) [
         | inr other ↦ steps_had (λ xid over_so. absurd (said_other said other xid (said_is said (said_no_memory xid) (sym over ∙ over_so))))
         | inl lacks ↦ elim (is_over_or_not s.stage) [
           | inl before ↦ steps_had (λ xid over_so. over_stays on before.0 before.1)
@@ -172,9 +172,9 @@ module _ (w : Played) (line : List ℕ) (keeps : Keeps w) where
           by (Publishing said posts acks) at = steps_had (λ xid over. absurd (publishing_is said posts acks (Some (said_no_memory xid)) (sym at ∙ over)))
 
     -- it is brought to its end
-    module _ (is_finish : command_of line ≡ Some (command.Finish name)) (end : Scene) (said : Said) (runs : RunsOut hss_judged r s.by (open_scene w name s) end) (over : end.session.stage ≡ Over (Some said)) where
+    module _ (is_finish : command_of line ≡ Some (command.Finish name)) (end : Configuration) (said : Said) (runs : RunsOut hss_judged r s.by (open_configuration w name s) end) (over : end.session.stage ≡ Over (Some said)) where
       abbrev finished : Played
-      finished = (replied (without_session end.world name) said, without_began end.story name)
+      finished = (replied (without_session end.world name) said, without_began end.ghost_state name)
 
       finish_had : ((xid : ℕ) (rest : List ℕ) → shown_end end.session said ≡ reply_line (reply xid SystemError) ++ rest → s.stage ≡ Over (Some (said_no_memory xid))) → IsDecided w line (Goes finished (shown_end end.session said))
       finish_had before = had w line finished (shown_end end.session said) (record {
@@ -185,7 +185,7 @@ module _ (w : Played) (line : List ℕ) (keeps : Keeps w) where
       })
 
       finish_decided : IsDecided w line (Goes finished (shown_end end.session said))
-      finish_decided = elim (cause_shows (run_cause r (open_scene w name s) end here_well runs said over)) [
+      finish_decided = elim (cause_shows (run_cause r (open_configuration w name s) end here_well runs said over)) [
         | inr other ↦ finish_had (λ xid rest e. absurd (shows_end end.session said other xid rest e))
         | inl lacks ↦ elim (is_over_or_not s.stage) [
           | inr not_over ↦ shows_lack end.session said lacks.0 lacks.1 finished

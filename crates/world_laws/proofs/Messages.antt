@@ -8,8 +8,8 @@ use Rattle.log_model.specs.View.{View}
 use Rattle.turn_model.specs.Turn.{Asked}
 use Rattle.agent_model.specs.Standing.{Standing}
 use Rattle.turn_laws.proofs.Calls.{known_message}
-use Rattle.session_model.specs.Courses.{Begins}
-use Rattle.session_model.specs.Courses.Begins.{alone, refreshes}
+use Rattle.session_model.specs.Executions.{Begins}
+use Rattle.session_model.specs.Executions.Begins.{alone, refreshes}
 use Rattle.session_model.specs.Replies.{Asks, IsByMessage}
 use Rattle.session_model.specs.Sessions.{Session}
 use Rattle.world_laws.proofs.ExistingMessages.{some_session}

@@ -16,10 +16,10 @@ use Rattle.turn_model.specs.Basis.{nothing_held}
 use Rattle.turn_model.specs.Known.{IsBacked, IsUnderHead, IsVerified}
 use Rattle.dht_ids.specs.declared.post.Post.{Post}
 use Rattle.session_laws.specs.Loading.{IsSnapshotOf}
-use Rattle.world_model.specs.Agents.{Kept}
+use Rattle.world_model.specs.Agents.{HssKept}
 use Rattle.world_model.specs.World.{Participant}
-use Rattle.world_model.specs.Story.{Knowing}
-use Rattle.world_laws.specs.Keeps.{IsMetHead, IsMetPost, IsSoundIn, IsSoundKept, IsSoundKeptIn}
+use Rattle.world_model.specs.GhostState.{Knowing}
+use Rattle.world_laws.specs.Invariant.{IsMetHead, IsMetPost, IsSoundIn, IsSoundKept, IsSoundKeptIn}
 use Rattle.world_laws.specs.Frames.{Change, changed}
 
 -- what is optional
@@ -27,7 +27,7 @@ pub some_weaker : {X : Type 0} (P Q : X → Type 0) (o : Option X) → ((x : X) 
 some_weaker P Q None f h = tt
 some_weaker P Q (Some x) f h = f x h
 
--- with others behind them
+-- with others after them
 pub grows_before : (met more : List (List ℕ)) → ((b : List ℕ) → Contains met b → Contains more b) → (others : List (List ℕ)) (b : List ℕ) → Contains (met ++ others) b → Contains (more ++ others) b
 grows_before met more grows others b h =
     ⊎_elim (λ c. Contains-append_left more others b (grows b c)) (λ c. Contains-append_right more others b c) (Contains-append_cases met others b h)
@@ -94,7 +94,7 @@ module _ (met more : List (List ℕ)) (grows : (b : List ℕ) → Contains met b
   more_snapshots p known o h = some_weaker _ _ o (λ view g. some_weaker _ _ p.agent.snapshot (λ root i. more_snapshot view known root i) g) h
 
 module _ (met more : List (List ℕ)) (grows : (b : List ℕ) → Contains met b → Contains more b) where
-  more_kept : (p : Participant) (d : Change) (now : Knowing) (k : Kept) (view : View) → IsSoundKept met p now k view → IsSoundKept more (changed p d) now k view
+  more_kept : (p : Participant) (d : Change) (now : Knowing) (k : HssKept) (view : View) → IsSoundKept met p now k view → IsSoundKept more (changed p d) now k view
   more_kept p d now k view h = record {
     known = h.known;
     by_floor = h.by_floor;
@@ -113,6 +113,6 @@ module _ (met more : List (List ℕ)) (grows : (b : List ℕ) → Contains met b
       both : (b : List ℕ) → Contains (met ++ posts) b → Contains (more ++ posts) b
       both = grows_before met more grows posts
 
-  pub more_kept_in : (p : Participant) (d : Change) (now : Knowing) (k : Kept) (o : Option View) → IsSoundKeptIn met p now k o → IsSoundKeptIn more (changed p d) now k o
+  pub more_kept_in : (p : Participant) (d : Change) (now : Knowing) (k : HssKept) (o : Option View) → IsSoundKeptIn met p now k o → IsSoundKeptIn more (changed p d) now k o
   more_kept_in p d now k None h = (h.0, h.1, stands_among_more met more h.0 grows h.2, h.3, h.4, h.5)
   more_kept_in p d now k (Some view) h = more_kept p d now k view h

@@ -4,7 +4,7 @@ use Rattle.hash_signature_model.specs.declared.set.Set.{Set}
 use Rattle.hash_signature_model.specs.Signer.{hss_key_of}
 use Rattle.log_model.proofs.Lists.{each}
 use Rattle.world_model.specs.World.{Participant}
-use Rattle.world_laws.specs.Keeps.{IsKeptSo, IsSavedWell}
+use Rattle.world_laws.specs.Invariant.{IsKeptSo, IsSavedWell}
 use Rattle.world_laws.specs.NoKeys.{HasTag, LogsHaveTags, SnapshotsHaveTags, TaggedAreNoKeys}
 use Rattle.world_laws.proofs.ShownReplies.{byte_at}
 

@@ -21,12 +21,12 @@ use Rattle.dht_ids.specs.declared.ask.Ask.TheVariants as ask
 use Rattle.dht_ids.specs.declared.ask.StoreFault.{StoreFault}
 use Rattle.dht_ids.specs.declared.judge.Judged.{Judged}
 use Rattle.dht_ids.specs.declared.peer.Peer.{Peer}
-use Rattle.dhash_model.specs.Stores.{Block, Blocks, bytes_at, bytes_held, capacity, content, content_fault, head, head_fault}
-use Rattle.dhash_model.specs.declared.kind.Kind.TheVariants.{Content, Head}
+use Rattle.dhash_model.specs.Stores.{Block, Blocks, bytes_at, bytes_held, store_capacity, content, content_fault, head, head_fault}
+use Rattle.dhash_model.specs.declared.kind.BlockKind.TheVariants.{Content, Head}
 use Rattle.node_store.specs.Stores.{IsStore}
 use Rattle.world_model.specs.Nodes.{Node, answered, stored}
 use Rattle.world_model.specs.World.{World, node_at, peer_of, with_node}
-use Rattle.world_model.specs.Fates.{FateOf, counted}
+use Rattle.world_model.specs.Fates.{FateOf, ask_counted}
 use Rattle.world_model.specs.Fates.FateOf.{lost, stopped, answers}
 use Rattle.round_laws.specs.RingOf.{AreNodes}
 use Rattle.round_laws.proofs.Nodes.{at_among, at_id, made_by, made_shape, replaced}
@@ -34,7 +34,7 @@ use Rattle.round_laws.proofs.Standing.{IsBase, KeepsRing, fated, still_asked}
 use Rattle.round_laws.proofs.Rounding.{base_of, nodes_of, shapes_of, within_of}
 use Rattle.round_laws.proofs.Repairing.{put_keeps}
 use Rattle.round_laws.proofs.Fixing.{routed}
-use Rattle.world_laws.specs.Keeps.{IsAnswerIn}
+use Rattle.world_laws.specs.Invariant.{IsAnswerIn}
 use Rattle.world_laws.proofs.StoredBlocks.{put_each, put_store, room_for_content, room_for_head}
 
 -- ---- lists
@@ -73,7 +73,7 @@ value_bytes met key (e ∷ es) h = by (eq_by_cmp key_cmp key e.0) (value_bytes m
     by false later = later
 
 module _ (judged : Key → List ℕ → Option Judged) (met : List (List ℕ)) where
-  stored_met : (n : Node) (key : Key) (block : Block) (fault : Option StoreFault) → (fault ≡ None → bytes_held (put key_cmp key block n.blocks) ≤ capacity) → Contains met block.bytes → HoldsMet met n → HoldsMet met (stored n key block fault).1
+  stored_met : (n : Node) (key : Key) (block : Block) (fault : Option StoreFault) → (fault ≡ None → bytes_held (put key_cmp key block n.blocks) ≤ store_capacity) → Contains met block.bytes → HoldsMet met n → HoldsMet met (stored n key block fault).1
   stored_met n key block (Some fault) room new h = h
   stored_met n key block None room new h = (put_store key block n.blocks h.0 (room refl), put_each (λ b. Contains met b.bytes) key block n.blocks new h.1)
 
@@ -152,7 +152,7 @@ module _ (judged : Key → List ℕ → Option Judged) (r : ℕ) (w : World) (ri
     where
       made : AllByRecursion (λ q. IsAmong q (made_by (shapes_of w))) (nearer_part place n.ring.me n.ring.links (number key)) × AllByRecursion (λ q. IsAmong q (made_by (shapes_of w))) (owners_part place n.ring.replicas n.ring.me n.ring.links.list (number key))
       made =
-          (routed judged r (shapes_of w) w.lost w.asked w.asked base key (peer_of n, (answered judged n (ask.Route key)).0) w (with_node (counted w) (answered judged n (ask.Route key)).1) (within_of r w ring)
+          (routed judged r (shapes_of w) w.lost w.asked w.asked base key (peer_of n, (answered judged n (ask.Route key)).0) w (with_node (ask_counted w) (answered judged n (ask.Route key)).1) (within_of r w ring)
           (subst (IsAmong (peer_of n)) (made_shape w.nodes) (among_peers n w.nodes (at_among w.nodes to.id n is)))
           (answers n l (subst (λ id. node_at w id ≡ Some n) (sym (at_id w.nodes to.id n is)) is) live)).made
   answer_of to ask.Near n l is live for_data h = absurd for_data

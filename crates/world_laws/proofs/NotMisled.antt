@@ -27,7 +27,7 @@ use Rattle.agent_model.specs.Agent.{joined}
 use Rattle.agent_model.specs.Candidates.{Grounds, IsCandidateOf, IsMisled, evidence_in}
 use Rattle.agent_model.specs.Candidates.IsCandidateOf.{misled, by_heads}
 use Rattle.agent_model.specs.Standing.{Standing, edge_at, edges_of}
-use Rattle.session_model.specs.Courses.{grounds_of}
+use Rattle.session_model.specs.Executions.{grounds_of}
 use Rattle.session_laws.proofs.Starting.{joined_front}
 use Rattle.world_laws.specs.Laws.{FreshCandidatesAreByHeads, FreshStandingsDontMislead}
 use Rattle.world_laws.proofs.Frames.{into_map}

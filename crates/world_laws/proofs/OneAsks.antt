@@ -18,8 +18,8 @@ use Rattle.dht_ids.specs.declared.judge.Judged.{Judged}
 use Rattle.dht_ids.specs.declared.peer.Peer.{Peer}
 use Rattle.dhash_client.specs.Puts.{question_of}
 use Rattle.dhash_model.specs.declared.miss.Miss.TheVariants as miss
-use Rattle.dhash_model.specs.Course.{IsCourse, Told, told_all, outcome}
-use Rattle.dhash_model.specs.Course.IsCourse.{no_route, of_owners}
+use Rattle.dhash_model.specs.Execution.{IsExecution, Told, told_all, outcome}
+use Rattle.dhash_model.specs.Execution.IsExecution.{no_route, of_owners}
 use Rattle.dhash_model.specs.Puts.{EndsPut, is_of_put}
 use Rattle.dhash_model.specs.declared.miss.Miss.{Miss}
 use Rattle.dhash_client.specs.declared.put.PutKind.{PutKind}
@@ -30,7 +30,7 @@ use Rattle.world_model.specs.Fates.{Fates, Puts, asking}
 use Rattle.world_model.specs.Fates.Fates.{none as fates_none, more as fates_more}
 use Rattle.world_model.specs.Ring.{LooksUp}
 use Rattle.world_model.specs.World.{World, entries}
-use Rattle.world_laws.proofs.OneCourse.{one_lookup, one_put_of, one_split}
+use Rattle.world_laws.proofs.OneExecution.{one_lookup, one_put_of, one_split}
 use Rattle.world_laws.proofs.OneHeard.{one_fate}
 
 abbrev Asks : Type 0
@@ -223,7 +223,7 @@ module _ (judged : Key → List ℕ → Option Judged) where
       lookup : IsLookup [] None from (routes looks) found
       asked : ((asks ≡ []) × (outcome key found ≡ Err (miss.NoRoute key))) ⊎ ((owners : List Peer) × (outcome key found ≡ Ok owners) × EndsPut r owners asks came)
 
-    whole_of : (from : List Peer) (looks asks : Told) (came : Result Bool Miss) → IsCourse key (question_of what bytes key) from (EndsPut r) (told_all (ask.Route key) looks ++ told_all (question_of what bytes key) asks) came → IsWholeOf from looks asks came
+    whole_of : (from : List Peer) (looks asks : Told) (came : Result Bool Miss) → IsExecution key (question_of what bytes key) from (EndsPut r) (told_all (ask.Route key) looks ++ told_all (question_of what bytes key) asks) came → IsWholeOf from looks asks came
     whole_of from looks asks came (no_route l found is looked nobody result_is) =
         let same = one_split (put_entries what bytes key) looks l asks [] (sym (owners_told looks asks) ∙ is ∙ sym (append-nil (told_all (ask.Route key) l))) in
         record { found = found; lookup = subst (λ (t : Told). IsLookup [] None from (routes t) found) (sym same.0) looked; asked = inl (same.1, nobody) }
@@ -280,5 +280,5 @@ module _ (judged : Key → List ℕ → Option Judged) where
 
         came : f.came ≡ g.came
         came = one_put_of what bytes key r (entries w) (told_all (ask.Route key) f.looks ++ told_all question f.asks) f.came g.came f.whole
-            (subst (λ (l : Told). IsCourse key question (entries w) (EndsPut r) (told_all (ask.Route key) l ++ told_all question f.asks) g.came) (sym s.same)
-            (subst (λ (l : Told). IsCourse key question (entries w) (EndsPut r) (told_all (ask.Route key) g.looks ++ told_all question l) g.came) (sym left.0) g.whole))
+            (subst (λ (l : Told). IsExecution key question (entries w) (EndsPut r) (told_all (ask.Route key) l ++ told_all question f.asks) g.came) (sym s.same)
+            (subst (λ (l : Told). IsExecution key question (entries w) (EndsPut r) (told_all (ask.Route key) g.looks ++ told_all question l) g.came) (sym left.0) g.whole))

@@ -1,4 +1,5 @@
--- An ask has one fate, a session asks one thing, and what it is then is told by the answer; what is at hand is taken in one way; and a session fails, lacks memory and settles in one way.
+-- An ask has one fate, a session asks one thing, and what it is then is determined by the answer; what is available is taken in one way;
+-- and a session fails, lacks memory and settles in one way.
 use Rattle.std.proofs.Common.{◌≡◌, ℕ, true, false, List, [], ◌∷◌, ◌++◌, Option, Some, None, Result, Ok, refl, sym, ap, ◌∙◌, subst}
 use Rattle.ivy_base.specs.declared.key.Key.{Key}
 use Rattle.ivy_base.specs.Naming.{head_key_of}
@@ -14,14 +15,14 @@ use Rattle.dht_ids.specs.declared.post.Ack.{Ack}
 use Rattle.dht_ids.specs.declared.post.Post.{Post}
 use Rattle.dht_ids.specs.Asked.{told}
 use Rattle.agent_model.specs.Others.{settled}
-use Rattle.session_laws.proofs.AskedGets.{gets_are_one}
-use Rattle.session_laws.proofs.AskedPuts.{puts_are_one}
+use Rattle.session_laws.proofs.AskedGets.{gets_are_deterministic}
+use Rattle.session_laws.proofs.AskedPuts.{puts_are_deterministic}
 use Rattle.session_model.specs.Asking.{AsksNext}
-use Rattle.session_model.specs.Brought.{Brought, HeadsOf, BlockOf, Want, Content, brought_in}
-use Rattle.session_model.specs.Courses.{Fails, LacksMemory, Settles, ended}
-use Rattle.session_model.specs.Courses.Fails.{fails, goes_on}
-use Rattle.session_model.specs.Courses.LacksMemory.{lacks}
-use Rattle.session_model.specs.Courses.Settles.{settles as settles_all}
+use Rattle.session_model.specs.Brought.{Brought, HeadsOf, BlockOf, WantedOfRing, Content, brought_in}
+use Rattle.session_model.specs.Executions.{Fails, LacksMemory, Settles, ended}
+use Rattle.session_model.specs.Executions.Fails.{fails, goes_on}
+use Rattle.session_model.specs.Executions.LacksMemory.{lacks}
+use Rattle.session_model.specs.Executions.Settles.{settles as settles_all}
 use Rattle.session_model.specs.Refreshing.{FailsBy, Needs}
 use Rattle.session_model.specs.Replies.{missed_reply, said_no_memory, said_of}
 use Rattle.session_model.specs.Sessions.{Cache, Gets, Hears, IsGet, IsPut, IsPutOfPost, Over, Publishing, Refreshing, Said, Session, Takes, TakesAll, Wants, acknowledged, after_put, keeping, pending_block, put_question, wanted_key, with_part}
@@ -29,14 +30,14 @@ use Rattle.session_model.specs.Sessions.Gets.{heads as got_heads, content as got
 use Rattle.session_model.specs.Sessions.Hears.{gets_on, got, puts_on, puts}
 use Rattle.session_model.specs.Sessions.Takes.{posted, cached}
 use Rattle.session_model.specs.Sessions.TakesAll.{none as takes_none, more as takes_more}
-use Rattle.session_laws.proofs.OneRefresh.{refresh_is_one}
-use Rattle.world_model.specs.Agents.{Agent}
-use Rattle.world_model.specs.Fates.{FateOf, counted}
+use Rattle.session_laws.proofs.OneRefresh.{refresh_is_deterministic}
+use Rattle.world_model.specs.Agents.{HssAgent}
+use Rattle.world_model.specs.Fates.{FateOf, ask_counted}
 use Rattle.world_model.specs.Fates.FateOf.{lost, stopped, answers}
 use Rattle.world_model.specs.Nodes.{Node, answered}
 use Rattle.world_model.specs.World.{World, with_node}
 use Rattle.world_laws.proofs.OneAsked.{one_asked, one_xid}
-use Rattle.world_laws.proofs.OneCourse.{one_get_of_block, one_get_of_head, one_put_of_post}
+use Rattle.world_laws.proofs.OneExecution.{one_get_of_block, one_get_of_head, one_put_of_post}
 
 -- ---- fates
 
@@ -57,11 +58,11 @@ one_fate (answers n not is live) (lost l) = absurd (not l)
 one_fate (answers n not is live) (stopped m nor also dead) = absurd (live_or_not m n (one_node m n (sym also ∙ is)) dead live)
 one_fate {judged} {w} {to} {question} (answers n not is live) (answers m nor also alive) =
     let same : n ≡ m = one_node n m (sym is ∙ also) in
-    (ap (λ (x : Node). (answered judged x question).0) same, ap (λ (x : Node). with_node (counted w) (answered judged x question).1) same)
+    (ap (λ (x : Node). (answered judged x question).0) same, ap (λ (x : Node). with_node (ask_counted w) (answered judged x question).1) same)
 
 -- ---- what is wanted
 
-want_of : (a b : Want) → Needs a ≡ Needs b → a ≡ b
+want_of : (a b : WantedOfRing) → Needs a ≡ Needs b → a ≡ b
 want_of a b e = cc e
 
 key_of : (a b : Key) → Content a ≡ Content b → a ≡ b
@@ -92,10 +93,10 @@ post_acks : (a b : Option Said) (p q : Post) (ps qs : List Post) (f g : List Ack
 post_acks a b p q ps qs f g e = cc e
 
 module _ (judged : Key → List ℕ → Option Judged) (r : ℕ) where
-  pub one_want : (s : Session) (a b : Want) → Wants judged r s a → Wants judged r s b → a ≡ b
-  one_want s a b f g = want_of a b (refresh_is_one s.standing (brought_in s.parts) f.1 g.1 f.2 g.2 (Needs a) (Needs b) f.3 g.3).2
+  pub one_want : (s : Session) (a b : WantedOfRing) → Wants judged r s a → Wants judged r s b → a ≡ b
+  one_want s a b f g = want_of a b (refresh_is_deterministic s.standing (brought_in s.parts) f.1 g.1 f.2 g.2 (Needs a) (Needs b) f.3 g.3).2
 
-  -- ---- what is at hand
+  -- ---- what is available
 
   one_taken : (s : Session) (cache : Cache) (t u : Session) (after then_so : Cache) → Takes judged r s cache t after → Takes judged r s cache u then_so → (t ≡ u) × (after ≡ then_so)
   one_taken s cache _ _ _ _ (posted key bytes wants none is) (posted other more also nothing such) =
@@ -125,7 +126,7 @@ module _ (judged : Key → List ℕ → Option Judged) (r : ℕ) where
 
   -- a get or a put asks that of that node
   pub data AsksIt (s : Session) (node : Peer) (question : Ask) : Type 0 where
-    of_get : (want : Want) → Wants judged r s want → AsksNext (wanted_key want) (ask.Get (wanted_key want)) (IsGet judged r s.entries want) s.current node question → AsksIt s node question
+    of_get : (want : WantedOfRing) → Wants judged r s want → AsksNext (wanted_key want) (ask.Get (wanted_key want)) (IsGet judged r s.entries want) s.current node question → AsksIt s node question
     of_put : (said : Option Said) (p : Post) (posts : List Post) (acks : List Ack) → s.stage ≡ Publishing said (p ∷ posts) acks → AsksNext p.key (put_question p) (IsPut judged r s p) s.current node question → AsksIt s node question
 
   pub is_asking : {s : Session} {cache after : Cache} {node : Peer} {question : Ask} {answer : Answer} {heard : Session} → Hears judged r s cache node question answer heard after → AsksIt s node question
@@ -137,13 +138,13 @@ module _ (judged : Key → List ℕ → Option Judged) (r : ℕ) where
   ask_one : (s : Session) (node other : Peer) (question another : Ask) → AsksIt s node question → AsksIt s other another → (node ≡ other) × (question ≡ another)
   ask_one s node other question another (of_get want wants next) (of_get also too then_it) =
       let same : want ≡ also = one_want s want also wants too in
-      (gets_are_one judged r s.entries want).1 s.current node other question another next
-      (subst (λ (w : Want). AsksNext (wanted_key w) (ask.Get (wanted_key w)) (IsGet judged r s.entries w) s.current other another) (sym same) then_it)
+      (gets_are_deterministic judged r s.entries want).1 s.current node other question another next
+      (subst (λ (w : WantedOfRing). AsksNext (wanted_key w) (ask.Get (wanted_key w)) (IsGet judged r s.entries w) s.current other another) (sym same) then_it)
   ask_one s node other question another (of_get want wants next) (of_put said p posts acks at then_it) = absurd (not_putting s said (p ∷ posts) acks wants.0 at)
   ask_one s node other question another (of_put said p posts acks at next) (of_get want wants then_it) = absurd (not_putting s said (p ∷ posts) acks wants.0 at)
   ask_one s node other question another (of_put said p posts acks at next) (of_put word q others held as_well then_it) =
       let same : p ≡ q = first_post said word p q posts others acks held (sym at ∙ as_well) in
-      (puts_are_one judged r s p).1 s.current node other question another next
+      (puts_are_deterministic judged r s p).1 s.current node other question another next
       (subst (λ (x : Post). AsksNext x.key (put_question x) (IsPut judged r s x) s.current other another) (sym same) then_it)
 
   pub one_ask : {s : Session} {cache after then_so : Cache} {node other : Peer} {question another : Ask} {answer given : Answer} {heard said : Session} → Hears judged r s cache node question answer heard after
@@ -152,7 +153,7 @@ module _ (judged : Key → List ℕ → Option Judged) (r : ℕ) where
 
   -- ---- what is heard
 
-  one_brought : {entries : List Peer} {want : Want} {asks : List Heard} {a b : Brought} → Gets judged r entries want asks a → Gets judged r entries want asks b → a ≡ b
+  one_brought : {entries : List Peer} {want : WantedOfRing} {asks : List Heard} {a b : Brought} → Gets judged r entries want asks a → Gets judged r entries want asks b → a ≡ b
   one_brought {entries} (got_heads {owner} {asks} came h) (got_heads more g) =
       ap (λ (x : Result (List Judged) Miss). HeadsOf owner x) (one_get_of_head (judged (head_key_of owner)) (head_key_of owner) r entries asks came more h g)
   one_brought {entries} (got_content {key} {asks} came h) (got_content more g) = ap (λ (x : Result (List ℕ) Miss). BlockOf key x) (one_get_of_block key r entries asks came more h g)
@@ -163,12 +164,12 @@ module _ (judged : Key → List ℕ → Option Judged) (r : ℕ) where
 
     one_heard : (heard said : Session) (after then_so : Cache) → Hears judged r s cache node question answer heard after → Hears judged r s cache node question answer said then_so → (heard ≡ said) × (after ≡ then_so)
     one_heard _ _ _ _ (gets_on want wants next part) (gets_on also too then_it parting) = (refl, refl)
-    one_heard _ _ _ _ (gets_on want wants next part) (got also brought too then_it gets) = absurd (part (brought, subst (λ (w : Want). Gets judged r s.entries w whole_trail brought) (one_want s also want too wants) gets))
+    one_heard _ _ _ _ (gets_on want wants next part) (got also brought too then_it gets) = absurd (part (brought, subst (λ (w : WantedOfRing). Gets judged r s.entries w whole_trail brought) (one_want s also want too wants) gets))
     one_heard _ _ _ _ (gets_on want wants next part) (puts_on said p posts acks at then_it parting) = absurd (not_putting s said (p ∷ posts) acks wants.0 at)
     one_heard _ _ _ _ (gets_on want wants next part) (puts said p posts acks came at then_it put) = absurd (not_putting s said (p ∷ posts) acks wants.0 at)
-    one_heard _ _ _ _ (got want brought wants next gets) (gets_on also too then_it parting) = absurd (parting (brought, subst (λ (w : Want). Gets judged r s.entries w whole_trail brought) (one_want s want also wants too) gets))
+    one_heard _ _ _ _ (got want brought wants next gets) (gets_on also too then_it parting) = absurd (parting (brought, subst (λ (w : WantedOfRing). Gets judged r s.entries w whole_trail brought) (one_want s want also wants too) gets))
     one_heard _ _ _ _ (got want brought wants next gets) (got also others too then_it getting) =
-        let same : brought ≡ others = one_brought gets (subst (λ (w : Want). Gets judged r s.entries w whole_trail others) (one_want s also want too wants) getting) in
+        let same : brought ≡ others = one_brought gets (subst (λ (w : WantedOfRing). Gets judged r s.entries w whole_trail others) (one_want s also want too wants) getting) in
         (ap (λ (b : Brought). with_part s b whole_trail) same, ap (λ (b : Brought). keeping judged r b cache) same)
     one_heard _ _ _ _ (got want brought wants next gets) (puts_on said p posts acks at then_it parting) = absurd (not_putting s said (p ∷ posts) acks wants.0 at)
     one_heard _ _ _ _ (got want brought wants next gets) (puts said p posts acks came at then_it put) = absurd (not_putting s said (p ∷ posts) acks wants.0 at)
@@ -212,8 +213,8 @@ miss_of a b e = cc e
 
 pub one_failure : (s t u : Session) → Fails s t → Fails s u → t ≡ u
 one_failure s _ _ (fails notes given miss xid asked at refreshed asks_it) (fails others also reason other_xid other is again asks_too) =
-    let missed : miss ≡ reason = miss_of miss reason (refresh_is_one s.standing (brought_in s.parts) notes others given also (FailsBy miss) (FailsBy reason) refreshed again).2 in
-    let noted : notes ≡ others = (refresh_is_one s.standing (brought_in s.parts) notes others given also (FailsBy miss) (FailsBy reason) refreshed again).0 in
+    let missed : miss ≡ reason = miss_of miss reason (refresh_is_deterministic s.standing (brought_in s.parts) notes others given also (FailsBy miss) (FailsBy reason) refreshed again).2 in
+    let noted : notes ≡ others = (refresh_is_deterministic s.standing (brought_in s.parts) notes others given also (FailsBy miss) (FailsBy reason) refreshed again).0 in
     let number : xid ≡ other_xid = one_xid s.standing.view s.message xid other_xid asked other asks_it asks_too in
     let same : asked ≡ other = one_asked s.standing.view s.message xid other_xid asked other asks_it asks_too in
     (λ i. ended s (said_of (number i) (missed_reply (same i) (missed i))) (noted i) (Some (missed i)))
@@ -227,7 +228,7 @@ said_all a b f g e = cc e
 acked_all : (a b : Option Said) (f g : List Ack) → Publishing a [] f ≡ Publishing b [] g → f ≡ g
 acked_all a b f g e = cc e
 
-pub one_settling : (a : Agent) (s : Session) (after then_so : Agent) (t u : Session) → Settles a s after t → Settles a s then_so u → (after ≡ then_so) × (t ≡ u)
+pub one_settling : (a : HssAgent) (s : Session) (after then_so : HssAgent) (t u : Session) → Settles a s after t → Settles a s then_so u → (after ≡ then_so) × (t ≡ u)
 one_settling a s _ _ _ _ (settles_all said acks at) (settles_all word held is) =
     (ap (settled a) (acked_all said word acks held (sym at ∙ is)), ap (λ (o : Option Said). record s { stage = Over o }) (said_all said word acks held (sym at ∙ is)))
 

@@ -1,8 +1,8 @@
--- A floor names one set of records, where names tell the blocks apart.
+-- A floor names one set of records, where no names collide.
 use Rattle.std.proofs.Common.{◌≡◌, ℕ, List, [], Option, Some, None, sym, ◌∙◌, subst, Contains}
 use Rattle.std.specs.Ordering.{eq_by_cmp}
 use Rattle.ivy_base.specs.declared.key.PubKey.{PubKey}
-use Rattle.ivy_base.specs.Naming.{NamesTellApart, head_key_of, owner_cmp}
+use Rattle.ivy_base.specs.Naming.{IsCollisionFree, head_key_of, owner_cmp}
 use Rattle.log_model.specs.Closed.{log_of}
 use Rattle.log_model.specs.Record.{Record}
 use Rattle.log_model.specs.Standing.{Stand, StandsAmong}
@@ -13,12 +13,12 @@ use Rattle.log_model.proofs.Sets.{same_list}
 use Rattle.log_model.proofs.Owners.{owner_itself}
 use Rattle.turn_model.specs.Known.{EndsAt, IsKnown}
 use Rattle.turn_laws.proofs.OneChain.{one_chain}
-use Rattle.world_laws.specs.Laws.{KnownIsOne}
+use Rattle.world_laws.specs.Laws.{KnownIsUnique}
 
 pub stand_in_log : (met : List (List ℕ)) (owner : PubKey) (s : List Record) → Stand met s → Stand met (log_of owner s)
 stand_in_log met owner s h = each_from (StandsAmong met) (log_of owner s) (λ r c. each (StandsAmong met) s r h (from_filter (λ (q : Record). eq_by_cmp owner_cmp owner q.owner) s r c).0)
 
-module _ (met : List (List ℕ)) (apart : NamesTellApart met) (view : View) (floor : Vector) (known other : List Record) (f : IsKnown view floor known) (g : IsKnown view floor other)
+module _ (met : List (List ℕ)) (apart : IsCollisionFree met) (view : View) (floor : Vector) (known other : List Record) (f : IsKnown view floor known) (g : IsKnown view floor other)
     (stands : Stand met known) (stands_too : Stand met other) where
   same_log : (owner : PubKey) → Contains view.members owner → log_of owner known ≡ log_of owner other
   same_log owner member = by (stamp_at floor (head_key_of owner)) (f.ends owner member) (g.ends owner member)
@@ -35,6 +35,6 @@ module _ (met : List (List ℕ)) (apart : NamesTellApart met) (view : View) (flo
       (from_filter (λ (q : Record). eq_by_cmp owner_cmp r.owner q.owner) other r
       (subst (λ (l : List Record). Contains l r) (same_log r.owner (each (λ (q : Record). Contains view.members q.owner) known r f.members c)) own)).0
 
-pub known_is_one : KnownIsOne
-known_is_one met view floor known other apart f g stands stands_too =
+pub known_is_unique : KnownIsUnique
+known_is_unique met view floor known other apart f g stands stands_too =
     same_list known other f.ascending g.ascending (in_other met apart view floor known other f g stands stands_too) (in_other met apart view floor other known g f stands_too stands)

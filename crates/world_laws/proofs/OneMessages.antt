@@ -11,8 +11,8 @@ use Rattle.log_model.specs.View.{View}
 use Rattle.turn_model.specs.Turn.{Asked}
 use Rattle.dht_ids.specs.declared.peer.Peer.{Peer}
 use Rattle.agent_model.specs.Standing.{Standing}
-use Rattle.session_model.specs.Courses.{Begins, fresh_session}
-use Rattle.session_model.specs.Courses.Begins.{alone as begins_alone, refreshes}
+use Rattle.session_model.specs.Executions.{Begins, fresh_session}
+use Rattle.session_model.specs.Executions.Begins.{alone as begins_alone, refreshes}
 use Rattle.session_model.specs.Replies.{Asks, IsByMessage, IsServed, alone_answer, procedures_of, said_bare, no_call, other_version, no_program, no_version, no_procedure, no_caller, no_arguments, alone}
 use Rattle.session_model.specs.Sessions.{Over, Session}
 

@@ -7,7 +7,7 @@ use Rattle.std.specs.List.{AllByRecursion, list_all}
 use Rattle.std.specs.Ordering.{eq_by_cmp}
 use Rattle.ivy_base.specs.Naming.{key_cmp}
 use Rattle.ring_model.proofs.Lists.{among_take, cons_head, cons_tail, nil_cons}
-use Rattle.ring_model.specs.Gets.{AreAsks, AreFirsts, IsPut, answered_in, nodes}
+use Rattle.ring_model.specs.Gets.{AreAsks, AreFirsts, IsPutTrail, answered_in, nodes}
 use Rattle.ring_model.specs.Gets.AreFirsts.{none as firsts_none, again as firsts_again, new as firsts_new}
 use Rattle.dhash_model.specs.Puts.{holds, is_of_put}
 use Rattle.round_laws.specs.RingOf.{AreNodes}
@@ -28,7 +28,7 @@ use Rattle.dht_ids.specs.declared.ask.Answer.TheVariants as answer
 use Rattle.dht_ids.specs.declared.ask.Ask.{Ask}
 use Rattle.dht_ids.specs.declared.judge.Judged.{Judged}
 use Rattle.dht_ids.specs.declared.peer.Peer.{Peer}
-use Rattle.dhash_model.specs.Course.{Told}
+use Rattle.dhash_model.specs.Execution.{Told}
 use Rattle.dhash_model.specs.Settled.{IsSettledNode}
 use Rattle.dhash_model.specs.State.{State, stabilised, with_links}
 use Rattle.dhash_model.specs.Stores.{Block, Blocks, without}
@@ -50,7 +50,7 @@ use Rattle.world_model.specs.Rounds.PutsAround.{no_route, puts as puts_around}
 use Rattle.world_model.specs.Rounds.PutsAll.{done as all_done, keeps as all_keeps, drops as all_drops}
 use Rattle.world_model.specs.World.{World, node_at, with_node}
 use Rattle.world_laws.proofs.OneAsks.{looks_one, owners_one}
-use Rattle.world_laws.proofs.OneCourse.{one_acknowledged}
+use Rattle.world_laws.proofs.OneExecution.{one_acknowledged}
 use Rattle.world_laws.proofs.OneHeard.{one_fate, one_node}
 
 -- ---- numbers of keys
@@ -330,11 +330,11 @@ module _ (judged : Key → List ℕ → Option Judged) (r : ℕ) (base : List Sh
       let both = looks_one judged w key (p ∷ []) (Some (q ∷ qs)) (Some (o ∷ os)) mid between looks looking in
       let list : o ∷ os ≡ q ∷ qs = sym (first_found judged q o qs os both.0) in
       let found : AllByRecursion (λ x. IsAmong x (made_by base)) (q ∷ qs) = (look_up judged r base planned began end b key p (Some (q ∷ qs)) w mid h made looks).made in
-      let second : IsPut is_of_put holds r (q ∷ qs) others held = subst (λ (l : List Peer). IsPut is_of_put holds r l others held) list putting in
+      let second : IsPutTrail is_of_put holds r (q ∷ qs) others held = subst (λ (l : List Peer). IsPutTrail is_of_put holds r l others held) list putting in
       let left = owners_one judged (question_as block.kind key block.bytes) (is_other_peer judged p) answer.Stored (λ t. r ≤ answered_in is_of_put t) (q ∷ qs) asks others mid after then_it put.asks second.asks
       (own_given p made q qs asks found put.asks own) (own_given p made q qs others found second.asks owned) fates
       (subst (λ (m : World). Fates judged m (asks_of_others judged p (question_as block.kind key block.bytes) others) then_it) (sym both.1) fated) in
-      let acked : acknowledged ≡ held = one_acknowledged r (q ∷ qs) others acknowledged held (subst (λ (t : Told). IsPut is_of_put holds r (q ∷ qs) t acknowledged) left.0 put) second in
+      let acked : acknowledged ≡ held = one_acknowledged r (q ∷ qs) others acknowledged held (subst (λ (t : Told). IsPutTrail is_of_put holds r (q ∷ qs) t acknowledged) left.0 put) second in
       (dropped_one judged p others held drops dropping (subst (λ (t : Told). IsDropped p t held drops) left.0 (subst (λ (k : Bool). IsDropped p asks k drops) acked drop)) dropped, left.1)
 
   all_one : (p : Peer) → IsAmong p (made_by base) → (blocks : Blocks) (w u v : World) (ds es : List Key) → Within w → PutsAll judged p r blocks w ds u → PutsAll judged p r blocks w es v → (ds ≡ es) × (u ≡ v)

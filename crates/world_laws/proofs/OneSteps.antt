@@ -1,7 +1,7 @@
--- A step of a session leads to one scene, where memory is there and names tell the blocks apart; so do many steps, and all up to the end.
+-- A step of a session leads to one configuration, where memory is there and no names collide; so do many steps, and all up to the end.
 use Rattle.std.proofs.Common.{◌≡◌, ℕ, Bool, true, false, List, [], ◌∷◌, ◌++◌, map, Option, Some, None, refl, sym, ap, ◌∙◌, subst, Contains}
 use Rattle.ivy_base.specs.declared.operation.Moment.{Moment}
-use Rattle.ivy_base.specs.Naming.{NamesTellApart}
+use Rattle.ivy_base.specs.Naming.{IsCollisionFree}
 use Rattle.dhash_model.specs.Signed.{hss_judged}
 use Rattle.log_model.proofs.Lists.{each}
 use Rattle.log_model.specs.View.{View}
@@ -16,49 +16,49 @@ use Rattle.agent_model.specs.Standing.{Refresh}
 use Rattle.agent_model.specs.Turning.{Answered, TurnEnd, Turns}
 use Rattle.agent_model.specs.Turning.Becomes.{reads, saves, loses}
 use Rattle.agent_model.specs.Turning.Turns.{behind, below, answers as turn_answers}
-use Rattle.session_model.specs.Brought.{Want, brought_in}
-use Rattle.session_model.specs.Courses.{Fails, HasRefreshed, IsRefusal, LacksMemory, Settles}
-use Rattle.session_model.specs.Courses.Fails.{fails, goes_on}
-use Rattle.session_model.specs.Courses.LacksMemory.{lacks}
-use Rattle.session_model.specs.Courses.Settles.{settles as settles_all}
-use Rattle.session_model.specs.Courses.TakesTurn.{answers, begins_anew, gives_up}
+use Rattle.session_model.specs.Brought.{WantedOfRing, brought_in}
+use Rattle.session_model.specs.Executions.{Fails, HasRefreshed, IsRefusal, LacksMemory, Settles}
+use Rattle.session_model.specs.Executions.Fails.{fails, goes_on}
+use Rattle.session_model.specs.Executions.LacksMemory.{lacks}
+use Rattle.session_model.specs.Executions.Settles.{settles as settles_all}
+use Rattle.session_model.specs.Executions.TakesTurn.{answers, begins_again, gives_up}
 use Rattle.session_model.specs.Refreshing.{Done, Needs, Note}
 use Rattle.session_model.specs.Sessions.{Cache, Hears, Over, Publishing, Refreshing, Said, Session, Stage, TakesAll, TakesSome, acknowledged, after_put}
 use Rattle.session_model.specs.Sessions.Hears.{gets_on, got, puts_on, puts}
 use Rattle.session_model.specs.Sessions.Takes.{posted, cached}
 use Rattle.session_model.specs.Sessions.TakesAll.{none as takes_none, more as takes_more}
 use Rattle.session_model.specs.Sessions.TakesSome.{none as some_none, more as some_more}
-use Rattle.session_laws.proofs.OneRefresh.{refresh_is_one}
-use Rattle.world_model.specs.Agents.{Agent, IsTurnIn, Kept, TakesTurn, hss, own}
+use Rattle.session_laws.proofs.OneRefresh.{refresh_is_deterministic}
+use Rattle.world_model.specs.Agents.{HssAgent, IsHssTurnIn, HssKept, TakesHssTurn, hss_signing, own_hss_key}
 use Rattle.world_model.specs.Fates.{FateOf}
 use Rattle.world_model.specs.Fates.FateOf.{lost, stopped, answers as node_answers}
 use Rattle.world_model.specs.World.{World, Participant, named_bytes, participant, with_participant}
-use Rattle.world_model.specs.Story.{known_of}
-use Rattle.world_model.specs.Steps.{Acts, RunsOut, Scene, Steps, StepsOn, after_turn, ask_told, met_by, turning_of, with_cache}
+use Rattle.world_model.specs.GhostState.{known_of}
+use Rattle.world_model.specs.Steps.{Acts, RunsOut, Configuration, Steps, StepsOn, after_turn, ask_told, met_by, turning_of, with_cache}
 use Rattle.world_model.specs.Steps.Acts.{asks, asks_in_vain, turns, is_refused, settles}
 use Rattle.world_model.specs.Steps.Steps.{acts, lacks_memory}
 use Rattle.world_model.specs.Steps.RunsOut.{is_over as runs_over, more as runs_more}
 use Rattle.world_model.specs.Steps.StepsOn.{none as steps_none, is_over as steps_over, more as steps_more}
-use Rattle.world_laws.specs.Keeps.{AreApart, IsInHand, Keeps}
-use Rattle.world_laws.specs.Laws.{HasMemoryAt, ManyStepsAreOne, PublishingIsOne, SessionsEndOnce, SessionsStepOnce}
+use Rattle.world_laws.specs.Invariant.{AreApart, IsInHand, Invariant}
+use Rattle.world_laws.specs.Laws.{HasMemoryAt, ManyStepsAreDeterministic, PublishingIsDeterministic, SessionEndsAreDeterministic, SessionStepsAreDeterministic}
 use Rattle.world_laws.proofs.Bringing.{found_named, its_view, some_same}
 use Rattle.world_laws.proofs.EachStep.{all_some}
 use Rattle.world_laws.proofs.Frames.{found_placed, same_keys}
 use Rattle.world_laws.proofs.MoreMet.{grows_before}
 use Rattle.world_laws.proofs.OneHeard.{AsksIt, all_taken_one, is_asking, lacking_says, not_putting, one_answer, one_failure, one_settling}
 use Rattle.world_laws.proofs.OneHeard.AsksIt.{of_get, of_put}
-use Rattle.world_laws.proofs.OneTurns.{not_both_ways, one_refusal, scene_after, turns_one}
+use Rattle.world_laws.proofs.OneTurns.{not_both_ways, one_refusal, configuration_after, turns_one}
 use Rattle.world_laws.proofs.Placed.{names_placed}
 use Rattle.world_laws.proofs.SecondTurns.{one_view}
 use Rattle.world_laws.proofs.SessionLinesSteps.{step_leads}
 use Rattle.world_laws.proofs.Taking.{HasTaken, takes_some_so}
 use Rattle.world_laws.proofs.TakingOn.{taking_keeps}
-use Rattle.world_laws.proofs.TurnsScene.{met_grows}
+use Rattle.world_laws.proofs.TurnsConfiguration.{met_grows}
 use Rattle.world_laws.proofs.WholePublishing.{step_same}
 
 -- ---- a session does one kind of thing
 
-needs_or_done : (want : Want) → Needs want ≡ Done → ⊥
+needs_or_done : (want : WantedOfRing) → Needs want ≡ Done → ⊥
 needs_or_done want e = cc e
 
 more_or_none : (a b : Option Said) (p : Post) (ps : List Post) (f g : List Ack) → Publishing a (p ∷ ps) f ≡ Publishing b [] g → ⊥
@@ -72,7 +72,7 @@ over_or_refreshing s a over at = cc (sym over ∙ at)
 
 module _ (r : ℕ) (s : Session) where
   asks_or_turns : {node : Peer} {question : Ask} → AsksIt hss_judged r s node question → (notes : List Note) (given : Refresh) → HasRefreshed s notes given → ⊥
-  asks_or_turns (of_get want wants next) notes given done = needs_or_done want (refresh_is_one s.standing (brought_in s.parts) wants.1 notes wants.2 given (Needs want) Done wants.3 done.1).2
+  asks_or_turns (of_get want wants next) notes given done = needs_or_done want (refresh_is_deterministic s.standing (brought_in s.parts) wants.1 notes wants.2 given (Needs want) Done wants.3 done.1).2
   asks_or_turns (of_put said p posts acks at next) notes given done = not_putting s said (p ∷ posts) acks done.0 at
 
   asks_or_settles : {node : Peer} {question : Ask} → AsksIt hss_judged r s node question → (said : Option Said) (acks : List Ack) → s.stage ≡ Publishing said [] acks → ⊥
@@ -89,31 +89,31 @@ record HadRefreshed (s : Session) : Type 0 where
   given : Refresh
   done : HasRefreshed s notes given
 
-had_refreshed : {now : Moment} {a : Agent} {view : View} {failing : Bool} {s : Session} {end : TurnEnd} {after : Agent} {saving : Option Kept} {t : Session} → TakesTurn (record { agent = a; view = view; now = now; fails = failing }) s end after saving t → HadRefreshed s
+had_refreshed : {now : Moment} {a : HssAgent} {view : View} {failing : Bool} {s : Session} {end : TurnEnd} {after : HssAgent} {saving : Option HssKept} {t : Session} → TakesHssTurn (record { agent = a; view = view; now = now; fails = failing }) s end after saving t → HadRefreshed s
 had_refreshed (answers notes given xid asked reply applied after saving done asks_it turn) = record { notes = notes; given = given; done = done }
-had_refreshed (begins_anew notes given xid asked end after saving done asks_it turn refused few) = record { notes = notes; given = given; done = done }
+had_refreshed (begins_again notes given xid asked end after saving done asks_it turn refused few) = record { notes = notes; given = given; done = done }
 had_refreshed (gives_up notes given xid asked end after saving done asks_it turn refused many) = record { notes = notes; given = given; done = done }
 
-settled_at : {a : Agent} {s : Session} {after : Agent} {t : Session} → Settles a s after t → (said : Option Said) × (acks : List Ack) × (s.stage ≡ Publishing said [] acks)
+settled_at : {a : HssAgent} {s : Session} {after : HssAgent} {t : Session} → Settles a s after t → (said : Option Said) × (acks : List Ack) × (s.stage ≡ Publishing said [] acks)
 settled_at (settles_all said acks at) = (said, acks, at)
 
 -- ---- what it does
 
--- where it refreshes, its world keeps what it should, and names tell the blocks apart
-record IsReady (r : ℕ) (p : Participant) (c : Scene) : Type 0 where
-  keeps : Keeps (c.world, c.story)
+-- where it refreshes, the invariant holds of its world, and no names collide
+record IsReady (r : ℕ) (p : Participant) (c : Configuration) : Type 0 where
+  keeps : Invariant (c.world, c.ghost_state)
   hand : IsInHand c r
   is_p : participant c.world c.session.by ≡ Some p
-  apart : NamesTellApart (named_bytes c.world)
+  apart : IsCollisionFree (named_bytes c.world)
 
-module _ (r : ℕ) (p : Participant) (c : Scene) (ready : c.session.stage ≡ Refreshing → IsReady r p c) where
-  abbrev Takes : View → TurnEnd → Agent → Option Kept → Session → Type 0
-  Takes view end after saving t = TakesTurn (turning_of c.world p view) c.session end after saving t
+module _ (r : ℕ) (p : Participant) (c : Configuration) (ready : c.session.stage ≡ Refreshing → IsReady r p c) where
+  abbrev Takes : View → TurnEnd → HssAgent → Option HssKept → Session → Type 0
+  Takes view end after saving t = TakesHssTurn (turning_of c.world p view) c.session end after saving t
 
   abbrev IsIts : View → Turned → Type 0
-  IsIts view turned = IsTurnIn (named_bytes c.world) (turning_of c.world p view) c.session c.began.knew (known_of c.story p.name) turned
+  IsIts view turned = IsHssTurnIn (named_bytes c.world) (turning_of c.world p view) c.session c.began.knew (known_of c.ghost_state p.name) turned
 
-  turned_or_refused : (view look : View) (reply : Reply) (applied : ℕ) (stop : TurnEnd) (after then_so : Agent) (saving keep : Option Kept) (t u : Session) → view ≡ c.session.standing.view → look ≡ c.session.standing.view → IsRefusal stop
+  turned_or_refused : (view look : View) (reply : Reply) (applied : ℕ) (stop : TurnEnd) (after then_so : HssAgent) (saving keep : Option HssKept) (t u : Session) → view ≡ c.session.standing.view → look ≡ c.session.standing.view → IsRefusal stop
       → Takes view (Answered reply applied) after saving t → Takes look stop then_so keep u → ⊥
   turned_or_refused view look reply applied stop after then_so saving keep t u one other refusal takes taking =
       not_both_ways c p reply applied stop after then_so saving keep t u refusal
@@ -123,37 +123,37 @@ module _ (r : ℕ) (p : Participant) (c : Scene) (ready : c.session.stage ≡ Re
     of_view : (view : View) → p.agent.view ≡ Some view → view ≡ c.session.standing.view
     of_view view in_view = one_view view c.session.standing.view (sym in_view ∙ its_view c r is.hand p is.is_p)
 
-    turns_alike : (view look : View) (reply also : Reply) (applied more : ℕ) (after then_so : Agent) (saving keep : Option Kept) (t u : Session) (turned then_it : Turned) → view ≡ c.session.standing.view → look ≡ c.session.standing.view
+    turns_alike : (view look : View) (reply also : Reply) (applied more : ℕ) (after then_so : HssAgent) (saving keep : Option HssKept) (t u : Session) (turned then_it : Turned) → view ≡ c.session.standing.view → look ≡ c.session.standing.view
         → Takes view (Answered reply applied) after saving t → Takes look (Answered also more) then_so keep u → turned.reply ≡ reply → then_it.reply ≡ also → IsIts view turned → IsIts look then_it
-        → scene_after c p view after saving applied turned t ≡ scene_after c p look then_so keep more then_it u
+        → configuration_after c p view after saving applied turned t ≡ configuration_after c p look then_so keep more then_it u
     turns_alike view look reply also applied more after then_so saving keep t u turned then_it one other takes taking replies answering its too =
-        ap (λ (v : View). scene_after c p v after saving applied turned t) one
+        ap (λ (v : View). configuration_after c p v after saving applied turned t) one
         ∙ turns_one c p r is.keeps is.hand is.is_p is.apart reply also applied more after then_so saving keep t u turned then_it
         (subst (λ (v : View). Takes v (Answered reply applied) after saving t) one takes) (subst (λ (v : View). Takes v (Answered also more) then_so keep u) other taking) replies answering
         (subst (λ (v : View). IsIts v turned) one its) (subst (λ (v : View). IsIts v then_it) other too)
-        ∙ sym (ap (λ (v : View). scene_after c p v then_so keep more then_it u) other)
+        ∙ sym (ap (λ (v : View). configuration_after c p v then_so keep more then_it u) other)
 
-  turn_ready : {view : View} {end : TurnEnd} {after : Agent} {saving : Option Kept} {t : Session} → Takes view end after saving t → IsReady r p c
+  turn_ready : {view : View} {end : TurnEnd} {after : HssAgent} {saving : Option HssKept} {t : Session} → Takes view end after saving t → IsReady r p c
   turn_ready takes = ready (had_refreshed takes).done.0
 
-  asks_no_turn : {node : Peer} {question : Ask} {answer : Answer} {heard : Session} {cache : Cache} {view : View} {end : TurnEnd} {after : Agent} {saving : Option Kept} {t : Session}
+  asks_no_turn : {node : Peer} {question : Ask} {answer : Answer} {heard : Session} {cache : Cache} {view : View} {end : TurnEnd} {after : HssAgent} {saving : Option HssKept} {t : Session}
       → Hears hss_judged r c.session p.cache node question answer heard cache → Takes view end after saving t → ⊥
   asks_no_turn hears takes = let had = had_refreshed takes in asks_or_turns r c.session (is_asking hss_judged r hears) had.notes had.given had.done
 
-  asks_no_settling : {node : Peer} {question : Ask} {answer : Answer} {heard : Session} {cache : Cache} {after : Agent} {t : Session} → Hears hss_judged r c.session p.cache node question answer heard cache → Settles p.agent c.session after t → ⊥
+  asks_no_settling : {node : Peer} {question : Ask} {answer : Answer} {heard : Session} {cache : Cache} {after : HssAgent} {t : Session} → Hears hss_judged r c.session p.cache node question answer heard cache → Settles p.agent c.session after t → ⊥
   asks_no_settling hears is = let at = settled_at is in asks_or_settles r c.session (is_asking hss_judged r hears) at.0 at.1 at.2
 
-  turns_no_settling : {view : View} {end : TurnEnd} {after : Agent} {saving : Option Kept} {t : Session} {then_so : Agent} {u : Session} → Takes view end after saving t → Settles p.agent c.session then_so u → ⊥
+  turns_no_settling : {view : View} {end : TurnEnd} {after : HssAgent} {saving : Option HssKept} {t : Session} {then_so : HssAgent} {u : Session} → Takes view end after saving t → Settles p.agent c.session then_so u → ⊥
   turns_no_settling takes is = let at = settled_at is in not_putting c.session at.0 [] at.1 (had_refreshed takes).done.0 at.2
 
   vain : {t : Session} → HasMemoryAt t → LacksMemory c.session t → ⊥
   vain {t} memory lacking = let says = lacking_says c.session t lacking in memory says.0 says.1
 
-  acts_one : {one other : Scene} → Acts hss_judged r p c one → Acts hss_judged r p c other → HasMemoryAt one.session → HasMemoryAt other.session → one ≡ other
+  acts_one : {one other : Configuration} → Acts hss_judged r p c one → Acts hss_judged r p c other → HasMemoryAt one.session → HasMemoryAt other.session → one ≡ other
   acts_one (asks node question answer next heard t cache fate hears goes) (asks whom what given after said u kept fated hearing went) m n =
       let same = one_answer hss_judged r fate fated hears hearing in
       let then_it : t ≡ u = one_failure heard t u goes (subst (λ (x : Session). Fails x u) (sym same.1) went) in
-      λ i. record { world = with_participant (same.0 i) (record p { cache = same.2 i }); story = ask_told c.story p.name c.session (then_it i); session = then_it i; began = c.began }
+      λ i. record { world = with_participant (same.0 i) (record p { cache = same.2 i }); ghost_state = ask_told c.ghost_state p.name c.session (then_it i); session = then_it i; began = c.began }
   acts_one (asks node question answer next heard t cache fate hears goes) (turns view reply applied after saving u turned in_view takes replies is_turn) m n = absurd (asks_no_turn hears takes)
   acts_one (asks node question answer next heard t cache fate hears goes) (is_refused view end after saving u in_view refusal takes) m n = absurd (asks_no_turn hears takes)
   acts_one (asks node question answer next heard t cache fate hears goes) (settles after u is) m n = absurd (asks_no_settling hears is)
@@ -188,32 +188,32 @@ module _ (r : ℕ) (p : Participant) (c : Scene) (ready : c.session.stage ≡ Re
 
 -- ---- a step
 
--- the same, before what is at hand is taken
-abbrev IsReadyTo : ℕ → Scene → Type 0
-IsReadyTo r c = Keeps (c.world, c.story) × IsInHand c r × NamesTellApart (named_bytes c.world)
+-- the same, before what is available is taken
+abbrev IsReadyTo : ℕ → Configuration → Type 0
+IsReadyTo r c = Invariant (c.world, c.ghost_state) × IsInHand c r × IsCollisionFree (named_bytes c.world)
 
 stage_taken : {r : ℕ} {s t : Session} {cache after : Cache} → TakesAll hss_judged r s cache t after → t.stage ≡ s.stage
 stage_taken (takes_none none) = refl
 stage_taken (takes_more (posted key bytes wants none is) rest) = stage_taken rest
 stage_taken (takes_more (cached key bytes wants none missing is) rest) = stage_taken rest
 
-module _ (r : ℕ) (c : Scene) (p : Participant) (is_p : participant c.world c.session.by ≡ Some p) (taken : Session) (cache : Cache) (takes : TakesAll hss_judged r c.session p.cache taken cache) where
+module _ (r : ℕ) (c : Configuration) (p : Participant) (is_p : participant c.world c.session.by ≡ Some p) (taken : Session) (cache : Cache) (takes : TakesAll hss_judged r c.session p.cache taken cache) where
   taken_ready : IsReadyTo r c → IsReady r (record p { cache = cache }) (with_cache hss_judged r c p taken cache)
   taken_ready is = record {
     keeps = then_so.0;
     hand = then_so.1;
     is_p = subst (λ (u : Session). participant (with_participant c.world (record p { cache = cache })) u.by ≡ Some (record p { cache = cache })) (sym has.is)
         (found_placed c.world is.0.apart c.session.by p is_p (record p { cache = cache }) refl);
-    apart = subst (λ (ks : List (List ℕ)). NamesTellApart (c.world.met ++ ks)) (sym (same_keys c.world is.0.apart c.session.by p is_p (record p { cache = cache }) refl refl)) is.2;
+    apart = subst (λ (ks : List (List ℕ)). IsCollisionFree (c.world.met ++ ks)) (sym (same_keys c.world is.0.apart c.session.by p is_p (record p { cache = cache }) refl refl)) is.2;
   }
     where
-      then_so : Keeps (with_participant c.world (record p { cache = cache }), c.story) × IsInHand (record c { world = with_participant c.world (record p { cache = cache }); session = taken }) r
+      then_so : Invariant (with_participant c.world (record p { cache = cache }), c.ghost_state) × IsInHand (record c { world = with_participant c.world (record p { cache = cache }); session = taken }) r
       then_so = taking_keeps c r p taken cache is.0 is.1 is_p (all_some takes)
 
       has : HasTaken c.world.met c.session taken cache
       has = takes_some_so c.world.met (all_some takes) is.1.goes_on.pending (each _ c.world.participants p is.0.met.cached (found_named c.world.participants c.session.by p is_p).0)
 
-step_one : (r : ℕ) (c : Scene) {one other : Scene} → (c.session.stage ≡ Refreshing → IsReadyTo r c) → Steps hss_judged r c.session.by c one → Steps hss_judged r c.session.by c other → HasMemoryAt one.session → HasMemoryAt other.session → one ≡ other
+step_one : (r : ℕ) (c : Configuration) {one other : Configuration} → (c.session.stage ≡ Refreshing → IsReadyTo r c) → Steps hss_judged r c.session.by c one → Steps hss_judged r c.session.by c other → HasMemoryAt one.session → HasMemoryAt other.session → one ≡ other
 step_one r c ready (acts p taken cache next is_p takes act) (acts q took caching after is_q taking acting) m n =
     let same : p ≡ q = some_same p q (sym is_p ∙ is_q) in
     let one = all_taken_one hss_judged r takes (subst (λ (x : Participant). TakesAll hss_judged r c.session x.cache took caching) (sym same) taking) in
@@ -240,26 +240,26 @@ module _ (r : ℕ) where
   lacking_at : {s t : Session} → LacksMemory s t → s.stage ≡ Refreshing
   lacking_at (lacks notes shown given end xid asked at refreshed asks_it rest front) = at
 
-  over_acts : {p : Participant} {c next : Scene} → Acts hss_judged r p c next → (said : Option Said) → c.session.stage ≡ Over said → ⊥
+  over_acts : {p : Participant} {c next : Configuration} → Acts hss_judged r p c next → (said : Option Said) → c.session.stage ≡ Over said → ⊥
   over_acts {c = c} (asks node question answer next heard t cache fate hears goes) said over = asks_or_over r c.session (is_asking hss_judged r hears) said over
   over_acts {c = c} (asks_in_vain node question answer next heard t cache fate hears lacking) said over = asks_or_over r c.session (is_asking hss_judged r hears) said over
   over_acts {c = c} (turns view reply applied after saving t turned in_view takes replies is_turn) said over = over_or_refreshing c.session said over (had_refreshed takes).done.0
   over_acts {c = c} (is_refused view end after saving t in_view refusal takes) said over = over_or_refreshing c.session said over (had_refreshed takes).done.0
   over_acts {c = c} (settles after t is) said over = let at = settled_at is in over_or_publishing c.session said at.0 [] at.1 over at.2
 
-  pub over_steps : {name : List ℕ} {c next : Scene} → Steps hss_judged r name c next → (said : Option Said) → c.session.stage ≡ Over said → ⊥
+  pub over_steps : {name : List ℕ} {c next : Configuration} → Steps hss_judged r name c next → (said : Option Said) → c.session.stage ≡ Over said → ⊥
   over_steps {c = c} (acts p taken cache next is_p takes act) said over =
       over_acts act said (ap (λ (t : Session). t.stage) (none_taken (over_or_refreshing c.session said over) takes) ∙ over)
   over_steps {c = c} (lacks_memory p taken t cache is_p takes lacking) said over =
       over_or_refreshing c.session said over (ap (λ (u : Session). u.stage) (sym (nothing_taken (over_or_refreshing c.session said over) takes)) ∙ lacking_at lacking)
 
   -- where memory was there at the end, it was there before
-  steps_memory : {name : List ℕ} {count : ℕ} {c next : Scene} → StepsOn hss_judged r name count c next → HasMemoryAt next.session → HasMemoryAt c.session
+  steps_memory : {name : List ℕ} {count : ℕ} {c next : Configuration} → StepsOn hss_judged r name count c next → HasMemoryAt next.session → HasMemoryAt c.session
   steps_memory steps_none m = m
   steps_memory (steps_over said over) m = m
   steps_memory (steps_more step rest) m = λ xid over. over_steps step (Some _) over
 
-  runs_memory : {name : List ℕ} {c next : Scene} → RunsOut hss_judged r name c next → HasMemoryAt next.session → HasMemoryAt c.session
+  runs_memory : {name : List ℕ} {c next : Configuration} → RunsOut hss_judged r name c next → HasMemoryAt next.session → HasMemoryAt c.session
   runs_memory (runs_over said over) m = m
   runs_memory (runs_more step rest) m = λ xid over. over_steps step (Some _) over
 
@@ -270,12 +270,12 @@ abbrev Names : World → World → Type 0
 Names w next = (b : List ℕ) → Contains (named_bytes w) b → Contains (named_bytes next) b
 
 abbrev keys : World → List (List ℕ)
-keys w = map (λ (o : Participant). (own o.agent).0) w.participants
+keys w = map (λ (o : Participant). (own_hss_key o.agent).0) w.participants
 
 same_names : (w next : World) → next.met ≡ w.met → keys next ≡ keys w → Names w next
 same_names w next met same b h = subst (λ (ks : List (List ℕ)). Contains (next.met ++ ks) b) (sym same) (subst (λ (m : List (List ℕ)). Contains (m ++ keys w) b) (sym met) h)
 
-pub apart_then : (w next : World) → Names w next → NamesTellApart (named_bytes next) → NamesTellApart (named_bytes w)
+pub apart_then : (w next : World) → Names w next → IsCollisionFree (named_bytes next) → IsCollisionFree (named_bytes w)
 apart_then w next names apart a b in_a in_b same = apart a b (names a in_a) (names b in_b) same
 
 fate_names : {w next : World} {to : Peer} {question : Ask} {answer : Answer} → FateOf hss_judged w to question answer next → (next.met ≡ w.met) × (next.participants ≡ w.participants)
@@ -284,29 +284,29 @@ fate_names (stopped n l is dead) = (refl, refl)
 fate_names (node_answers n l is live) = (refl, refl)
 
 -- a turn changes no key
-turns_own : {given : Refresh} {a : Agent} {view : View} {failing : Bool} {asked : Asked} {now : Moment} {end : TurnEnd} {after : Agent} {saving : Option Kept} → Turns hss given (record { agent = a; view = view; now = now; fails = failing }) asked end after saving → own after ≡ own a
+turns_own : {given : Refresh} {a : HssAgent} {view : View} {failing : Bool} {asked : Asked} {now : Moment} {end : TurnEnd} {after : HssAgent} {saving : Option HssKept} → Turns hss_signing given (record { agent = a; view = view; now = now; fails = failing }) asked end after saving → own_hss_key after ≡ own_hss_key a
 turns_own (behind far) = refl
 turns_own (below near low) = refl
 turns_own (turn_answers h written reply after saving near over basis may reads defined) = refl
 turns_own (turn_answers h written reply after saving near over basis may (saves before last might fine) defined) = refl
 turns_own (turn_answers h written reply after saving near over basis may (loses before last might gone) defined) = refl
 
-pub takes_own : {now : Moment} {a : Agent} {view : View} {failing : Bool} {s : Session} {end : TurnEnd} {after : Agent} {saving : Option Kept} {t : Session} → TakesTurn (record { agent = a; view = view; now = now; fails = failing }) s end after saving t → own after ≡ own a
+pub takes_own : {now : Moment} {a : HssAgent} {view : View} {failing : Bool} {s : Session} {end : TurnEnd} {after : HssAgent} {saving : Option HssKept} {t : Session} → TakesHssTurn (record { agent = a; view = view; now = now; fails = failing }) s end after saving t → own_hss_key after ≡ own_hss_key a
 takes_own (answers notes given xid asked reply applied after saving done asks_it turn) = turns_own turn
-takes_own (begins_anew notes given xid asked end after saving done asks_it turn refused few) = turns_own turn
+takes_own (begins_again notes given xid asked end after saving done asks_it turn refused few) = turns_own turn
 takes_own (gives_up notes given xid asked end after saving done asks_it turn refused many) = turns_own turn
 
-pub settles_own : {a : Agent} {s : Session} {after : Agent} {t : Session} → Settles a s after t → own after ≡ own a
+pub settles_own : {a : HssAgent} {s : Session} {after : HssAgent} {t : Session} → Settles a s after t → own_hss_key after ≡ own_hss_key a
 settles_own (settles_all said acks at) = refl
 
-module _ (r : ℕ) (c : Scene) (p : Participant) (apart : AreApart (map (λ (o : Participant). o.name) c.world.participants)) (is_p : participant c.world p.name ≡ Some p) where
-  keys_with : (q : Participant) → q.name ≡ p.name → own q.agent ≡ own p.agent → keys (with_participant c.world q) ≡ keys c.world
+module _ (r : ℕ) (c : Configuration) (p : Participant) (apart : AreApart (map (λ (o : Participant). o.name) c.world.participants)) (is_p : participant c.world p.name ≡ Some p) where
+  keys_with : (q : Participant) → q.name ≡ p.name → own_hss_key q.agent ≡ own_hss_key p.agent → keys (with_participant c.world q) ≡ keys c.world
   keys_with q named owned = same_keys c.world apart p.name p is_p q named owned
 
-  more_met : (q : Participant) (posts : List Post) → q.name ≡ p.name → own q.agent ≡ own p.agent → Names c.world (record (with_participant c.world q) { met = met_by c.world.met posts })
+  more_met : (q : Participant) (posts : List Post) → q.name ≡ p.name → own_hss_key q.agent ≡ own_hss_key p.agent → Names c.world (record (with_participant c.world q) { met = met_by c.world.met posts })
   more_met q posts named owned b h = subst (λ (ks : List (List ℕ)). Contains (met_by c.world.met posts ++ ks) b) (sym (keys_with q named owned)) (grows_before c.world.met (met_by c.world.met posts) (met_grows c.world.met posts) (keys c.world) b h)
 
-  acts_names : {next : Scene} → Acts hss_judged r p c next → Names c.world next.world
+  acts_names : {next : Configuration} → Acts hss_judged r p c next → Names c.world next.world
   acts_names (asks node question answer next heard t cache fate hears goes) =
       let same = fate_names fate in
       same_names c.world (with_participant next (record p { cache = cache })) same.0 (ap (λ (ps : List Participant). keys (with_participant (record c.world { participants = ps }) (record p { cache = cache }))) same.1 ∙ keys_with (record p { cache = cache }) refl refl)
@@ -316,7 +316,7 @@ module _ (r : ℕ) (c : Scene) (p : Participant) (apart : AreApart (map (λ (o :
   acts_names (is_refused view end after saving t in_view refusal takes) = more_met (after_turn p after saving) after.pending refl (takes_own takes)
   acts_names (settles after t is) = same_names c.world (with_participant c.world (record p { agent = after })) refl (keys_with (record p { agent = after }) refl (settles_own is))
 
-pub step_names : (r : ℕ) (c : Scene) {next : Scene} → Keeps (c.world, c.story) → Steps hss_judged r c.session.by c next → Names c.world next.world
+pub step_names : (r : ℕ) (c : Configuration) {next : Configuration} → Invariant (c.world, c.ghost_state) → Steps hss_judged r c.session.by c next → Names c.world next.world
 step_names r c keeps (acts p taken cache next is_p takes act) = λ b h. acts_names r (with_cache hss_judged r c p taken cache) (record p { cache = cache }) apart found act b (with_names b h)
   where
     named : p.name ≡ c.session.by
@@ -336,32 +336,32 @@ step_names r c keeps (lacks_memory p taken t cache is_p takes lacking) = same_na
 -- ---- one step after the other
 
 module _ (r : ℕ) where
-  -- a scene from which steps go on
-  pub record GoesWell (c : Scene) : Type 0 where
-    pub keeps : Keeps (c.world, c.story)
+  -- a configuration from which steps go on
+  pub record GoesWell (c : Configuration) : Type 0 where
+    pub keeps : Invariant (c.world, c.ghost_state)
     pub hand : IsInHand c r
     pub ringed : c.world.replicas ≡ Some r
 
-  well_then : {c next : Scene} → GoesWell c → Steps hss_judged r c.session.by c next → GoesWell next × (next.session.by ≡ c.session.by)
+  well_then : {c next : Configuration} → GoesWell c → Steps hss_judged r c.session.by c next → GoesWell next × (next.session.by ≡ c.session.by)
   well_then {c} {next} w step =
       let led = step_leads r c.session.by c next refl w.keeps w.hand w.ringed step in
       (record { keeps = led.leaves.0; hand = led.leaves.1; ringed = led.same.replicas ∙ w.ringed }, led.same.call.0)
 
-  its_step : {name : List ℕ} {c next : Scene} → c.session.by ≡ name → Steps hss_judged r name c next → Steps hss_judged r c.session.by c next
+  its_step : {name : List ℕ} {c next : Configuration} → c.session.by ≡ name → Steps hss_judged r name c next → Steps hss_judged r c.session.by c next
   its_step {name} {c} {next} named step = subst (λ (n : List ℕ). Steps hss_judged r n c next) (sym named) step
 
-  pub steps_names : {name : List ℕ} {count : ℕ} {c next : Scene} → StepsOn hss_judged r name count c next → c.session.by ≡ name → GoesWell c → Names c.world next.world
+  pub steps_names : {name : List ℕ} {count : ℕ} {c next : Configuration} → StepsOn hss_judged r name count c next → c.session.by ≡ name → GoesWell c → Names c.world next.world
   steps_names steps_none named w b h = h
   steps_names (steps_over said over) named w b h = h
   steps_names (steps_more {c = c} step rest) named w b h =
       let then_it = well_then w (its_step named step) in steps_names rest (then_it.1 ∙ named) then_it.0 b (step_names r c w.keeps (its_step named step) b h)
 
-  pub runs_names : {name : List ℕ} {c next : Scene} → RunsOut hss_judged r name c next → c.session.by ≡ name → GoesWell c → Names c.world next.world
+  pub runs_names : {name : List ℕ} {c next : Configuration} → RunsOut hss_judged r name c next → c.session.by ≡ name → GoesWell c → Names c.world next.world
   runs_names (runs_over said over) named w b h = h
   runs_names (runs_more {c = c} step rest) named w b h =
       let then_it = well_then w (its_step named step) in runs_names rest (then_it.1 ∙ named) then_it.0 b (step_names r c w.keeps (its_step named step) b h)
 
-  pub steps_one : {name : List ℕ} {count : ℕ} {c one other : Scene} → StepsOn hss_judged r name count c one → StepsOn hss_judged r name count c other → c.session.by ≡ name → GoesWell c → NamesTellApart (named_bytes one.world)
+  pub steps_one : {name : List ℕ} {count : ℕ} {c one other : Configuration} → StepsOn hss_judged r name count c one → StepsOn hss_judged r name count c other → c.session.by ≡ name → GoesWell c → IsCollisionFree (named_bytes one.world)
       → HasMemoryAt one.session → HasMemoryAt other.session → one ≡ other
   steps_one steps_none steps_none named w apart m n = refl
   steps_one (steps_over said over) (steps_over word is) named w apart m n = refl
@@ -370,12 +370,12 @@ module _ (r : ℕ) where
   steps_one {name} {other = other} (steps_more {count} {c} {between} {next} step rest) (steps_more {between = mid} also others) named w apart m n =
       let first = its_step named step in
       let then_it = well_then w first in
-      let apart_mid : NamesTellApart (named_bytes between.world) = apart_then between.world next.world (steps_names rest (then_it.1 ∙ named) then_it.0) apart in
-      let apart_now : NamesTellApart (named_bytes c.world) = apart_then c.world between.world (step_names r c w.keeps first) apart_mid in
+      let apart_mid : IsCollisionFree (named_bytes between.world) = apart_then between.world next.world (steps_names rest (then_it.1 ∙ named) then_it.0) apart in
+      let apart_now : IsCollisionFree (named_bytes c.world) = apart_then c.world between.world (step_names r c w.keeps first) apart_mid in
       let same : between ≡ mid = step_one r c (λ at. (w.keeps, w.hand, apart_now)) first (its_step named also) (steps_memory r rest m) (steps_memory r others n) in
-      steps_one rest (subst (λ (x : Scene). StepsOn hss_judged r name count x other) (sym same) others) (then_it.1 ∙ named) then_it.0 apart m n
+      steps_one rest (subst (λ (x : Configuration). StepsOn hss_judged r name count x other) (sym same) others) (then_it.1 ∙ named) then_it.0 apart m n
 
-  pub runs_one : {name : List ℕ} {c one other : Scene} → RunsOut hss_judged r name c one → RunsOut hss_judged r name c other → c.session.by ≡ name → GoesWell c → NamesTellApart (named_bytes one.world)
+  pub runs_one : {name : List ℕ} {c one other : Configuration} → RunsOut hss_judged r name c one → RunsOut hss_judged r name c other → c.session.by ≡ name → GoesWell c → IsCollisionFree (named_bytes one.world)
       → HasMemoryAt one.session → HasMemoryAt other.session → one ≡ other
   runs_one (runs_over said over) (runs_over word is) named w apart m n = refl
   runs_one (runs_over said over) (runs_more step rest) named w apart m n = absurd (over_steps r step said over)
@@ -383,19 +383,19 @@ module _ (r : ℕ) where
   runs_one {name} {other = other} (runs_more {c} {between} {next} step rest) (runs_more {between = mid} also others) named w apart m n =
       let first = its_step named step in
       let then_it = well_then w first in
-      let apart_mid : NamesTellApart (named_bytes between.world) = apart_then between.world next.world (runs_names rest (then_it.1 ∙ named) then_it.0) apart in
-      let apart_now : NamesTellApart (named_bytes c.world) = apart_then c.world between.world (step_names r c w.keeps first) apart_mid in
+      let apart_mid : IsCollisionFree (named_bytes between.world) = apart_then between.world next.world (runs_names rest (then_it.1 ∙ named) then_it.0) apart in
+      let apart_now : IsCollisionFree (named_bytes c.world) = apart_then c.world between.world (step_names r c w.keeps first) apart_mid in
       let same : between ≡ mid = step_one r c (λ at. (w.keeps, w.hand, apart_now)) first (its_step named also) (runs_memory r rest m) (runs_memory r others n) in
-      runs_one rest (subst (λ (x : Scene). RunsOut hss_judged r name x other) (sym same) others) (then_it.1 ∙ named) then_it.0 apart m n
+      runs_one rest (subst (λ (x : Configuration). RunsOut hss_judged r name x other) (sym same) others) (then_it.1 ∙ named) then_it.0 apart m n
 
-pub sessions_step_once : SessionsStepOnce
-sessions_step_once c one other r keeps hand ringed apart step also m n = step_one r c (λ at. (keeps, hand, apart)) step also m n
+pub session_steps_are_deterministic : SessionStepsAreDeterministic
+session_steps_are_deterministic c one other r keeps hand ringed apart step also m n = step_one r c (λ at. (keeps, hand, apart)) step also m n
 
-pub many_steps_are_one : ManyStepsAreOne
-many_steps_are_one c one other r count keeps hand ringed apart steps also m n = steps_one r steps also refl (record { keeps = keeps; hand = hand; ringed = ringed }) apart m n
+pub many_steps_are_deterministic : ManyStepsAreDeterministic
+many_steps_are_deterministic c one other r count keeps hand ringed apart steps also m n = steps_one r steps also refl (record { keeps = keeps; hand = hand; ringed = ringed }) apart m n
 
-pub sessions_end_once : SessionsEndOnce
-sessions_end_once c one other r keeps hand ringed apart runs also m n = runs_one r runs also refl (record { keeps = keeps; hand = hand; ringed = ringed }) apart m n
+pub session_ends_are_deterministic : SessionEndsAreDeterministic
+session_ends_are_deterministic c one other r keeps hand ringed apart runs also m n = runs_one r runs also refl (record { keeps = keeps; hand = hand; ringed = ringed }) apart m n
 
 -- ---- a session that only publishes
 
@@ -429,22 +429,22 @@ module _ (r : ℕ) where
   fails_quiet {s} (fails notes given miss xid asked at refreshed asks_it) quiet = absurd (quiet_still s quiet at)
   fails_quiet (goes_on none) quiet = quiet
 
-  settles_quiet : {a : Agent} {s : Session} {after : Agent} {t : Session} → Settles a s after t → IsQuiet s.stage → IsQuiet t.stage
+  settles_quiet : {a : HssAgent} {s : Session} {after : HssAgent} {t : Session} → Settles a s after t → IsQuiet s.stage → IsQuiet t.stage
   settles_quiet (settles_all said acks at) quiet = subst IsQuiet at quiet
 
-  acts_quiet : {p : Participant} {c next : Scene} → Acts hss_judged r p c next → IsQuiet c.session.stage → IsQuiet next.session.stage
+  acts_quiet : {p : Participant} {c next : Configuration} → Acts hss_judged r p c next → IsQuiet c.session.stage → IsQuiet next.session.stage
   acts_quiet {c = c} (asks node question answer next heard t cache fate hears goes) quiet = fails_quiet goes (hears_quiet hears quiet)
   acts_quiet {c = c} (asks_in_vain node question answer next heard t cache fate hears lacking) quiet = absurd (quiet_still c.session quiet (lacking_at r lacking))
   acts_quiet {c = c} (turns view reply applied after saving t turned in_view takes replies is_turn) quiet = absurd (quiet_still c.session quiet (had_refreshed takes).done.0)
   acts_quiet {c = c} (is_refused view end after saving t in_view refusal takes) quiet = absurd (quiet_still c.session quiet (had_refreshed takes).done.0)
   acts_quiet {c = c} (settles after t is) quiet = settles_quiet is quiet
 
-  step_quiet : {name : List ℕ} {c next : Scene} → Steps hss_judged r name c next → IsQuiet c.session.stage → IsQuiet next.session.stage
+  step_quiet : {name : List ℕ} {c next : Configuration} → Steps hss_judged r name c next → IsQuiet c.session.stage → IsQuiet next.session.stage
   step_quiet {c = c} (acts p taken cache next is_p takes act) quiet = acts_quiet act (subst (λ (t : Session). IsQuiet t.stage) (sym (none_taken r (quiet_still c.session quiet) takes)) quiet)
   step_quiet {c = c} (lacks_memory p taken t cache is_p takes lacking) quiet =
       absurd (quiet_still c.session quiet (ap (λ (u : Session). u.stage) (sym (nothing_taken r (quiet_still c.session quiet) takes)) ∙ lacking_at r lacking))
 
-  quiet_runs : {name : List ℕ} {c one other : Scene} → RunsOut hss_judged r name c one → RunsOut hss_judged r name c other → c.session.by ≡ name → IsQuiet c.session.stage → one ≡ other
+  quiet_runs : {name : List ℕ} {c one other : Configuration} → RunsOut hss_judged r name c one → RunsOut hss_judged r name c other → c.session.by ≡ name → IsQuiet c.session.stage → one ≡ other
   quiet_runs (runs_over said over) (runs_over word is) named quiet = refl
   quiet_runs (runs_over said over) (runs_more step rest) named quiet = absurd (over_steps r step said over)
   quiet_runs (runs_more step rest) (runs_over said over) named quiet = absurd (over_steps r step said over)
@@ -452,9 +452,9 @@ module _ (r : ℕ) where
       let first : Steps hss_judged r c.session.by c between = subst (λ (n : List ℕ). Steps hss_judged r n c between) (sym named) step in
       let second : Steps hss_judged r c.session.by c mid = subst (λ (n : List ℕ). Steps hss_judged r n c mid) (sym named) also in
       let same : between ≡ mid = step_one r c (λ at. absurd (quiet_still c.session quiet at)) first second (quiet_memory between.session (step_quiet first quiet)) (quiet_memory mid.session (step_quiet second quiet)) in
-      quiet_runs rest (subst (λ (x : Scene). RunsOut hss_judged r name x other) (sym same) others) ((step_same r name c between step).0 ∙ named) (step_quiet first quiet)
+      quiet_runs rest (subst (λ (x : Configuration). RunsOut hss_judged r name x other) (sym same) others) ((step_same r name c between step).0 ∙ named) (step_quiet first quiet)
 
-pub publishing_is_one : PublishingIsOne
-publishing_is_one r w p one other published also =
+pub publishing_is_deterministic : PublishingIsDeterministic
+publishing_is_deterministic r w p one other published also =
     let same = quiet_runs r published.1 also.1 refl refl in
-    published.2 ∙ ap (λ (c : Scene). (c.world, c.story)) same ∙ sym also.2
+    published.2 ∙ ap (λ (c : Configuration). (c.world, c.ghost_state)) same ∙ sym also.2

@@ -1,4 +1,4 @@
--- Open sessions: each is in hand, and where others that are stand in their place the world keeps what it should.
+-- Open sessions: each is in hand, and where others that are stand in their place the invariant holds of the world.
 use Rattle.std.proofs.Common.{◌≡◌, ℕ, ◌+◌, ◌≤◌, ◌<◌, Bool, true, false, cond, List, [], ◌∷◌, ◌++◌, map, filter, Option, Some, None, refl, sym, ap, ◌∙◌, subst, arith, le_refl, Contains, not}
 use Rattle.std.specs.Prelude.{is_some, option_map}
 use Rattle.std.specs.List.{find}
@@ -7,16 +7,16 @@ use Rattle.std.specs.Str.{bytes_eq}
 use Rattle.log_model.proofs.Lists.{each, each_from, from_filter}
 use Rattle.script_model.specs.Messages.{Given}
 use Rattle.session_model.specs.Sessions.{Said, Session}
-use Rattle.world_model.specs.Calls.{replied, scene_of}
+use Rattle.world_model.specs.Calls.{replied, configuration_of}
 use Rattle.world_model.specs.World.{World, NamedSession, session_named, with_session, without_session}
-use Rattle.world_model.specs.Story.{Began, HadTurn, Story, began_nothing, began_of, having_begun, with_began, without_began}
+use Rattle.world_model.specs.GhostState.{Began, HadTurn, GhostState, began_nothing, began_of, having_begun, with_began, without_began}
 use Rattle.world_model.specs.Logs.{Played}
-use Rattle.world_model.specs.Steps.{Scene}
+use Rattle.world_model.specs.Steps.{Configuration}
 use Rattle.world_laws.specs.Causes.{HasCause, said_at}
 use Rattle.world_laws.specs.Causes.HasCause.{alone, missed, turned, no_memory}
 use Rattle.world_laws.specs.Frames.{unchanged}
-use Rattle.world_laws.specs.Keeps.{AreApart, EntersOwned, GoesOn, HasRing, HasSaid, IsInHand, IsSoundSession, Keeps}
-use Rattle.world_laws.proofs.Frames.{goes_on_still, into_map, no_changes, of_ring, ring_of, unchanged_mild, world_changes}
+use Rattle.world_laws.specs.Invariant.{AreApart, EntersOwned, GoesOn, HasRing, HasSaid, IsInHand, IsSoundSession, Invariant}
+use Rattle.world_laws.proofs.Frames.{goes_on_still, into_map, no_changes, of_ring, ring_of, unchanged_within_frame, world_changes}
 use Rattle.world_laws.proofs.Placed.{apart_left, find_left, find_other, find_own, found_among, names_left, names_placed, other_name, placed, same_name}
 use Rattle.world_laws.proofs.SignedHeads.{from_map}
 
@@ -29,20 +29,20 @@ Named = List ℕ × Began
 abbrev began_name : Named → List ℕ
 began_name b = b.0
 
--- ---- causes and soundness, where the story tells of other sessions
+-- ---- causes and soundness, where the ghost state tells of other sessions
 
-pub cause_told : (st su : Story) (n : ℕ) (s : Session) (said : Said) → su.turns ≡ st.turns → HasCause st n s said → HasCause su n s said
+pub cause_told : (st su : GhostState) (n : ℕ) (s : Session) (said : Said) → su.turns ≡ st.turns → HasCause st n s said → HasCause su n s said
 cause_told st su n s _ same (alone given by) = alone given by
 cause_told st su n s _ same (missed xid asked given miss asks refreshed is) = missed xid asked given miss asks refreshed is
 cause_told st su n s _ same (turned h xid asked given among of asks refreshed) = turned h xid asked given (subst (λ (turns : List HadTurn). Contains turns h) (sym same) among) of asks refreshed
 cause_told st su n s _ same (no_memory xid asked asks) = no_memory xid asked asks
 
-pub said_told : (st su : Story) (n : ℕ) (s : Session) (o : Option Said) → su.turns ≡ st.turns → HasSaid st n s o → HasSaid su n s o
+pub said_told : (st su : GhostState) (n : ℕ) (s : Session) (o : Option Said) → su.turns ≡ st.turns → HasSaid st n s o → HasSaid su n s o
 said_told st su n s None same h = tt
 said_told st su n s (Some said) same h = cause_told st su n s said same h
 
 -- a session stays sound where other sessions are open, and other calls began
-sound_moved : (w : World) (st : Story) (sessions : List NamedSession) (told : List Named) (begun : ℕ) (s : Session) (b : Began) → IsSoundSession w st s b
+sound_moved : (w : World) (st : GhostState) (sessions : List NamedSession) (told : List Named) (begun : ℕ) (s : Session) (b : Began) → IsSoundSession w st s b
     → IsSoundSession (record w { sessions = sessions }) (record st { sessions = told; begun = begun }) s b
 sound_moved w st sessions told begun s b h = record {
   by = h.by;
@@ -63,13 +63,13 @@ sound_moved w st sessions told begun s b h = record {
 
 -- ---- open sessions
 
-module _ (w : Played) (keeps : Keeps w) (r : ℕ) (ringed : w.0.replicas ≡ Some r) where
+module _ (w : Played) (keeps : Invariant w) (r : ℕ) (ringed : w.0.replicas ≡ Some r) where
   -- the session of that name and number in the world, of which so many calls began
-  abbrev pub scene : ℕ → Session → Began → Scene
-  scene begun s b = record { world = w.0; story = record w.1 { begun = begun }; session = s; began = b }
+  abbrev pub configuration : ℕ → Session → Began → Configuration
+  configuration begun s b = record { world = w.0; ghost_state = record w.1 { begun = begun }; session = s; began = b }
 
   -- each open session is in hand, however many calls begin after it
-  pub open_hand : (begun : ℕ) → w.1.begun ≤ begun → (x : NamedSession) → Contains w.0.sessions x → IsInHand (scene begun x.session (began_of w.1 x.name)) r
+  pub open_hand : (begun : ℕ) → w.1.begun ≤ begun → (x : NamedSession) → Contains w.0.sessions x → IsInHand (configuration begun x.session (began_of w.1 x.name)) r
   open_hand begun later x among = record {
     number = let below = each (λ (y : NamedSession). (began_of w.1 y.name).number < w.1.begun) w.0.sessions x keeps.numbers.sessions among in omega (arith, below, later);
     goes_on = each (λ (y : NamedSession). GoesOn w.0 r y.session) w.0.sessions x (ring_of w keeps ringed).3 among;
@@ -80,17 +80,17 @@ module _ (w : Played) (keeps : Keeps w) (r : ℕ) (ringed : w.0.replicas ≡ Som
   }
 
   -- the session of that name is in hand
-  pub named_hand : (name : List ℕ) (s : Session) → session_named w.0 name ≡ Some s → IsInHand (scene_of w s (began_of w.1 name)) r × Contains (map session_name w.0.sessions) name
+  pub named_hand : (name : List ℕ) (s : Session) → session_named w.0 name ≡ Some s → IsInHand (configuration_of w s (began_of w.1 name)) r × Contains (map session_name w.0.sessions) name
   named_hand name s is = by (find (λ (x : NamedSession). bytes_eq x.name name) w.0.sessions) refl is
     where
       by : (o : Option NamedSession) → find (λ (x : NamedSession). bytes_eq x.name name) w.0.sessions ≡ o → option_map (λ (x : NamedSession). x.session) o ≡ Some s
-          → IsInHand (scene_of w s (began_of w.1 name)) r × Contains (map session_name w.0.sessions) name
+          → IsInHand (configuration_of w s (began_of w.1 name)) r × Contains (map session_name w.0.sessions) name
       by None found e = cc e
       by (Some x) found e =
           let its = found_among session_name w.0.sessions name x found in
           let same : x.session ≡ s = cc e in (
-            subst (λ (t : Session). IsInHand (scene_of w t (began_of w.1 name)) r) same
-                (subst (λ (n : List ℕ). IsInHand (scene_of w x.session (began_of w.1 n)) r) its.1 (open_hand w.1.begun (le_refl w.1.begun) x its.0)),
+            subst (λ (t : Session). IsInHand (configuration_of w t (began_of w.1 name)) r) same
+                (subst (λ (n : List ℕ). IsInHand (configuration_of w x.session (began_of w.1 n)) r) its.1 (open_hand w.1.begun (le_refl w.1.begun) x its.0)),
             subst (Contains (map session_name w.0.sessions)) its.1 (into_map session_name w.0.sessions x its.0),
           )
 
@@ -99,7 +99,7 @@ module _ (w : Played) (keeps : Keeps w) (r : ℕ) (ringed : w.0.replicas ≡ Som
     abbrev v : World
     v = record w.0 { sessions = sessions }
 
-    abbrev su : Story
+    abbrev su : GhostState
     su = record w.1 { sessions = told; begun = begun }
 
     -- What has to hold of them: they are told of, each has its name and its number alone, and each is in hand.
@@ -107,9 +107,9 @@ module _ (w : Played) (keeps : Keeps w) (r : ℕ) (ringed : w.0.replicas ≡ Som
       pub told_of : map began_name told ≡ map session_name sessions
       pub named_once : AreApart (map session_name sessions)
       pub numbered : (x y : NamedSession) → Contains sessions x → Contains sessions y → (began_of su x.name).number ≡ (began_of su y.name).number → x ≡ y
-      pub each_hand : (x : NamedSession) → Contains sessions x → IsInHand (scene begun x.session (began_of su x.name)) r
+      pub each_hand : (x : NamedSession) → Contains sessions x → IsInHand (configuration begun x.session (began_of su x.name)) r
 
-    pub sessions_keep : AreOpen → Keeps (v, su)
+    pub sessions_keep : AreOpen → Invariant (v, su)
     sessions_keep open_so = record {
       fits = record { participants = keeps.fits.participants; sessions = open_so.told_of };
       ring = subst (HasRing v) (sym ringed) (
@@ -147,7 +147,7 @@ module _ (w : Played) (keeps : Keeps w) (r : ℕ) (ringed : w.0.replicas ≡ Som
 
   -- ---- one call more began
 
-  pub begun_keeps : Keeps (w.0, having_begun w.1)
+  pub begun_keeps : Invariant (w.0, having_begun w.1)
   begun_keeps = sessions_keep w.0.sessions w.1.sessions (w.1.begun + 1) (omega arith) (record {
     told_of = keeps.fits.sessions;
     named_once = keeps.named_once;
@@ -157,14 +157,14 @@ module _ (w : Played) (keeps : Keeps w) (r : ℕ) (ringed : w.0.replicas ≡ Som
 
   -- ---- a session is put back
 
-  module _ (name : List ℕ) (s : Session) (b : Began) (opened : Contains (map session_name w.0.sessions) name) (number : b.number ≡ (began_of w.1 name).number) (hand : IsInHand (scene_of w s b) r) where
+  module _ (name : List ℕ) (s : Session) (b : Began) (opened : Contains (map session_name w.0.sessions) name) (number : b.number ≡ (began_of w.1 name).number) (hand : IsInHand (configuration_of w s b) r) where
     abbrev new : NamedSession
     new = record { name = name; session = s }
 
     abbrev put : NamedSession → NamedSession
     put = placed session_name new
 
-    abbrev told_then : Story
+    abbrev told_then : GhostState
     told_then = with_began w.1 name b
 
     began_new : began_of told_then name ≡ b
@@ -180,17 +180,17 @@ module _ (w : Played) (keeps : Keeps w) (r : ℕ) (ringed : w.0.replicas ≡ Som
         by true is = ap (λ (o : Began). o.number) began_new ∙ number ∙ ap (λ (n : List ℕ). (began_of w.1 n).number) (sym (same_name x.name name is))
         by false other = ap (λ (o : Began). o.number) (began_other x.name other)
 
-    hand_then : (x : NamedSession) → Contains w.0.sessions x → IsInHand (scene w.1.begun (put x).session (began_of told_then (put x).name)) r
+    hand_then : (x : NamedSession) → Contains w.0.sessions x → IsInHand (configuration w.1.begun (put x).session (began_of told_then (put x).name)) r
     hand_then x among = by (bytes_eq x.name name) refl
       where
-        by : (t : Bool) → bytes_eq x.name name ≡ t → IsInHand (scene w.1.begun (cond t new x).session (began_of told_then (cond t new x).name)) r
-        by true is = subst (λ (o : Began). IsInHand (scene w.1.begun s o) r) (sym began_new) hand
-        by false other = subst (λ (o : Began). IsInHand (scene w.1.begun x.session o) r) (sym (began_other x.name other)) (open_hand w.1.begun (le_refl w.1.begun) x among)
+        by : (t : Bool) → bytes_eq x.name name ≡ t → IsInHand (configuration w.1.begun (cond t new x).session (began_of told_then (cond t new x).name)) r
+        by true is = subst (λ (o : Began). IsInHand (configuration w.1.begun s o) r) (sym began_new) hand
+        by false other = subst (λ (o : Began). IsInHand (configuration w.1.begun x.session o) r) (sym (began_other x.name other)) (open_hand w.1.begun (le_refl w.1.begun) x among)
 
     names : map session_name (map put w.0.sessions) ≡ map session_name w.0.sessions
     names = names_placed session_name new w.0.sessions
 
-    pub back_keeps : Keeps (with_session w.0 name s, told_then)
+    pub back_keeps : Invariant (with_session w.0 name s, told_then)
     back_keeps = sessions_keep (map put w.0.sessions) told_then.sessions w.1.begun (le_refl w.1.begun) (record {
       told_of = names_placed began_name (name, b) w.1.sessions ∙ keeps.fits.sessions ∙ sym names;
       named_once = subst AreApart (sym names) keeps.named_once;
@@ -202,7 +202,7 @@ module _ (w : Played) (keeps : Keeps w) (r : ℕ) (ringed : w.0.replicas ≡ Som
           a.2 ∙ ap put (keeps.numbers.apart a.0 c.0 a.1 c.1 (sym is ∙ same ∙ also)) ∙ sym c.2;
       each_hand = λ x x_in.
           let a = from_map put w.0.sessions x x_in in
-          subst (λ (y : NamedSession). IsInHand (scene w.1.begun y.session (began_of told_then y.name)) r) (sym a.2) (hand_then a.0 a.1);
+          subst (λ (y : NamedSession). IsInHand (configuration w.1.begun y.session (began_of told_then y.name)) r) (sym a.2) (hand_then a.0 a.1);
     })
       where
         began_number : NamedSession → ℕ
@@ -210,12 +210,12 @@ module _ (w : Played) (keeps : Keeps w) (r : ℕ) (ringed : w.0.replicas ≡ Som
 
   -- ---- a session is closed
 
-  pub closed_keeps : (name : List ℕ) → Keeps (without_session w.0 name, without_began w.1 name)
+  pub closed_keeps : (name : List ℕ) → Invariant (without_session w.0 name, without_began w.1 name)
   closed_keeps name = sessions_keep (filter stays w.0.sessions) (without_began w.1 name).sessions w.1.begun (le_refl w.1.begun) (record {
     told_of = names_left began_name other w.1.sessions ∙ ap (filter other) keeps.fits.sessions ∙ sym (names_left session_name other w.0.sessions);
     named_once = apart_left session_name stays w.0.sessions keeps.named_once;
     numbered = λ x y x_in y_in same. keeps.numbers.apart x y (left x x_in).0 (left y y_in).0 (ap (λ (b : Began). b.number) (sym (same_began x x_in)) ∙ same ∙ ap (λ (b : Began). b.number) (same_began y y_in));
-    each_hand = λ x x_in. subst (λ (b : Began). IsInHand (scene w.1.begun x.session b) r) (sym (same_began x x_in)) (open_hand w.1.begun (le_refl w.1.begun) x (left x x_in).0);
+    each_hand = λ x x_in. subst (λ (b : Began). IsInHand (configuration w.1.begun x.session b) r) (sym (same_began x x_in)) (open_hand w.1.begun (le_refl w.1.begun) x (left x x_in).0);
   })
     where
       other : List ℕ → Bool
@@ -232,10 +232,10 @@ module _ (w : Played) (keeps : Keeps w) (r : ℕ) (ringed : w.0.replicas ≡ Som
 
 -- ---- a reply is shown
 
-pub replied_keeps : (w : Played) (said : Said) → Keeps w → Keeps (replied w.0 said, w.1)
+pub replied_keeps : (w : Played) (said : Said) → Invariant w → Invariant (replied w.0 said, w.1)
 replied_keeps w said keeps = by (is_some said.message)
   where
-    counts : (replies : List Given) → Keeps (record w.0 { replies = replies }, w.1)
+    counts : (replies : List Given) → Invariant (record w.0 { replies = replies }, w.1)
     counts replies = world_changes w (record (no_changes w) { replies = replies }) keeps (record {
       peers = λ p h. h;
       made = keeps.peers;
@@ -244,9 +244,9 @@ replied_keeps w said keeps = by (is_some said.message)
       views = keeps.met.views;
       moment = keeps.moment;
       grows = λ b h. h;
-      each = unchanged_mild w keeps w.0.met (λ b h. h);
+      each = unchanged_within_frame w keeps w.0.met (λ b h. h);
     })
 
-    by : (t : Bool) → Keeps (cond t (record w.0 { replies = w.0.replies ++ record { handle = said.handle; verifier = said.verifier } ∷ [] }) w.0, w.1)
+    by : (t : Bool) → Invariant (cond t (record w.0 { replies = w.0.replies ++ record { handle = said.handle; verifier = said.verifier } ∷ [] }) w.0, w.1)
     by true = counts (w.0.replies ++ record { handle = said.handle; verifier = said.verifier } ∷ [])
     by false = keeps

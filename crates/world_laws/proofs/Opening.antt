@@ -1,4 +1,4 @@
--- The line that opens a session leaves a world that keeps what it should.
+-- The line that opens a session leaves a world in which the invariant holds.
 use Rattle.std.proofs.Common.{◌≡◌, ◌⊎◌, inl, inr, ⊎_elim, ℕ, ◌+◌, ◌<◌, Bool, true, false, cond, List, [], ◌∷◌, ◌++◌, map, Option, Some, None, refl, sym, ap, ◌∙◌, subst, arith, Contains}
 use Rattle.std.specs.Prelude.{is_some, option_map}
 use Rattle.std.specs.List.{find}
@@ -17,14 +17,14 @@ use Rattle.session_model.specs.Sessions.{Session}
 use Rattle.world_model.specs.Calls.{BeginsWith, OpenLine, Sending, sending_of}
 use Rattle.world_model.specs.Calls.OpenLine.{sends_nothing, is_open, opens}
 use Rattle.world_model.specs.World.{World, NamedSession, Participant, participant, session_named}
-use Rattle.world_model.specs.Story.{Began, Story, began_nothing, began_of, beginning, having_begun}
+use Rattle.world_model.specs.GhostState.{Began, GhostState, began_nothing, began_of, beginning, having_begun}
 use Rattle.world_model.specs.Logs.{Played}
-use Rattle.world_laws.specs.Keeps.{AreApart, HasRing, IsInHand, Keeps}
+use Rattle.world_laws.specs.Invariant.{AreApart, HasRing, IsInHand, Invariant}
 use Rattle.world_laws.specs.Laws.{OpenLineKeeps}
 use Rattle.world_laws.proofs.Beginning.{calls_begin}
 use Rattle.world_laws.proofs.Bringing.{found_named}
 use Rattle.world_laws.proofs.Frames.{into_map}
-use Rattle.world_laws.proofs.OpenSessions.{open_hand, scene, sessions_keep}
+use Rattle.world_laws.proofs.OpenSessions.{open_hand, configuration, sessions_keep}
 
 -- ---- lists
 
@@ -74,7 +74,7 @@ not_open (s ∷ sessions) name closed h = by (bytes_eq s.name name) refl closed 
 
 -- ---- the line
 
-module _ (w : Played) (name : List ℕ) (s : Sending) (t : Session) (keeps : Keeps w) (is_by : participant w.0 s.by.name ≡ Some s.by) (in_view : s.by.agent.view ≡ Some s.view) (closed : is_some (session_named w.0 name) ≡ false)
+module _ (w : Played) (name : List ℕ) (s : Sending) (t : Session) (keeps : Invariant w) (is_by : participant w.0 s.by.name ≡ Some s.by) (in_view : s.by.agent.view ≡ Some s.view) (closed : is_some (session_named w.0 name) ≡ false)
     (begins : BeginsWith w.0 s t) where
   abbrev new : NamedSession
   new = record { name = name; session = t }
@@ -85,21 +85,21 @@ module _ (w : Played) (name : List ℕ) (s : Sending) (t : Session) (keeps : Kee
   abbrev opened : World
   opened = record w.0 { sessions = w.0.sessions ++ new ∷ [] }
 
-  abbrev story : Story
-  story = record (having_begun w.1) { sessions = w.1.sessions ++ (name, its) ∷ [] }
+  abbrev ghost_state : GhostState
+  ghost_state = record (having_begun w.1) { sessions = w.1.sessions ++ (name, its) ∷ [] }
 
   not_named : Contains (map (λ (x : NamedSession). x.name) w.0.sessions) name → ⊥
   not_named h = not_open w.0.sessions name closed h
 
-  same_began : (x : NamedSession) → Contains w.0.sessions x → began_of story x.name ≡ began_of w.1 x.name
+  same_began : (x : NamedSession) → Contains w.0.sessions x → began_of ghost_state x.name ≡ began_of w.1 x.name
   same_began x among = ap (λ (o : Option Named). option_map_or (λ (b : Named). b.1) o began_nothing)
       (found_before w.1.sessions (name, its) x.name (subst (λ (names : List (List ℕ)). Contains names x.name) (sym keeps.fits.sessions) (into_map (λ (y : NamedSession). y.name) w.0.sessions x among)))
 
-  its_began : began_of story name ≡ its
+  its_began : began_of ghost_state name ≡ its
   its_began = ap (λ (o : Option Named). option_map_or (λ (b : Named). b.1) o began_nothing)
       (found_last w.1.sessions (name, its) (λ h. not_named (subst (λ (names : List (List ℕ)). Contains names name) keeps.fits.sessions h)))
 
-  hand_in : (r : ℕ) → w.0.replicas ≡ Some r → IsInHand (record { world = w.0; story = having_begun w.1; session = t; began = its }) r
+  hand_in : (r : ℕ) → w.0.replicas ≡ Some r → IsInHand (record { world = w.0; ghost_state = having_begun w.1; session = t; began = its }) r
   hand_in r ringed = calls_begin w r s t keeps ringed is_by in_view begins
 
   there_is : (ps : List Participant) → ps ≡ [] → Contains ps s.by → ⊥
@@ -107,42 +107,42 @@ module _ (w : Played) (name : List ℕ) (s : Sending) (t : Session) (keeps : Kee
   there_is (q ∷ ps) e h = cc e
 
   module _ (r : ℕ) (ringed : w.0.replicas ≡ Some r) where
-    hand : IsInHand (record { world = w.0; story = having_begun w.1; session = t; began = its }) r
+    hand : IsInHand (record { world = w.0; ghost_state = having_begun w.1; session = t; began = its }) r
     hand = hand_in r ringed
 
-    number_of : (x : NamedSession) → Contains w.0.sessions x → (began_of story x.name).number < w.1.begun
+    number_of : (x : NamedSession) → Contains w.0.sessions x → (began_of ghost_state x.name).number < w.1.begun
     number_of x among = subst (λ (b : Began). b.number < w.1.begun) (sym (same_began x among)) (each (λ (y : NamedSession). (began_of w.1 y.name).number < w.1.begun) w.0.sessions x keeps.numbers.sessions among)
 
-    number_is : (began_of story name).number ≡ w.1.begun
+    number_is : (began_of ghost_state name).number ≡ w.1.begun
     number_is = ap (λ (b : Began). b.number) its_began
 
-    by_number : (x y : NamedSession) → Contains w.0.sessions x ⊎ Contains (new ∷ []) x → Contains w.0.sessions y ⊎ Contains (new ∷ []) y → (began_of story x.name).number ≡ (began_of story y.name).number → x ≡ y
+    by_number : (x y : NamedSession) → Contains w.0.sessions x ⊎ Contains (new ∷ []) x → Contains w.0.sessions y ⊎ Contains (new ∷ []) y → (began_of ghost_state x.name).number ≡ (began_of ghost_state y.name).number → x ≡ y
     by_number x y (inl a) (inl b) e = keeps.numbers.apart x y a b (sym (ap (λ (o : Began). o.number) (same_began x a)) ∙ e ∙ ap (λ (o : Began). o.number) (same_began y b))
     by_number x y (inl a) (inr b) e = ⊎_elim
-        (λ is. absurd (let below = number_of x a in let same : (began_of story y.name).number ≡ w.1.begun = subst (λ (o : NamedSession). (began_of story o.name).number ≡ w.1.begun) is number_is in omega (arith, below, same, e)))
+        (λ is. absurd (let below = number_of x a in let same : (began_of ghost_state y.name).number ≡ w.1.begun = subst (λ (o : NamedSession). (began_of ghost_state o.name).number ≡ w.1.begun) is number_is in omega (arith, below, same, e)))
         (λ none. absurd (in_nothing y none)) (in_cons new [] y b)
     by_number x y (inr a) (inl b) e = ⊎_elim
-        (λ is. absurd (let below = number_of y b in let same : (began_of story x.name).number ≡ w.1.begun = subst (λ (o : NamedSession). (began_of story o.name).number ≡ w.1.begun) is number_is in omega (arith, below, same, e)))
+        (λ is. absurd (let below = number_of y b in let same : (began_of ghost_state x.name).number ≡ w.1.begun = subst (λ (o : NamedSession). (began_of ghost_state o.name).number ≡ w.1.begun) is number_is in omega (arith, below, same, e)))
         (λ none. absurd (in_nothing x none)) (in_cons new [] x a)
     by_number x y (inr a) (inr b) e = ⊎_elim (λ is. ⊎_elim (λ also. sym is ∙ also) (λ none. absurd (in_nothing y none)) (in_cons new [] y b)) (λ none. absurd (in_nothing x none)) (in_cons new [] x a)
 
-    hand_of : (x : NamedSession) → Contains opened.sessions x → IsInHand (scene w keeps r ringed (w.1.begun + 1) x.session (began_of story x.name)) r
+    hand_of : (x : NamedSession) → Contains opened.sessions x → IsInHand (configuration w keeps r ringed (w.1.begun + 1) x.session (began_of ghost_state x.name)) r
     hand_of x among = ⊎_elim
-        (λ old. subst (λ (b : Began). IsInHand (scene w keeps r ringed (w.1.begun + 1) x.session b) r) (sym (same_began x old)) (open_hand w keeps r ringed (w.1.begun + 1) (omega arith) x old))
+        (λ old. subst (λ (b : Began). IsInHand (configuration w keeps r ringed (w.1.begun + 1) x.session b) r) (sym (same_began x old)) (open_hand w keeps r ringed (w.1.begun + 1) (omega arith) x old))
         (λ one. ⊎_elim
-        (λ is. subst (λ (y : NamedSession). IsInHand (scene w keeps r ringed (w.1.begun + 1) y.session (began_of story y.name)) r) is (subst (λ (b : Began). IsInHand (scene w keeps r ringed (w.1.begun + 1) t b) r) (sym its_began) hand))
+        (λ is. subst (λ (y : NamedSession). IsInHand (configuration w keeps r ringed (w.1.begun + 1) y.session (began_of ghost_state y.name)) r) is (subst (λ (b : Began). IsInHand (configuration w keeps r ringed (w.1.begun + 1) t b) r) (sym its_began) hand))
         (λ none. absurd (in_nothing x none)) (in_cons new [] x one))
         (Contains-append_cases w.0.sessions (new ∷ []) x among)
 
-    keeps_then : Keeps (opened, story)
-    keeps_then = sessions_keep w keeps r ringed opened.sessions story.sessions (w.1.begun + 1) (omega arith) (record {
+    keeps_then : Invariant (opened, ghost_state)
+    keeps_then = sessions_keep w keeps r ringed opened.sessions ghost_state.sessions (w.1.begun + 1) (omega arith) (record {
       told_of = map_one (λ (b : Named). b.0) w.1.sessions (name, its) ∙ ap (λ (names : List (List ℕ)). names ++ name ∷ []) keeps.fits.sessions ∙ sym (map_one (λ (x : NamedSession). x.name) w.0.sessions new);
       named_once = subst AreApart (sym (map_one (λ (x : NamedSession). x.name) w.0.sessions new)) (apart_one (map (λ (x : NamedSession). x.name) w.0.sessions) name keeps.named_once not_named);
       numbered = λ x y a b e. by_number x y (Contains-append_cases w.0.sessions (new ∷ []) x a) (Contains-append_cases w.0.sessions (new ∷ []) y b) e;
       each_hand = hand_of;
     })
 
-  opened_so : (o : Option ℕ) → w.0.replicas ≡ o → Keeps (opened, story)
+  opened_so : (o : Option ℕ) → w.0.replicas ≡ o → Invariant (opened, ghost_state)
   opened_so None none = absurd (there_is w.0.participants (subst (HasRing w.0) none keeps.ring).1 (found_named w.0.participants s.by.name s.by is_by).0)
   opened_so (Some r) ringed = keeps_then r ringed
 
@@ -174,13 +174,13 @@ sent_of w name pieces (Some p) s is e = let parts = sent_view w pieces p p.agent
 pub sent_by : (w : World) (name : List ℕ) (pieces : List Piece) (s : Sending) → sending_of w name pieces ≡ Some s → IsSent w name pieces s
 sent_by w name pieces s is = sent_of w name pieces (participant w name) s refl is
 
-by_line : (session name : List ℕ) (pieces : List Piece) (w next : Played) (output : List ℕ) (o : Option Sending) (result : Outcome Played) → Keeps w → sending_of w.0 name pieces ≡ o → OpenLine hss_judged w session o result → result ≡ Goes next output → Keeps next
+by_line : (session name : List ℕ) (pieces : List Piece) (w next : Played) (output : List ℕ) (o : Option Sending) (result : Outcome Played) → Invariant w → sending_of w.0 name pieces ≡ o → OpenLine hss_judged w session o result → result ≡ Goes next output → Invariant next
 by_line session name pieces w next output _ _ keeps is sends_nothing e = cc e
 by_line session name pieces w next output _ _ keeps is (is_open s already) e = cc e
 by_line session name pieces w next output _ _ keeps is (opens s t closed begins) e =
     let sent = sent_by w.0 name pieces s is in
     let named : s.by.name ≡ name = (found_named w.0.participants name s.by sent.is_by).1 in
-    subst Keeps (cc e) (opened_so w session s t keeps (subst (λ (n : List ℕ). participant w.0 n ≡ Some s.by) (sym named) sent.is_by) sent.in_view closed begins w.0.replicas refl)
+    subst Invariant (cc e) (opened_so w session s t keeps (subst (λ (n : List ℕ). participant w.0 n ≡ Some s.by) (sym named) sent.is_by) sent.in_view closed begins w.0.replicas refl)
 
 pub open_line_keeps : OpenLineKeeps
 open_line_keeps session log pieces w next output keeps does = by_line session log pieces w next output (sending_of w.0 log pieces) (Goes next output) keeps refl does refl

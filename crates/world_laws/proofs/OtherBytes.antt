@@ -4,17 +4,17 @@ use Rattle.std.specs.Prelude.{IfSome}
 use Rattle.std.specs.List.{AllByRecursion}
 use Rattle.std.specs.Str.{bytes_eq}
 use Rattle.ring_model.proofs.Lists.{all_weaker}
-use Rattle.ivy_base.specs.Naming.{NamesTellApart}
+use Rattle.ivy_base.specs.Naming.{IsCollisionFree}
 use Rattle.log_model.proofs.Lists.{each}
 use Rattle.log_model.specs.View.{View}
 use Rattle.block_cache.specs.Blocks.{IsCache}
 use Rattle.session_laws.specs.Loading.{IsSnapshotOf}
 use Rattle.turn_model.specs.Basis.{nothing_held}
-use Rattle.world_model.specs.Agents.{own}
+use Rattle.world_model.specs.Agents.{own_hss_key}
 use Rattle.world_model.specs.World.{World, NamedSession, Participant, named_bytes, participant, with_participant}
-use Rattle.world_model.specs.Story.{began_of, knowing_of, known_of}
+use Rattle.world_model.specs.GhostState.{began_of, knowing_of, known_of}
 use Rattle.world_model.specs.Logs.{Played}
-use Rattle.world_laws.specs.Keeps.{AreApart, AreParticipants, AreSound, EntersOwned, GoesOn, HasRing, IsKeptSo, IsMetPost, IsSavedWell, IsSoundIn, IsSoundKeptIn, Keeps, SignsOnce}
+use Rattle.world_laws.specs.Invariant.{AreApart, AreParticipants, AreSound, EntersOwned, GoesOn, HasRing, IsKeptSo, IsMetPost, IsSavedWell, IsSoundIn, IsSoundKeptIn, Invariant, SignsOnce}
 use Rattle.world_laws.specs.Frames.{Change, changed, unchanged}
 use Rattle.world_laws.proofs.Bringing.{found_named}
 use Rattle.world_laws.proofs.Frames.{all_mapped, found_mapped, goes_on_still, one_named, same_keys, same_map, sound_still, still_participants}
@@ -30,9 +30,9 @@ pub record HoldsOther (w : Played) (p q : Participant) : Type 0 where
   pub signs : IsKeptSo SignsOnce q
   pub saved : IsKeptSo IsSavedWell q
   pub entered : IsKeptSo (λ o k. IfSome k.view (AreParticipants w.0)) q
-  pub sound : NamesTellApart (named_bytes w.0) → IsKeptSo (λ o k. IsSoundKeptIn w.0.met o (knowing_of w.1 o.name) k k.view) q
+  pub sound : IsCollisionFree (named_bytes w.0) → IsKeptSo (λ o k. IsSoundKeptIn w.0.met o (knowing_of w.1 o.name) k k.view) q
 
-module _ (w : Played) (keeps : Keeps w) (p : Participant) (is_p : participant w.0 p.name ≡ Some p) (d : Change) (same_posts : d.pending ≡ p.agent.pending) (holds : HoldsOther w p (changed p d)) where
+module _ (w : Played) (keeps : Invariant w) (p : Participant) (is_p : participant w.0 p.name ≡ Some p) (d : Change) (same_posts : d.pending ≡ p.agent.pending) (holds : HoldsOther w p (changed p d)) where
   abbrev q : Participant
   q = changed p d
 
@@ -83,8 +83,8 @@ module _ (w : Played) (keeps : Keeps w) (p : Participant) (is_p : participant w.
   names : map by_name v.participants ≡ map by_name w.0.participants
   names = names_placed by_name q w.0.participants
 
-  owners : map (λ (o : Participant). own o.agent) v.participants ≡ map (λ (o : Participant). own o.agent) w.0.participants
-  owners = same_map (λ (o : Participant). own o.agent) put w.0.participants (λ o o_in. ap (λ (x : Participant). own x.agent) (put_is o o_in).1)
+  owners : map (λ (o : Participant). own_hss_key o.agent) v.participants ≡ map (λ (o : Participant). own_hss_key o.agent) w.0.participants
+  owners = same_map (λ (o : Participant). own_hss_key o.agent) put w.0.participants (λ o o_in. ap (λ (x : Participant). own_hss_key x.agent) (put_is o o_in).1)
 
   owned_then : (view : View) → AreParticipants w.0 view → AreParticipants v view
   owned_then view h = still_participants w.0 v owners view h
@@ -95,10 +95,10 @@ module _ (w : Played) (keeps : Keeps w) (p : Participant) (is_p : participant w.
   entered_old : (o : Participant) → Contains w.0.participants o → EntersOwned w.0 o
   entered_old o o_in = each (EntersOwned w.0) w.0.participants o keeps.entered o_in
 
-  apart_before : NamesTellApart (named_bytes v) → NamesTellApart (named_bytes w.0)
-  apart_before apart = subst (λ ks. NamesTellApart (w.0.met ++ ks)) (same_keys w.0 keeps.apart p.name p is_p q refl refl) apart
+  apart_before : IsCollisionFree (named_bytes v) → IsCollisionFree (named_bytes w.0)
+  apart_before apart = subst (λ ks. IsCollisionFree (w.0.met ++ ks)) (same_keys w.0 keeps.apart p.name p is_p q refl refl) apart
 
-  sound : NamesTellApart (named_bytes w.0) → AreSound v w.1
+  sound : IsCollisionFree (named_bytes w.0) → AreSound v w.1
   sound apart = record {
     agents = all_put (λ o. IsSoundIn w.0.met o (knowing_of w.1 o.name) o.agent.view)
         (more_sound w.0.met w.0.met (λ b c. c) p d (knowing_of w.1 p.name) p.agent.view (each (λ (o : Participant). IsSoundIn w.0.met o (knowing_of w.1 o.name) o.agent.view) w.0.participants p old.agents among))
@@ -118,7 +118,7 @@ module _ (w : Played) (keeps : Keeps w) (p : Participant) (is_p : participant w.
       snapshot_of : Participant → Type 0
       snapshot_of o = IfSome o.agent.view (λ view. IfSome o.agent.snapshot (IsSnapshotOf w.0.met view (known_of w.1 o.name)))
 
-  pub other_bytes_so : Keeps (v, w.1)
+  pub other_bytes_so : Invariant (v, w.1)
   other_bytes_so = record {
     fits = record { participants = keeps.fits.participants ∙ sym names; sessions = keeps.fits.sessions };
     ring = ring w.0.replicas keeps.ring;
@@ -144,5 +144,5 @@ module _ (w : Played) (keeps : Keeps w) (p : Participant) (is_p : participant w.
     sound = λ apart. sound (apart_before apart);
   }
 
-pub other_bytes_keep : (w : Played) → Keeps w → (p : Participant) → participant w.0 p.name ≡ Some p → (d : Change) → d.pending ≡ p.agent.pending → HoldsOther w p (changed p d) → Keeps (with_participant w.0 (changed p d), w.1)
+pub other_bytes_keep : (w : Played) → Invariant w → (p : Participant) → participant w.0 p.name ≡ Some p → (d : Change) → d.pending ≡ p.agent.pending → HoldsOther w p (changed p d) → Invariant (with_participant w.0 (changed p d), w.1)
 other_bytes_keep = other_bytes_so

@@ -4,7 +4,7 @@ use Rattle.std.specs.List.{find}
 use Rattle.std.specs.Str.{bytes_eq}
 use Rattle.std.proofs.lemmas.Slice.Eq.{bytes_eq-Decides}
 use Rattle.log_model.proofs.Lists.{from_filter, here, in_cons, in_nothing, there}
-use Rattle.world_laws.specs.Keeps.{AreApart}
+use Rattle.world_laws.specs.Invariant.{AreApart}
 use Rattle.world_laws.proofs.SignedHeads.{from_map}
 use Rattle.world_model.specs.World.{Participant, World, participant, with_participant}
 use Rattle.world_laws.proofs.Frames.{found_mapped, into_map}

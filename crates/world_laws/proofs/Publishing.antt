@@ -1,4 +1,4 @@
--- A step of a session that only publishes leaves a world that keeps what it should, and such a session.
+-- A step of a session that only publishes leaves a world in which the invariant holds, and such a session.
 use Rattle.std.proofs.Common.{◌≡◌, ◌≢◌, ◌⊎◌, inl, inr, ⊎_elim, ℕ, ◌≤◌, Bool, true, false, cond, List, [], ◌∷◌, ◌++◌, length, map, filter, Option, Some, None, refl, sym, ap, ◌∙◌, subst, arith, le_refl, Contains, not}
 use Rattle.std.specs.Prelude.{drop}
 use Rattle.std.specs.List.{AllByRecursion, find, list_any}
@@ -26,34 +26,34 @@ use Rattle.agent_model.specs.Turning.{Answered, TurnEnd}
 use Rattle.agent_model.specs.Others.{is_of}
 use Rattle.session_model.specs.Asking.{AsksNext, IsBegun}
 use Rattle.session_model.specs.Brought.{Part, all_heads, brought_in}
-use Rattle.session_model.specs.Courses.{Fails, LacksMemory, Settles, TakesTurn}
-use Rattle.session_model.specs.Courses.Fails.{fails, goes_on}
-use Rattle.session_model.specs.Courses.LacksMemory.{lacks}
-use Rattle.session_model.specs.Courses.Settles.{settles as settles_all}
-use Rattle.session_model.specs.Courses.TakesTurn.{answers as turn_answers, begins_anew, gives_up}
+use Rattle.session_model.specs.Executions.{Fails, LacksMemory, Settles, TakesTurn}
+use Rattle.session_model.specs.Executions.Fails.{fails, goes_on}
+use Rattle.session_model.specs.Executions.LacksMemory.{lacks}
+use Rattle.session_model.specs.Executions.Settles.{settles as settles_all}
+use Rattle.session_model.specs.Executions.TakesTurn.{answers as turn_answers, begins_again, gives_up}
 use Rattle.session_model.specs.Sessions.{Cache, Hears, IsPut, Publishing, Refreshing, Said, Session, Stage, Takes, TakesAll, TakesSome, acknowledged, after_put, held_back, is_log, put_question}
 use Rattle.session_model.specs.Sessions.Hears.{gets_on, got, puts_on, puts}
 use Rattle.session_model.specs.Sessions.Takes.{posted, cached}
 use Rattle.session_model.specs.Sessions.TakesAll.{none as takes_none, more as takes_more}
 use Rattle.session_model.specs.Sessions.TakesSome.{none as some_none, more as some_more}
-use Rattle.world_model.specs.Agents.{Agent, Kept, hss}
+use Rattle.world_model.specs.Agents.{HssAgent, HssKept, hss_signing}
 use Rattle.world_model.specs.Fates.{FateOf}
 use Rattle.world_model.specs.Keepers.{fails_next}
 use Rattle.world_model.specs.World.{World, Participant, participant, peer_of, with_participant}
-use Rattle.world_model.specs.Story.{Knowing, Story, knowing_nothing, knowing_of, receiving}
-use Rattle.world_model.specs.Steps.{Acts, Scene, Steps, acked_by, ask_told, with_cache}
+use Rattle.world_model.specs.GhostState.{Knowing, GhostState, knowing_nothing, knowing_of, receiving}
+use Rattle.world_model.specs.Steps.{Acts, Configuration, Steps, acked_by, ask_told, with_cache}
 use Rattle.world_model.specs.Steps.Acts.{asks, asks_in_vain, turns, is_refused, settles}
 use Rattle.world_model.specs.Steps.Steps.{acts, lacks_memory}
-use Rattle.world_laws.specs.Keeps.{AreApart, IsAnswerIn, IsAtPuts, IsMetPost, IsPuttingOn, Keeps, OnlyPublishes}
-use Rattle.world_laws.specs.Frames.{Change, IsMildChange, changed, unchanged}
+use Rattle.world_laws.specs.Invariant.{AreApart, IsAnswerIn, IsAtPuts, IsMetPost, IsPuttingOn, Invariant, OnlyPublishes}
+use Rattle.world_laws.specs.Frames.{Change, IsChangeWithinFrame, changed, unchanged}
 use Rattle.world_laws.specs.Laws.{PublishingKeeps}
-use Rattle.session_laws.proofs.AskedPuts.{puts_are_one}
+use Rattle.session_laws.proofs.AskedPuts.{puts_are_deterministic}
 use Rattle.world_laws.proofs.Bringing.{found_named}
 use Rattle.world_laws.proofs.Frames.{answer_stays, found_placed, nodes_of_ring, one_named, participant_keeps, placed_itself, ring_keeps, same_elements}
 use Rattle.world_laws.proofs.MoreMet.{more_posts}
 use Rattle.world_laws.proofs.NodeFates.{AskLeaves, PutsMet, answer_is_in, ask_leaves, fate_met}
 
--- ---- stories
+-- ---- ghost states
 
 pub found_knowing : (ks : List Knowing) (name : List ℕ) (k : Knowing) → find (λ l. bytes_eq l.name name) ks ≡ Some k → Contains ks k × (k.name ≡ name)
 found_knowing [] name k is = cc is
@@ -72,7 +72,7 @@ not_found (k ∷ ks) name none l among same = by (bytes_eq k.name name) refl non
     by false is h again = ⊎_elim (λ e. let now : bytes_eq k.name name ≡ true = subst (λ (o : Knowing). bytes_eq o.name name ≡ true) (sym e) same in cc (sym now ∙ is)) (again h) (in_cons k ks l among)
 
 -- who receives nothing is as before
-receives_nothing : (st : Story) (name : List ℕ) → AreApart (map (λ k. k.name) st.participants) → receiving st name [] ≡ st
+receives_nothing : (st : GhostState) (name : List ℕ) → AreApart (map (λ k. k.name) st.participants) → receiving st name [] ≡ st
 receives_nothing st name apart =
     ap (λ ks. record st { participants = ks }) (same_elements (λ l. cond (bytes_eq l.name (knowing_of st name).name) (receiving_none (knowing_of st name)) l) st.participants
     (λ l among. by l among (find (λ k. bytes_eq k.name name) st.participants) refl (bytes_eq l.name (knowing_of st name).name) refl))
@@ -98,11 +98,11 @@ receives_nothing st name apart =
         as_before (knowing_of st name) ∙ of_found (Some k) is ∙ one_named (λ (x : Knowing). x.name) st.participants k l apart found.0 among (sym ((bytes_eq-Decides l.name k.name).0 named))
 
 -- an ask by which nothing is brought tells of an acknowledgement alone
-pub ask_tells : (st : Story) (name : List ℕ) (s t : Session) → AreApart (map (λ k. k.name) st.participants) → t.parts ≡ s.parts → ask_told st name s t ≡ record st { acked = st.acked ++ acked_by s.stage t.stage }
+pub ask_tells : (st : GhostState) (name : List ℕ) (s t : Session) → AreApart (map (λ k. k.name) st.participants) → t.parts ≡ s.parts → ask_told st name s t ≡ record st { acked = st.acked ++ acked_by s.stage t.stage }
 ask_tells st name s t apart same =
-    ap told_of (ap (drop (length s.parts)) same ∙ drop_all (length s.parts) s.parts (le_refl (length s.parts))) ∙ ap (λ (u : Story). record u { acked = st.acked ++ acked_by s.stage t.stage }) (receives_nothing st name apart)
+    ap told_of (ap (drop (length s.parts)) same ∙ drop_all (length s.parts) s.parts (le_refl (length s.parts))) ∙ ap (λ (u : GhostState). record u { acked = st.acked ++ acked_by s.stage t.stage }) (receives_nothing st name apart)
   where
-    told_of : List Part → Story
+    told_of : List Part → GhostState
     told_of parts = record (receiving st name (all_heads (brought_in parts))) { acked = st.acked ++ acked_by s.stage t.stage }
 
 -- ---- sessions at their puts
@@ -176,7 +176,7 @@ told_each P node (ask.Get key) answer h = (h, tt)
 told_each P node (ask.PutBlock key bytes) answer h = (h, tt)
 told_each P node (ask.PutHead key bytes) answer h = (h, tt)
 
--- the posts that are left, behind a put
+-- the posts that are left, after a put
 pub fewer_met : (met : List (List ℕ)) (p : Post) (posts : List Post) → AllByRecursion (IsMetPost met) posts → AllByRecursion (IsMetPost met) (held_back p posts)
 fewer_met met p posts h = by (is_log p.kind)
   where
@@ -187,7 +187,7 @@ fewer_met met p posts h = by (is_log p.kind)
 -- the next put begins
 pub begins : (r : ℕ) (s : Session) → s.entries ≢ [] → s.current ≡ [] → (posts : List Post) → IsPuttingOn r s posts
 begins r s some fresh [] = fresh
-begins r s some fresh (p ∷ posts) = subst (IsBegun (IsPut hss_judged r s p)) (sym fresh) ((puts_are_one hss_judged r s p).3 some)
+begins r s some fresh (p ∷ posts) = subst (IsBegun (IsPut hss_judged r s p)) (sym fresh) ((puts_are_deterministic hss_judged r s p).3 some)
 
 after_a_put : (w : World) (r : ℕ) (s : Session) → s.entries ≢ [] → s.current ≡ [] → (said : Option Said) (p : Post) (posts : List Post) (acks : List Ack) (came : Bool) → said ≡ None → AllByRecursion (IsMetPost w.met) posts
     → IsAtPuts w r s (after_put said p posts acks came)
@@ -196,7 +196,7 @@ after_a_put w r s some fresh said p posts acks false silent h = (silent, fewer_m
 
 -- ---- steps
 
-module _ (w : World) (st : Story) (r : ℕ) (keeps : Keeps (w, st)) (ringed : w.replicas ≡ Some r) where
+module _ (w : World) (st : GhostState) (r : ℕ) (keeps : Invariant (w, st)) (ringed : w.replicas ≡ Some r) where
   -- what an ask for data, by which only what was met is put, leaves of the world
   module _ (next : World) (to : Peer) (question : Ask) (given : Answer) (data_ask : IsForData question) (puts_met : PutsMet w.met question) (fate : FateOf hss_judged w to question given next) where
     pub leaves : AskLeaves r w next
@@ -205,7 +205,7 @@ module _ (w : World) (st : Story) (r : ℕ) (keeps : Keeps (w, st)) (ringed : w.
     pub still_peers : (p : Peer) → Contains (map peer_of w.nodes) p → Contains (map peer_of next.nodes) p
     still_peers p h = subst (λ made. Contains made p) (sym leaves.peers) h
 
-    pub ask_keeps : (acked : List Post) → Keeps (next, record st { acked = acked })
+    pub ask_keeps : (acked : List Post) → Invariant (next, record st { acked = acked })
     ask_keeps acked = ring_keeps (w, st) r next acked keeps ringed leaves.rest leaves.ring leaves.peers (fate_met hss_judged w.met w next to question given puts_met keeps.met.held fate)
 
     same_met : next.met ≡ w.met
@@ -217,9 +217,9 @@ module _ (w : World) (st : Story) (r : ℕ) (keeps : Keeps (w, st)) (ringed : w.
     pub given_then : IsAnswerIn next given
     given_then = answer_stays w next grows still_peers given (answer_is_in hss_judged r w (nodes_of_ring (w, st) r keeps ringed) to question next given data_ask keeps.met.held fate)
 
-module _ (w : World) (st : Story) (r : ℕ) (s : Session) (p : Participant) (keeps : Keeps (w, st)) (only : OnlyPublishes w r s) (ringed : w.replicas ≡ Some r) (is_p : participant w s.by ≡ Some p) where
-  abbrev Leaves : World → Story → Session → Type 0
-  Leaves v su t = Keeps (v, su) × OnlyPublishes v r t × (su.turns ≡ st.turns)
+module _ (w : World) (st : GhostState) (r : ℕ) (s : Session) (p : Participant) (keeps : Invariant (w, st)) (only : OnlyPublishes w r s) (ringed : w.replicas ≡ Some r) (is_p : participant w s.by ≡ Some p) where
+  abbrev Leaves : World → GhostState → Session → Type 0
+  Leaves v su t = Invariant (v, su) × OnlyPublishes v r t × (su.turns ≡ st.turns)
 
   at_puts : s.stage ≡ Refreshing → ⊥
   at_puts e = not_at_puts w r s s.stage only.stage e
@@ -272,7 +272,7 @@ module _ (w : World) (st : Story) (r : ℕ) (s : Session) (p : Participant) (kee
       stage = subst (IsAtPuts next r (record s { current = s.current ++ told node question answer })) (sym h.at) (
         puts_now.0,
         posts_then,
-        ⊎_elim (λ whole. absurd (part whole)) (λ begun. begun) ((puts_are_one hss_judged r s h.post).2 s.current node question answer h.next),
+        ⊎_elim (λ whole. absurd (part whole)) (λ begun. begun) ((puts_are_deterministic hss_judged r s h.post).2 s.current node question answer h.next),
       );
     }
 
@@ -297,8 +297,8 @@ module _ (w : World) (st : Story) (r : ℕ) (s : Session) (p : Participant) (kee
 
     pub asked : (t : Session) → Fails heard t → Leaves (with_participant next (record p { cache = cache })) (ask_told st p.name s t) t
     asked t goes = (
-      subst (λ (v : World). Keeps (v, ask_told st p.name s t)) (sym same_world)
-          (subst (λ (u : Story). Keeps (next, u)) (sym (ask_tells st p.name s t told_apart (only_t.bare ∙ sym only.bare))) (ask_keeps w st r keeps ringed next node question answer fits.0 fits.1 fate (st.acked ++ acked_by s.stage t.stage))),
+      subst (λ (v : World). Invariant (v, ask_told st p.name s t)) (sym same_world)
+          (subst (λ (u : GhostState). Invariant (next, u)) (sym (ask_tells st p.name s t told_apart (only_t.bare ∙ sym only.bare))) (ask_keeps w st r keeps ringed next node question answer fits.0 fits.1 fate (st.acked ++ acked_by s.stage t.stage))),
       subst (λ (v : World). OnlyPublishes v r t) (sym same_world) only_t,
       refl,
     )
@@ -307,9 +307,9 @@ module _ (w : World) (st : Story) (r : ℕ) (s : Session) (p : Participant) (kee
         only_t = subst (OnlyPublishes next r) (sym (fails_nothing heard t (λ e. not_at_puts next r heard heard.stage only_then.stage e) goes)) only_then
 
   -- settling
-  settled_so : (after : Agent) (t : Session) → Settles p.agent s after t → Leaves (with_participant w (record p { agent = after })) st t
+  settled_so : (after : HssAgent) (t : Session) → Settles p.agent s after t → Leaves (with_participant w (record p { agent = after })) st t
   settled_so _ _ (settles_all said acks at) = (
-    participant_keeps (w, st) s.by p fewer keeps is_p mild,
+    participant_keeps (w, st) s.by p fewer keeps is_p within_frame,
     record {
       by = changed p fewer;
       is_by = found_placed w apart s.by p is_p (changed p fewer) refl;
@@ -328,34 +328,34 @@ module _ (w : World) (st : Story) (r : ℕ) (s : Session) (p : Participant) (kee
       fewer : Change
       fewer = record (unchanged p) { pending = filter dropped p.agent.pending }
 
-      mild : IsMildChange w.met p fewer
-      mild = record {
+      within_frame : IsChangeWithinFrame w.met p fewer
+      within_frame = record {
         kept = refl;
         pending = λ q among. (from_filter dropped p.agent.pending q among).0;
         fewer = short_filter dropped p.agent.pending;
         cached = each _ w.participants p keeps.met.cached (found_named w.participants s.by p is_p).0;
       }
 
-  turns_never : (now : Moment) (a : Agent) (view : View) (fails_save : Bool) (end : TurnEnd) (after : Agent) (saving : Option Kept) (t : Session) → TakesTurn hss (record { agent = a; view = view; now = now; fails = fails_save }) s end after saving t → ⊥
+  turns_never : (now : Moment) (a : HssAgent) (view : View) (fails_save : Bool) (end : TurnEnd) (after : HssAgent) (saving : Option HssKept) (t : Session) → TakesTurn hss_signing (record { agent = a; view = view; now = now; fails = fails_save }) s end after saving t → ⊥
   turns_never now a view fails_save _ _ _ _ (turn_answers notes given xid asked reply applied after saving done asks_it turned) = at_puts done.0
-  turns_never now a view fails_save _ _ _ _ (begins_anew notes given xid asked end after saving done asks_it turned refused few) = at_puts done.0
+  turns_never now a view fails_save _ _ _ _ (begins_again notes given xid asked end after saving done asks_it turned refused few) = at_puts done.0
   turns_never now a view fails_save _ _ _ _ (gives_up notes given xid asked end after saving done asks_it turned refused many) = at_puts done.0
 
 -- what the participant's session does
-acts_so : (c next : Scene) (r : ℕ) (p : Participant) → Keeps (c.world, c.story) → OnlyPublishes c.world r c.session → c.world.replicas ≡ Some r → participant c.world c.session.by ≡ Some p → Acts hss_judged r p c next
-    → Keeps (next.world, next.story) × OnlyPublishes next.world r next.session × (next.story.turns ≡ c.story.turns)
+acts_so : (c next : Configuration) (r : ℕ) (p : Participant) → Invariant (c.world, c.ghost_state) → OnlyPublishes c.world r c.session → c.world.replicas ≡ Some r → participant c.world c.session.by ≡ Some p → Acts hss_judged r p c next
+    → Invariant (next.world, next.ghost_state) × OnlyPublishes next.world r next.session × (next.ghost_state.turns ≡ c.ghost_state.turns)
 acts_so c _ r p keeps only ringed is_p (asks node question answer next heard t cache fate hears goes) =
-    asked c.world c.story r c.session p keeps only ringed is_p next node question answer heard cache fate
-    (hears_put r c.session p.cache node question answer heard cache (at_puts c.world c.story r c.session p keeps only ringed is_p) hears) t goes
-acts_so c _ r p keeps only ringed is_p (asks_in_vain node question answer next heard t cache fate hears lacking) = absurd (lacks_nothing c.session t (at_puts c.world c.story r c.session p keeps only ringed is_p) lacking)
+    asked c.world c.ghost_state r c.session p keeps only ringed is_p next node question answer heard cache fate
+    (hears_put r c.session p.cache node question answer heard cache (at_puts c.world c.ghost_state r c.session p keeps only ringed is_p) hears) t goes
+acts_so c _ r p keeps only ringed is_p (asks_in_vain node question answer next heard t cache fate hears lacking) = absurd (lacks_nothing c.session t (at_puts c.world c.ghost_state r c.session p keeps only ringed is_p) lacking)
 acts_so c _ r p keeps only ringed is_p (turns view reply applied after saving t turned in_view takes replies is_turn) =
-    absurd (turns_never c.world c.story r c.session p keeps only ringed is_p c.world.now p.agent view (fails_next p.keeper) (Answered reply applied) after saving t takes)
+    absurd (turns_never c.world c.ghost_state r c.session p keeps only ringed is_p c.world.now p.agent view (fails_next p.keeper) (Answered reply applied) after saving t takes)
 acts_so c _ r p keeps only ringed is_p (is_refused view end after saving t in_view refusal takes) =
-    absurd (turns_never c.world c.story r c.session p keeps only ringed is_p c.world.now p.agent view (fails_next p.keeper) end after saving t takes)
-acts_so c _ r p keeps only ringed is_p (settles after t is) = settled_so c.world c.story r c.session p keeps only ringed is_p after t is
+    absurd (turns_never c.world c.ghost_state r c.session p keeps only ringed is_p c.world.now p.agent view (fails_next p.keeper) end after saving t takes)
+acts_so c _ r p keeps only ringed is_p (settles after t is) = settled_so c.world c.ghost_state r c.session p keeps only ringed is_p after t is
 
-step_so : (c next : Scene) (r : ℕ) → Keeps (c.world, c.story) → OnlyPublishes c.world r c.session → c.world.replicas ≡ Some r → Steps hss_judged r c.session.by c next
-    → Keeps (next.world, next.story) × OnlyPublishes next.world r next.session × (next.story.turns ≡ c.story.turns)
+step_so : (c next : Configuration) (r : ℕ) → Invariant (c.world, c.ghost_state) → OnlyPublishes c.world r c.session → c.world.replicas ≡ Some r → Steps hss_judged r c.session.by c next
+    → Invariant (next.world, next.ghost_state) × OnlyPublishes next.world r next.session × (next.ghost_state.turns ≡ c.ghost_state.turns)
 step_so c _ r keeps only ringed (acts p taken cache next is_p takes act) = acts_so c next r p keeps only ringed is_p (subst (λ d. Acts hss_judged r p d next) same act_at)
   where
     nothing : (taken ≡ c.session) × (cache ≡ p.cache)

@@ -11,7 +11,7 @@ use Rattle.script_model.specs.declared.command.Command.TheVariants as command
 use Rattle.world_model.specs.Calls.{reply_line}
 use Rattle.world_model.specs.Logs.{Played, failed_text, snap_text, with_view}
 use Rattle.world_model.specs.Step.{Does}
-use Rattle.world_model.specs.Steps.{RunsOut, Scene, StepsOn}
+use Rattle.world_model.specs.Steps.{RunsOut, Configuration, StepsOn}
 use Rattle.world_model.specs.World.{NamedSession, World}
 use Rattle.world_laws.specs.Effects.{Effect, EndsSession, IsOfSessions, LaterEffect, Plays, ShowsText}
 use Rattle.world_laws.specs.Effects.Effect.{comes, loses, makes_view, of_nodes, opens, plays, renews, shows, times, touches}
@@ -29,7 +29,7 @@ use Rattle.world_laws.proofs.RingLines.{fates_rest}
 
 -- ---- what changes no session and no reply
 
--- it doesn't begin with the reply for want of memory
+-- it doesn't begin with the reply when out of memory
 abbrev pub IsUnlike : List ℕ → Type 0
 IsUnlike output = (xid : ℕ) (rest : List ℕ) → output ≡ reply_line (reply xid SystemError) ++ rest → ⊥
 
@@ -54,21 +54,21 @@ asked_same w next is = (ap (λ (v : World). v.replies) is, ap (λ (v : World). v
 -- ---- sessions
 
 module _ (w : World) where
-  move_same : {r : ℕ} {name : List ℕ} (c next : Scene) → Move hss_judged r name c next → IsSame w c.world → IsSame w next.world
+  move_same : {r : ℕ} {name : List ℕ} (c next : Configuration) → Move hss_judged r name c next → IsSame w c.world → IsSame w next.world
   move_same c _ (takes p taken cache is taking) same = same
   move_same c _ (asks node question answer next fate) same = same_after w c.world next same (asked_same c.world next (fate_rest fate))
   move_same c _ (hears p node question answer next heard t cache is fate hearing goes) same = same_after w c.world next same (asked_same c.world next (fate_rest fate))
   move_same c _ (lacks t lacking) same = same
-  move_same c _ (turns p view end after saving t work story began is in_view taking told) same = same
+  move_same c _ (turns p view end after saving t work ghost_state began is in_view taking told) same = same
   move_same c _ (settles p after t is settling) same = same
 
-moves_same : {r : ℕ} {name : List ℕ} {c end : Scene} → Moves hss_judged r name c end → IsSame c.world end.world
-moves_same {c = c} on = all_moves (λ (x : Scene). IsSame c.world x.world) (move_same c.world) on (refl, refl)
+moves_same : {r : ℕ} {name : List ℕ} {c end : Configuration} → Moves hss_judged r name c end → IsSame c.world end.world
+moves_same {c = c} on = all_moves (λ (x : Configuration). IsSame c.world x.world) (move_same c.world) on (refl, refl)
 
-pub runs_same : {r : ℕ} {name : List ℕ} {c next : Scene} → RunsOut hss_judged r name c next → IsSame c.world next.world
+pub runs_same : {r : ℕ} {name : List ℕ} {c next : Configuration} → RunsOut hss_judged r name c next → IsSame c.world next.world
 runs_same runs = moves_same (runs_move runs)
 
-pub steps_same : {r : ℕ} {name : List ℕ} {count : ℕ} {c next : Scene} → StepsOn hss_judged r name count c next → IsSame c.world next.world
+pub steps_same : {r : ℕ} {name : List ℕ} {count : ℕ} {c next : Configuration} → StepsOn hss_judged r name count c next → IsSame c.world next.world
 steps_same on = moves_same (steps_move on)
 
 -- ---- what is shown
@@ -103,7 +103,7 @@ kept w mid next keeps same = (same.0 ∙ keeps.0, λ s c. keeps.1 s (subst (λ (
 all_kept : (w : World) → KeepsSessions w w
 all_kept w = (refl, λ s c. c)
 
-is_of_sessions : {k : Command} {w next : Played} {r : ℕ} {name : List ℕ} {c end : Scene} → Plays hss_judged w r k name c end next → IsOfSessions k
+is_of_sessions : {k : Command} {w next : Played} {r : ℕ} {name : List ℕ} {c end : Configuration} → Plays hss_judged w r k name c end next → IsOfSessions k
 is_of_sessions (calls log pieces s t end sends begins runs over) = tt
 is_of_sessions (steps name count s end is going) = tt
 is_of_sessions (ends name s end is runs over) = tt

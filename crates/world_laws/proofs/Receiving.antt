@@ -1,4 +1,4 @@
--- More heads that a participant received, and which were met, leave a world that keeps what it should.
+-- More heads that a participant received, and which were met, leave a world in which the invariant holds.
 use Rattle.std.proofs.Common.{◌≡◌, ◌⊎◌, inl, inr, ⊎_elim, ℕ, Bool, true, false, cond, List, [], ◌∷◌, ◌++◌, map, Option, Some, None, refl, sym, ap, ◌∙◌, subst, Contains}
 use Rattle.std.specs.Prelude.{IfSome}
 use Rattle.std.specs.List.{AllByRecursion, find}
@@ -16,12 +16,12 @@ use Rattle.turn_model.specs.Known.{IsBacked, IsVerified}
 use Rattle.session_model.specs.Sessions.{Said, Session}
 use Rattle.session_laws.specs.Loading.{IsSnapshotOf}
 use Rattle.turn_model.specs.Basis.{nothing_held}
-use Rattle.world_model.specs.Agents.{Kept}
+use Rattle.world_model.specs.Agents.{HssKept}
 use Rattle.world_model.specs.World.{World, Participant}
-use Rattle.world_model.specs.Story.{Began, Knowing, Story, began_of, knowing_nothing, knowing_of, receiving}
+use Rattle.world_model.specs.GhostState.{Began, Knowing, GhostState, began_of, knowing_nothing, knowing_of, receiving}
 use Rattle.world_laws.specs.Causes.{HasCause, said_at}
 use Rattle.world_laws.specs.Causes.HasCause.{alone, missed, turned, no_memory}
-use Rattle.world_laws.specs.Keeps.{AreSound, HasSaid, IsKeptSo, IsMetHead, IsSoundIn, IsSoundKeptIn, IsSoundSession, Keeps, KeepsUp}
+use Rattle.world_laws.specs.Invariant.{AreSound, HasSaid, IsKeptSo, IsMetHead, IsSoundIn, IsSoundKeptIn, IsSoundSession, Invariant, KeepsUp}
 use Rattle.world_laws.specs.Laws.{ReceivingKeeps}
 use Rattle.world_laws.proofs.Frames.{all_mapped, same_map}
 use Rattle.world_laws.proofs.Publishing.{found_knowing}
@@ -40,7 +40,7 @@ found_changed f same name nothing (k ∷ ks) o is =
     by true h later = ap (λ (x : Option Knowing). option_map_or f x nothing) h
     by false h later = later h
 
-module _ (st : Story) (name : List ℕ) (heads : List Entry) where
+module _ (st : GhostState) (name : List ℕ) (heads : List Entry) where
   -- what is known of the participant, before and then
   abbrev before : Knowing
   before = knowing_of st name
@@ -51,7 +51,7 @@ module _ (st : Story) (name : List ℕ) (heads : List Entry) where
   abbrev then_it : Knowing → Knowing
   then_it k = cond (bytes_eq k.name before.name) (more before) k
 
-  abbrev then_told : Story
+  abbrev then_told : GhostState
   then_told = receiving st name heads
 
   before_found : (o : Option Knowing) → find (λ k. bytes_eq k.name name) st.participants ≡ o → before ≡ option_map_or (λ k. k) o (knowing_nothing name)
@@ -124,7 +124,7 @@ module _ (st : Story) (name : List ℕ) (heads : List Entry) where
   sound_more met p None k h = h
   sound_more met p (Some view) k h = record { knows = h.knows; stand = h.stand; verified = verified_more _ view _ _ k.received k.known h.verified; covers = h.covers }
 
-  kept_more : (met : List (List ℕ)) (p : Participant) (kept : Kept) (o : Option View) (k : Knowing) → IsSoundKeptIn met p k kept o → IsSoundKeptIn met p (more k) kept o
+  kept_more : (met : List (List ℕ)) (p : Participant) (kept : HssKept) (o : Option View) (k : Knowing) → IsSoundKeptIn met p k kept o → IsSoundKeptIn met p (more k) kept o
   kept_more met p kept None k h = h
   kept_more met p kept (Some view) k h = record {
     known = h.known;
@@ -166,7 +166,7 @@ module _ (st : Story) (name : List ℕ) (heads : List Entry) where
   said_then n s None h = tt
   said_then n s (Some said) h = cause_then n s said h
 
-  module _ (w : World) (keeps : Keeps (w, st)) (met_heads : AllByRecursion (IsMetHead w.met) heads) where
+  module _ (w : World) (keeps : Invariant (w, st)) (met_heads : AllByRecursion (IsMetHead w.met) heads) where
     received_before : AllByRecursion (IsMetHead w.met) before.received
     received_before = by (find (λ k. bytes_eq k.name name) st.participants) refl
       where
@@ -185,7 +185,7 @@ module _ (st : Story) (name : List ℕ) (heads : List Entry) where
     sound_then : AreSound w st → AreSound w then_told
     sound_then h = record {
       agents = all_weaker _ _ w.participants (λ p g. holds_then (λ k. IsSoundIn w.met p k p.agent.view) (λ k f. sound_more w.met p p.agent.view k f) p.name g) h.agents;
-      keepers = all_weaker _ _ w.participants (λ p g. holds_then (λ k. IsKeptSo (λ (q : Participant) (kept : Kept). IsSoundKeptIn w.met q k kept kept.view) p)
+      keepers = all_weaker _ _ w.participants (λ p g. holds_then (λ k. IsKeptSo (λ (q : Participant) (kept : HssKept). IsSoundKeptIn w.met q k kept kept.view) p)
           (λ k f. (f.0, f.1, f.2, kept_more w.met p f.0 f.0.view k f.3)) p.name g) h.keepers;
       to_load = all_weaker _ _ w.participants (λ p g. holds_then (λ k. IfSome p.agent.view (λ view. IfSome p.agent.to_load (λ root. (p.agent.holding ≡ nothing_held) × IsSnapshotOf w.met view k.known root)))
           (λ k f. f) p.name g) h.to_load;
@@ -193,7 +193,7 @@ module _ (st : Story) (name : List ℕ) (heads : List Entry) where
       sessions = all_weaker _ _ w.sessions (λ s g. session_more w s.session (began_of st s.name) g) h.sessions;
     }
 
-    keeps_then : Keeps (w, then_told)
+    keeps_then : Invariant (w, then_told)
     keeps_then = record {
       fits = record { participants = same_map (λ (k : Knowing). k.name) then_it st.participants (λ k among. same_names k) ∙ keeps.fits.participants; sessions = keeps.fits.sessions };
       ring = keeps.ring;

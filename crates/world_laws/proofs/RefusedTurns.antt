@@ -1,11 +1,11 @@
--- A turn that was refused leaves a world that keeps what it should, and such a session: it begins anew, or is over.
+-- A turn that was refused leaves a world in which the invariant holds, and such a session: it begins again, or is over.
 use Rattle.std.proofs.Common.{◌≡◌, inl, ℕ, zero, suc, ◌≤◌, ◌<◌, Bool, true, false, cond, ◌&&◌, List, [], Option, Some, None, refl, sym, ap, ◌∙◌, subst, arith, le_refl, Contains}
 use Rattle.std.specs.Prelude.{IfSome, is_some, Ok}
 use Rattle.std.proofs.lemmas.List.{append-nil}
 use Rattle.std.proofs.lemmas.Slice.Eq.{bytes_eq-Decides}
 use Rattle.ivy_base.specs.declared.key.Key.{Key}
 use Rattle.ivy_base.specs.declared.key.PubKey.{PubKey}
-use Rattle.ivy_base.specs.Naming.{NamesTellApart}
+use Rattle.ivy_base.specs.Naming.{IsCollisionFree}
 use Rattle.dhash_model.specs.declared.miss.Miss.{Miss}
 use Rattle.log_model.specs.Record.{Record}
 use Rattle.log_model.specs.Vector.{Vector, seq_of}
@@ -14,7 +14,7 @@ use Rattle.log_model.proofs.Lists.{each, in_nothing}
 use Rattle.turn_model.specs.Basis.{Basis, Holding, Knows, fresh_basis, nothing_held}
 use Rattle.turn_model.specs.Turn.{Asked}
 use Rattle.agent_model.specs.Agent.{joined}
-use Rattle.agent_model.specs.Standing.{Refresh, Standing, anew_in, dominates, going_on}
+use Rattle.agent_model.specs.Standing.{Refresh, Standing, begun_again_in, dominates, going_on}
 use Rattle.agent_model.specs.Turning.{TurnEnd, Turns, is_behind, is_below_tide}
 use Rattle.agent_model.specs.Turning.Turns.{behind, below, answers as answers_it}
 use Rattle.session_laws.specs.Going.{ComesTo}
@@ -23,22 +23,22 @@ use Rattle.session_laws.proofs.Going.{refresh_begins}
 use Rattle.session_laws.proofs.Missing.{fails_by_the_last}
 use Rattle.session_laws.proofs.Refreshed.{done_is_not_behind}
 use Rattle.session_model.specs.Brought.{Brought, BlockOf, brought_in}
-use Rattle.session_model.specs.Courses.{HasRefreshed, IsRefusal, anew, ended}
-use Rattle.session_model.specs.Courses.TakesTurn.{answers, begins_anew, gives_up}
+use Rattle.session_model.specs.Executions.{HasRefreshed, IsRefusal, anew, ended}
+use Rattle.session_model.specs.Executions.TakesTurn.{answers, begins_again, gives_up}
 use Rattle.session_model.specs.Refreshing.{FailsBy, Loaded, LoadsFor, Note, RefreshEnd, Refreshes, counting, start_of}
 use Rattle.session_model.specs.Refreshing.LoadsFor.{some as snapshot_to_load}
 use Rattle.session_model.specs.Refreshing.Refreshes.{loading, fetching}
 use Rattle.session_model.specs.Replies.{Asks, said_no_memory}
 use Rattle.session_model.specs.Sessions.{Session, Stage}
-use Rattle.world_model.specs.Agents.{Agent, Kept, TakesTurn, hss, own}
+use Rattle.world_model.specs.Agents.{HssAgent, HssKept, TakesHssTurn, hss_signing, own_hss_key}
 use Rattle.world_model.specs.Keepers.{fails_next}
 use Rattle.world_model.specs.World.{World, Participant, named_bytes, participant}
-use Rattle.world_model.specs.Story.{Began, HadTurn, Knowing, knowing_of, known_of}
-use Rattle.world_model.specs.Steps.{Scene, after_turn, met_by, turning_of, world_after}
+use Rattle.world_model.specs.GhostState.{Began, HadTurn, Knowing, knowing_of, known_of}
+use Rattle.world_model.specs.Steps.{Configuration, after_turn, met_by, turning_of, world_after}
 use Rattle.world_laws.specs.Causes.{said_at}
 use Rattle.world_laws.specs.Causes.HasCause.{no_memory}
-use Rattle.world_laws.specs.Keeps.{HasSaid, IsAtStage, IsInHand, IsRefreshing, IsSoundIn, IsSoundSession, Keeps, KeepsUp}
-use Rattle.world_laws.specs.Keeps.KeepsUp.{still, grown, dropped}
+use Rattle.world_laws.specs.Invariant.{HasSaid, IsAtStage, IsInHand, IsRefreshing, IsSoundIn, IsSoundSession, Invariant, KeepsUp}
+use Rattle.world_laws.specs.Invariant.KeepsUp.{still, grown, dropped}
 use Rattle.world_laws.specs.Laws.{RefusedTurnsKeep, StepLeaves}
 use Rattle.world_laws.proofs.Bringing.{are_named, in_a_view, its_key, its_view, knew_stand, some_same, starts}
 use Rattle.world_laws.proofs.Beginning.{none_last}
@@ -48,14 +48,14 @@ use Rattle.world_laws.proofs.Placed.{differ}
 use Rattle.world_laws.proofs.SecondTurns.{goes_on_held, grown_not_behind, keeps_up, none_refused_later, one_view, sorted}
 use Rattle.world_laws.proofs.TakingOn.{on_so}
 use Rattle.world_laws.proofs.TurnsKept.{after_of, still_kept_in}
-use Rattle.world_laws.proofs.TurnsScene.{agent_now, agent_owned, all_sound, anyway, in_view, is_by, is_found, is_there, kept_sound, kept_viewed_now, keeper_owned, met_grows, pending_met, saved, snapshots_now, so}
+use Rattle.world_laws.proofs.TurnsConfiguration.{agent_now, agent_owned, all_sound, anyway, in_view, is_by, is_found, is_there, kept_sound, kept_viewed_now, keeper_owned, met_grows, pending_met, saved, snapshots_now, so}
 use Rattle.world_laws.proofs.TurnsSigning.{left_before, still_signs, turned_to}
 use Rattle.world_laws.proofs.TurnsWorld.{FitsTurn, StaysSound, ToldThen, apart_before, found_its, keeps_then, knowing_then, world_then}
 
 -- ---- from where a turn goes on
 
 -- an agent that is as it was goes on from what its session's refresh started from
-went_on : (a : Agent) {s : Standing} {brought : List Brought} {notes : List Note} {given : Refresh} {end : RefreshEnd} → a.to_load ≡ s.to_load → joined a.holding ≡ s.held → a.floor ≡ s.floor → Refreshes s brought notes given end
+went_on : (a : HssAgent) {s : Standing} {brought : List Brought} {notes : List Note} {given : Refresh} {end : RefreshEnd} → a.to_load ≡ s.to_load → joined a.holding ≡ s.held → a.floor ≡ s.floor → Refreshes s brought notes given end
     → joined (going_on a given.basis) ≡ given.started
 went_on a load held floor (loading loads) = held
 went_on a {s = s} load held floor (fetching basis loads fetches) = by basis loads
@@ -76,16 +76,16 @@ went_on a {s = s} load held floor (fetching basis loads fetches) = by basis load
     by None loads = held
     by (Some b) loads = counted b (ap is_some load ∙ loaded_some b loads) (dominates s.floor b.front) refl
 
-module _ (c : Scene) (r : ℕ) (p : Participant) (keeps : Keeps (c.world, c.story)) (hand : IsInHand c r) (is_p : participant c.world c.session.by ≡ Some p)
+module _ (c : Configuration) (r : ℕ) (p : Participant) (keeps : Invariant (c.world, c.ghost_state)) (hand : IsInHand c r) (is_p : participant c.world c.session.by ≡ Some p)
     (notes : List Note) (given : Refresh) (xid : ℕ) (asked : Asked) (done : HasRefreshed c.session notes given) (asks : Asks c.session.standing.view c.session.message xid asked) where
   abbrev view : View
   view = c.session.standing.view
 
-  abbrev a : Agent
+  abbrev a : HssAgent
   a = p.agent
 
   abbrev its : Knowing
-  its = knowing_of c.story p.name
+  its = knowing_of c.ghost_state p.name
 
   abbrev met : List (List ℕ)
   met = met_by c.world.met p.agent.pending
@@ -93,8 +93,8 @@ module _ (c : Scene) (r : ℕ) (p : Participant) (keeps : Keeps (c.world, c.stor
   grows : (b : List ℕ) → Contains c.world.met b → Contains met b
   grows = met_grows c.world.met p.agent.pending
 
-  -- nothing is told
-  tells : ToldThen (c.world, c.story) p its.known [] c.story
+  -- nothing is reported
+  tells : ToldThen (c.world, c.ghost_state) p its.known [] c.ghost_state
   tells = record {
     names = refl;
     its = refl;
@@ -102,13 +102,13 @@ module _ (c : Scene) (r : ℕ) (p : Participant) (keeps : Keeps (c.world, c.stor
     received = keeps.received;
     sessions = refl;
     begun = refl;
-    turns = sym (append-nil c.story.turns);
+    turns = sym (append-nil c.ghost_state.turns);
   }
 
   -- ---- what is left, whatever became of what was held
 
   module _ (h : Holding) (load : Option Key) where
-    abbrev after : Agent
+    abbrev after : HssAgent
     after = after_of p.agent p.agent.signer.made p.agent.floor h load p.agent.pending p.agent.has_failed
 
     abbrev q : Participant
@@ -117,16 +117,16 @@ module _ (c : Scene) (r : ℕ) (p : Participant) (keeps : Keeps (c.world, c.stor
     abbrev v : World
     v = world_then c.world (turned_to p (after_of p.agent p.agent.signer.made p.agent.floor h load p.agent.pending p.agent.has_failed) p.keeper p.work) (met_by c.world.met p.agent.pending)
 
-    -- what has to be known of it where names tell apart
+    -- what has to be known of it where no names collide
     record HoldsThen : Type 0 where
-      knows : Knows c.session.standing.view p.agent.floor h (knowing_of c.story p.name).known
-      to_load : IfSome p.agent.view (λ u. IfSome load (λ root. (h ≡ nothing_held) × IsSnapshotOf (met_by c.world.met p.agent.pending) u (knowing_of c.story p.name).known root))
+      knows : Knows c.session.standing.view p.agent.floor h (knowing_of c.ghost_state p.name).known
+      to_load : IfSome p.agent.view (λ u. IfSome load (λ root. (h ≡ nothing_held) × IsSnapshotOf (met_by c.world.met p.agent.pending) u (knowing_of c.ghost_state p.name).known root))
       fresh : (load ≡ None) × (h.basis ≡ fresh_basis)
-      sessions : (s : Session) (b : Began) (sound : IsSoundSession c.world c.story s b) → s.by ≡ p.name
-          → StaysSound s b sound.of (after_of p.agent p.agent.signer.made p.agent.floor h load p.agent.pending p.agent.has_failed) (knowing_of c.story p.name).known
+      sessions : (s : Session) (b : Began) (sound : IsSoundSession c.world c.ghost_state s b) → s.by ≡ p.name
+          → StaysSound s b sound.of (after_of p.agent p.agent.signer.made p.agent.floor h load p.agent.pending p.agent.has_failed) (knowing_of c.ghost_state p.name).known
 
-    module _ (holds : NamesTellApart (named_bytes c.world) → HoldsThen) where
-      fit : FitsTurn (c.world, c.story) p q met its.known
+    module _ (holds : IsCollisionFree (named_bytes c.world) → HoldsThen) where
+      fit : FitsTurn (c.world, c.ghost_state) p q met its.known
       fit =
           let kept_so = so c r p keeps hand is_p in
           record {
@@ -138,10 +138,10 @@ module _ (c : Scene) (r : ℕ) (p : Participant) (keeps : Keeps (c.world, c.stor
             signs = (kept_so.0, kept_so.1, kept_so.2, still_signs p kept_so.0 kept_so.3 a.floor h load a.has_failed p.keeper p.work refl);
             saved = (kept_so.0, kept_so.1, kept_so.2, record { agent = (saved c r p keeps hand is_p).agent; entered = λ some. kept_viewed_now c r p keeps hand is_p });
             entered = record { agent = agent_owned c r p keeps hand is_p; keeper = (kept_so.0, kept_so.1, kept_so.2, keeper_owned c r p keeps hand is_p) };
-            agent = λ apart. let old = agent_now c r p keeps hand is_p apart in subst (IsSoundIn met q (knowing_then (c.world, c.story) p its.known)) (sym (in_view c r p keeps hand is_p)) (record {
+            agent = λ apart. let old = agent_now c r p keeps hand is_p apart in subst (IsSoundIn met q (knowing_then (c.world, c.ghost_state) p its.known)) (sym (in_view c r p keeps hand is_p)) (record {
               knows = (holds apart).knows;
               stand = more_stand c.world.met met grows its.known old.stand;
-              verified = more_verified c.world.met met grows view (own a) a.floor its.received its.known old.verified;
+              verified = more_verified c.world.met met grows view (own_hss_key a) a.floor its.received its.known old.verified;
               covers = old.covers;
             });
             keeper = λ apart. (
@@ -156,28 +156,28 @@ module _ (c : Scene) (r : ℕ) (p : Participant) (keeps : Keeps (c.world, c.stor
             sessions = λ apart s b sound by_is viewed. (holds apart).sessions s b sound by_is;
           }
 
-      no_turn : (g : HadTurn) → Contains [] g → g.began.number < c.story.begun
+      no_turn : (g : HadTurn) → Contains [] g → g.began.number < c.ghost_state.begun
       no_turn g among = absurd (in_nothing g among)
 
-      kept : Keeps (v, c.story)
-      kept = keeps_then (c.world, c.story) keeps p (is_found c r p keeps hand is_p) q met grows its.known fit [] no_turn c.story tells
+      kept : Invariant (v, c.ghost_state)
+      kept = keeps_then (c.world, c.ghost_state) keeps p (is_found c r p keeps hand is_p) q met grows its.known fit [] no_turn c.ghost_state tells
 
       found : participant v c.session.by ≡ Some q
-      found = found_its (c.world, c.story) keeps p (is_found c r p keeps hand is_p) q met grows its.known fit [] no_turn c.story tells c.session.by ((bytes_eq-Decides c.session.by p.name).1 (sym (is_by c r p keeps hand is_p)))
+      found = found_its (c.world, c.ghost_state) keeps p (is_found c r p keeps hand is_p) q met grows its.known fit [] no_turn c.ghost_state tells c.session.by ((bytes_eq-Decides c.session.by p.name).1 (sym (is_by c r p keeps hand is_p)))
 
-      before : NamesTellApart (named_bytes v) → NamesTellApart (named_bytes c.world)
-      before = apart_before (c.world, c.story) keeps p (is_found c r p keeps hand is_p) q met grows its.known fit [] no_turn c.story tells
+      before : IsCollisionFree (named_bytes v) → IsCollisionFree (named_bytes c.world)
+      before = apart_before (c.world, c.ghost_state) keeps p (is_found c r p keeps hand is_p) q met grows its.known fit [] no_turn c.ghost_state tells
 
       abbrev began : Began
-      began = record c.began { knew = known_of c.story p.name }
+      began = record c.began { knew = known_of c.ghost_state p.name }
 
-      -- ---- it begins anew
+      -- ---- it begins again
 
       abbrev standing : Standing
-      standing = anew_in hss (after_of p.agent p.agent.signer.made p.agent.floor h load p.agent.pending p.agent.has_failed) c.session.standing.view
+      standing = begun_again_in hss_signing (after_of p.agent p.agent.signer.made p.agent.floor h load p.agent.pending p.agent.has_failed) c.session.standing.view
 
       abbrev t : Session
-      t = anew c.session (anew_in hss (after_of p.agent p.agent.signer.made p.agent.floor h load p.agent.pending p.agent.has_failed) c.session.standing.view)
+      t = anew c.session (begun_again_in hss_signing (after_of p.agent p.agent.signer.made p.agent.floor h load p.agent.pending p.agent.has_failed) c.session.standing.view)
 
       came : ComesTo standing []
       came = refresh_begins standing
@@ -199,7 +199,7 @@ module _ (c : Scene) (r : ℕ) (p : Participant) (keeps : Keeps (c.world, c.stor
         goes_on = on_so r t hand.goes_on.some_entry refl came.end goes;
       }
 
-      sound_anew : NamesTellApart (named_bytes c.world) → IsSoundSession v c.story t began
+      sound_anew : IsCollisionFree (named_bytes c.world) → IsSoundSession v c.ghost_state t began
       sound_anew apart = record {
         by = q;
         is_by = found;
@@ -208,7 +208,7 @@ module _ (c : Scene) (r : ℕ) (p : Participant) (keeps : Keeps (c.world, c.stor
         held = refl;
         edges = refl;
         to_load = tt;
-        known = λ x among. subst (λ (n : List ℕ). Contains (known_of c.story n) x) (is_by c r p keeps hand is_p) among;
+        known = λ x among. subst (λ (n : List ℕ). Contains (known_of c.ghost_state n) x) (is_by c r p keeps hand is_p) among;
         floor = λ log. le_refl (seq_of a.floor log);
         keeps_up = still (holds apart).fresh.0 refl refl;
         anew = λ some. (holds apart).fresh;
@@ -217,7 +217,7 @@ module _ (c : Scene) (r : ℕ) (p : Participant) (keeps : Keeps (c.world, c.stor
         blocks = λ key bytes among. absurd (in_nothing (BlockOf key (Ok bytes)) among);
       }
 
-      anew_in_hand : IsInHand (record { world = v; story = c.story; session = t; began = began }) r
+      anew_in_hand : IsInHand (record { world = v; ghost_state = c.ghost_state; session = t; began = began }) r
       anew_in_hand = record {
         number = hand.number;
         goes_on = record {
@@ -231,19 +231,19 @@ module _ (c : Scene) (r : ℕ) (p : Participant) (keeps : Keeps (c.world, c.stor
           pending = fit.pending;
           stage = subst (λ (stage : Stage). IsAtStage v r t stage) (sym done.0) refreshing;
         };
-        said = subst (λ (stage : Stage). HasSaid c.story c.began.number t (said_at stage)) (sym done.0) tt;
+        said = subst (λ (stage : Stage). HasSaid c.ghost_state c.began.number t (said_at stage)) (sym done.0) tt;
         sound = λ apart. sound_anew (before apart);
       }
 
-      leaves_anew : StepLeaves c (record { world = v; story = c.story; session = t; began = began }) r
-      leaves_anew = (kept, anew_in_hand, [], sym (append-nil c.story.turns), λ g among. absurd (in_nothing g among))
+      leaves_anew : StepLeaves c (record { world = v; ghost_state = c.ghost_state; session = t; began = began }) r
+      leaves_anew = (kept, anew_in_hand, [], sym (append-nil c.ghost_state.turns), λ g among. absurd (in_nothing g among))
 
       -- ---- or it is over, which comes under a clash alone
 
       abbrev over : Session
       over = ended c.session (said_no_memory xid) notes None
 
-      leaves_over : (NamesTellApart (named_bytes c.world) → ⊥) → StepLeaves c (record { world = v; story = c.story; session = over; began = began }) r
+      leaves_over : (IsCollisionFree (named_bytes c.world) → ⊥) → StepLeaves c (record { world = v; ghost_state = c.ghost_state; session = over; began = began }) r
       leaves_over clash = (
         kept,
         record {
@@ -263,24 +263,24 @@ module _ (c : Scene) (r : ℕ) (p : Participant) (keeps : Keeps (c.world, c.stor
           sound = λ apart. absurd (clash (before apart));
         },
         [],
-        sym (append-nil c.story.turns),
+        sym (append-nil c.ghost_state.turns),
         λ g among. absurd (in_nothing g among),
       )
 
   -- ---- the agent is behind
 
-  module _ (s : Session) (b : Began) (sound : IsSoundSession c.world c.story s b) (by_is : s.by ≡ p.name) where
+  module _ (s : Session) (b : Began) (sound : IsSoundSession c.world c.ghost_state s b) (by_is : s.by ≡ p.name) where
     one : sound.by ≡ p
     one = some_same sound.by p (sym sound.is_by ∙ ap (participant c.world) by_is ∙ is_found c r p keeps hand is_p)
 
     known_still : (x : Record) → Contains b.knew x → Contains its.known x
-    known_still x among = subst (λ (n : List ℕ). Contains (known_of c.story n) x) by_is (sound.known x among)
+    known_still x among = subst (λ (n : List ℕ). Contains (known_of c.ghost_state n) x) by_is (sound.known x among)
 
     stays_as_it_is : StaysSound s b sound.of a its.known
     stays_as_it_is = record {
       known = known_still;
       floor = λ log. subst (λ (o : Participant). seq_of s.standing.floor log ≤ seq_of o.agent.floor log) one (sound.floor log);
-      keeps_up = subst (λ (n : List ℕ). KeepsUp s sound.of a (known_of c.story n)) by_is (subst (λ (o : Participant). KeepsUp s sound.of o.agent (known_of c.story s.by)) one sound.keeps_up);
+      keeps_up = subst (λ (n : List ℕ). KeepsUp s sound.of a (known_of c.ghost_state n)) by_is (subst (λ (o : Participant). KeepsUp s sound.of o.agent (known_of c.ghost_state s.by)) one sound.keeps_up);
       anew = λ some. subst (λ (o : Participant). (o.agent.to_load ≡ None) × (o.agent.holding.basis ≡ fresh_basis)) one (sound.anew some);
       stays_fresh = λ fresh. subst (λ (o : Participant). (o.agent.to_load ≡ None) × (o.agent.holding.basis ≡ fresh_basis)) one (sound.stays_fresh fresh);
     }
@@ -299,20 +299,20 @@ module _ (c : Scene) (r : ℕ) (p : Participant) (keeps : Keeps (c.world, c.stor
         by zero e = e
         by (suc n) e = absurd (not_fresh (stays_as_it_is.anew (omega (arith, e))))
 
-  module _ (is_late : is_behind c.session.standing.view (own p.agent) p.agent.floor (going_on p.agent given.basis) given ≡ true) (apart : NamesTellApart (named_bytes c.world)) where
-    sound_now : IsSoundSession c.world c.story c.session c.began
+  module _ (is_late : is_behind c.session.standing.view (own_hss_key p.agent) p.agent.floor (going_on p.agent given.basis) given ≡ true) (apart : IsCollisionFree (named_bytes c.world)) where
+    sound_now : IsSoundSession c.world c.ghost_state c.session c.began
     sound_now = hand.sound apart
 
     viewed : a.view ≡ Some view
     viewed = in_view c r p keeps hand is_p
 
-    own_is : c.session.standing.own ≡ own a
+    own_is : c.session.standing.own ≡ own_hss_key a
     own_is = its_key c r hand p is_p
 
     not_behind : (floor : Vector) (o : Holding) → floor ≡ a.floor → o ≡ going_on a given.basis → is_behind view c.session.standing.own floor o given ≡ false → ⊥
-    not_behind floor o same_floor same_holding ahead = differ (is_behind view (own a) a.floor (going_on a given.basis) given) is_late
-        (subst (λ (x : Holding). is_behind view (own a) a.floor x given ≡ false) same_holding
-        (subst (λ (x : Vector). is_behind view (own a) x o given ≡ false) same_floor
+    not_behind floor o same_floor same_holding ahead = differ (is_behind view (own_hss_key a) a.floor (going_on a given.basis) given) is_late
+        (subst (λ (x : Holding). is_behind view (own_hss_key a) a.floor x given ≡ false) same_holding
+        (subst (λ (x : Vector). is_behind view (own_hss_key a) x o given ≡ false) same_floor
         (subst (λ (x : PubKey). is_behind view x floor o given ≡ false) own_is ahead)))
 
     fresh_by : KeepsUp c.session sound_now.of a its.known → (a.to_load ≡ None) × (a.holding.basis ≡ fresh_basis)
@@ -327,17 +327,17 @@ module _ (c : Scene) (r : ℕ) (p : Participant) (keeps : Keeps (c.world, c.stor
     behind_holds = record {
       knows = (agent_now c r p keeps hand is_p apart).knows;
       to_load = more_to_load c.world.met met grows p its.known a.view
-          (each (λ (o : Participant). IfSome o.agent.view (λ u. IfSome o.agent.to_load (λ root. (o.agent.holding ≡ nothing_held) × IsSnapshotOf c.world.met u (known_of c.story o.name) root))) c.world.participants p (all_sound c r p keeps hand is_p apart).to_load (is_there c r p keeps hand is_p));
+          (each (λ (o : Participant). IfSome o.agent.view (λ u. IfSome o.agent.to_load (λ root. (o.agent.holding ≡ nothing_held) × IsSnapshotOf c.world.met u (known_of c.ghost_state o.name) root))) c.world.participants p (all_sound c r p keeps hand is_p apart).to_load (is_there c r p keeps hand is_p));
       fresh = fresh_by (keeps_up c keeps apart sound_now p is_p viewed);
       sessions = stays_as_it_is;
     }
 
   -- ---- it is below the tide
 
-  module _ (is_low : is_below_tide (own p.agent) p.agent.floor (going_on p.agent given.basis) given ≡ true) (apart : NamesTellApart (named_bytes c.world)) where
+  module _ (is_low : is_below_tide (own_hss_key p.agent) p.agent.floor (going_on p.agent given.basis) given ≡ true) (apart : IsCollisionFree (named_bytes c.world)) where
     not_fresh : (a.to_load ≡ None) × (a.holding.basis ≡ fresh_basis) → ⊥
-    not_fresh f = differ (is_below_tide (own a) a.floor (going_on a given.basis) given) is_low
-        (subst (λ (x : Holding). is_below_tide (own a) a.floor x given ≡ false) (sym (goes_on_held a given.basis f.0)) (fresh_not_below (own a) a.floor a.holding given f.1))
+    not_fresh f = differ (is_below_tide (own_hss_key a) a.floor (going_on a given.basis) given) is_low
+        (subst (λ (x : Holding). is_below_tide (own_hss_key a) a.floor x given ≡ false) (sym (goes_on_held a given.basis f.0)) (fresh_not_below (own_hss_key a) a.floor a.holding given f.1))
 
     below_holds : HoldsThen nothing_held None
     below_holds = let old = (agent_now c r p keeps hand is_p apart).knows in record {
@@ -349,26 +349,26 @@ module _ (c : Scene) (r : ℕ) (p : Participant) (keeps : Keeps (c.world, c.stor
 
 -- ---- the law
 
-module _ (c : Scene) (r : ℕ) (p : Participant) (keeps : Keeps (c.world, c.story)) (hand : IsInHand c r) (is_p : participant c.world c.session.by ≡ Some p) where
-  abbrev Leaves : Agent → Option Kept → Session → Type 0
-  Leaves after save t = StepLeaves c (record c { world = world_after c.world (after_turn p after save); session = t; began = record c.began { knew = known_of c.story p.name } }) r
+module _ (c : Configuration) (r : ℕ) (p : Participant) (keeps : Invariant (c.world, c.ghost_state)) (hand : IsInHand c r) (is_p : participant c.world c.session.by ≡ Some p) where
+  abbrev Leaves : HssAgent → Option HssKept → Session → Type 0
+  Leaves after save t = StepLeaves c (record c { world = world_after c.world (after_turn p after save); session = t; began = record c.began { knew = known_of c.ghost_state p.name } }) r
 
   module _ (notes : List Note) (given : Refresh) (xid : ℕ) (asked : Asked) (done : HasRefreshed c.session notes given) (asks : Asks c.session.standing.view c.session.message xid asked) where
-    anew_so : (end : TurnEnd) (after : Agent) (save : Option Kept) → Turns hss given (turning_of c.world p c.session.standing.view) asked end after save → IsRefusal end
-        → Leaves after save (anew c.session (anew_in hss after c.session.standing.view))
+    anew_so : (end : TurnEnd) (after : HssAgent) (save : Option HssKept) → Turns hss_signing given (turning_of c.world p c.session.standing.view) asked end after save → IsRefusal end
+        → Leaves after save (anew c.session (begun_again_in hss_signing after c.session.standing.view))
     anew_so _ _ _ (behind is_late) refusal = leaves_anew c r p keeps hand is_p notes given xid asked done asks p.agent.holding p.agent.to_load (behind_holds c r p keeps hand is_p notes given xid asked done asks is_late)
     anew_so _ _ _ (below near is_low) refusal = leaves_anew c r p keeps hand is_p notes given xid asked done asks nothing_held None (below_holds c r p keeps hand is_p notes given xid asked done asks is_low)
     anew_so _ _ _ (answers_it _ _ _ _ _ _ _ _ _ _ _) refusal = absurd refusal
 
-    over_so : (end : TurnEnd) (after : Agent) (save : Option Kept) → Turns hss given (turning_of c.world p c.session.standing.view) asked end after save → IsRefusal end → (NamesTellApart (named_bytes c.world) → ⊥)
+    over_so : (end : TurnEnd) (after : HssAgent) (save : Option HssKept) → Turns hss_signing given (turning_of c.world p c.session.standing.view) asked end after save → IsRefusal end → (IsCollisionFree (named_bytes c.world) → ⊥)
         → Leaves after save (ended c.session (said_no_memory xid) notes None)
     over_so _ _ _ (behind is_late) refusal clash = leaves_over c r p keeps hand is_p notes given xid asked done asks p.agent.holding p.agent.to_load (behind_holds c r p keeps hand is_p notes given xid asked done asks is_late) clash
     over_so _ _ _ (below near is_low) refusal clash = leaves_over c r p keeps hand is_p notes given xid asked done asks nothing_held None (below_holds c r p keeps hand is_p notes given xid asked done asks is_low) clash
     over_so _ _ _ (answers_it _ _ _ _ _ _ _ _ _ _ _) refusal clash = absurd refusal
 
-  refused_so : (end : TurnEnd) (after : Agent) (save : Option Kept) (t : Session) → IsRefusal end → TakesTurn (turning_of c.world p c.session.standing.view) c.session end after save t → Leaves after save t
+  refused_so : (end : TurnEnd) (after : HssAgent) (save : Option HssKept) (t : Session) → IsRefusal end → TakesHssTurn (turning_of c.world p c.session.standing.view) c.session end after save t → Leaves after save t
   refused_so _ _ _ _ refusal (answers notes given xid asked reply applied after save done asks turns) = absurd refusal
-  refused_so _ _ _ _ refusal (begins_anew notes given xid asked end after save done asks turns is few) = anew_so notes given xid asked done asks end after save turns is
+  refused_so _ _ _ _ refusal (begins_again notes given xid asked end after save done asks turns is few) = anew_so notes given xid asked done asks end after save turns is
   refused_so _ _ _ _ refusal (gives_up notes given xid asked end after save done asks turns is many) = over_so notes given xid asked done asks end after save turns is (λ apart.
       let first = none_refused_later c r keeps apart hand p is_p notes given done c.session.standing.view (fails_next p.keeper) asked c.world.now end after save (its_view c r hand p is_p) turns is in
       absurd (omega (arith, first, many)))
@@ -376,4 +376,4 @@ module _ (c : Scene) (r : ℕ) (p : Participant) (keeps : Keeps (c.world, c.stor
 pub refused_turns_keep : RefusedTurnsKeep
 refused_turns_keep c r p view end after save t keeps hand ringed is_p in_view refusal takes =
     refused_so c r p keeps hand is_p end after save t refusal
-    (subst (λ (u : View). TakesTurn (turning_of c.world p u) c.session end after save t) (sym (one_view c.session.standing.view view (sym (its_view c r hand p is_p) ∙ in_view))) takes)
+    (subst (λ (u : View). TakesHssTurn (turning_of c.world p u) c.session end after save t) (sym (one_view c.session.standing.view view (sym (its_view c r hand p is_p) ∙ in_view))) takes)

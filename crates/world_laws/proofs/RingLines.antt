@@ -1,4 +1,4 @@
--- Lines that change the ring leave a world that keeps what it should.
+-- Lines that change the ring leave a world in which the invariant holds.
 use Rattle.std.proofs.Common.{◌≡◌, ◌≢◌, inl, inr, ⊎_elim, ℕ, zero, suc, ◌*◌, ◌<◌, ◌≤◌, Bool, true, false, cond, ◌&&◌, ◌||◌, not, List, [], ◌∷◌, ◌++◌, length, filter, Option, Some, None, refl, sym, ap, ◌∙◌, subst, arith, Contains, nat_lt, nat_le}
 use Rattle.std.specs.Prelude.{◌==◌, IfSome, is_some, map, fold, replicate}
 use Rattle.std.specs.List.{AllByRecursion}
@@ -32,7 +32,7 @@ use Rattle.round_laws.proofs.Fixing.{Looked, look_up}
 use Rattle.script_driver.specs.Run.{Outcome}
 use Rattle.world_model.specs.Nodes.{Node}
 use Rattle.world_model.specs.World.{World, NamedSession, live_peers, peer_of}
-use Rattle.world_model.specs.Story.{began_of}
+use Rattle.world_model.specs.GhostState.{began_of}
 use Rattle.world_model.specs.Fates.{Fates}
 use Rattle.world_model.specs.Fates.Fates.{none as fates_none, more as fates_more}
 use Rattle.world_model.specs.Ring.{AreSettled, JoinLine, LooksUp, RingLine, empty_node, first_peers, in_ring_order, is_known_id, joined_node, least, peer_numbered, with_new_node}
@@ -42,9 +42,9 @@ use Rattle.world_model.specs.Ring.JoinLine.{before_ring as join_before_ring, kno
 use Rattle.world_model.specs.Rounds.{RoundLine}
 use Rattle.world_model.specs.Rounds.RoundLine.{before_ring as round_before_ring, goes as round_goes}
 use Rattle.world_model.specs.Logs.{Played}
-use Rattle.world_laws.specs.Keeps.{AreSound, GoesOn, HasRing, IsSoundSession, Keeps}
+use Rattle.world_laws.specs.Invariant.{AreSound, GoesOn, HasRing, IsSoundSession, Invariant}
 use Rattle.world_laws.specs.Frames.{AreOfRing, JoinLinesKeep, RingLinesKeep, RoundLinesKeep}
-use Rattle.world_laws.proofs.Frames.{no_changes, nodes_of_ring, ring_keeps, ring_of, unchanged_mild, world_changes}
+use Rattle.world_laws.proofs.Frames.{no_changes, nodes_of_ring, ring_keeps, ring_of, unchanged_within_frame, world_changes}
 use Rattle.world_laws.proofs.Lines.{Keeping, by_world}
 use Rattle.world_laws.proofs.MoreMet.{some_weaker}
 use Rattle.world_laws.proofs.NodeFates.{HoldsMet, fate_rest}
@@ -52,7 +52,7 @@ use Rattle.world_laws.proofs.RoundBlocks.{round_hold, routes_hold}
 
 -- ---- rounds
 
-round_keeps : (w : Played) → Keeps w → (replicas : Option ℕ) → w.0.replicas ≡ replicas → (o : Outcome World) → RoundLine hss_judged w.0 replicas o → Keeping w.1 o
+round_keeps : (w : Played) → Invariant w → (replicas : Option ℕ) → w.0.replicas ≡ replicas → (o : Outcome World) → RoundLine hss_judged w.0 replicas o → Keeping w.1 o
 round_keeps w keeps _ ringed _ round_before_ring = tt
 round_keeps w keeps _ ringed _ (round_goes r next round) =
     let ring = nodes_of_ring w r keeps ringed in
@@ -69,12 +69,12 @@ fates_rest fates_none = refl
 fates_rest (fates_more {w} {mid} {next} {rest} to question answer fate others) = fates_rest others ∙ ap (λ (v : World). record v { nodes = next.nodes; asked = next.asked }) (fate_rest fate)
 
 record LookedUp (w : Played) (r : ℕ) (found : Option (List Peer)) (mid : World) : Type 0 where
-  keeps : Keeps (mid, w.1)
+  keeps : Invariant (mid, w.1)
   peers : map peer_of mid.nodes ≡ map peer_of w.0.nodes
   ringed : mid.replicas ≡ Some r
   made : IfSome found (AllByRecursion (λ q. IsAmong q (map peer_of mid.nodes)))
 
-looked_up : (w : Played) (r : ℕ) → Keeps w → w.0.replicas ≡ Some r → (key : Key) (through : Peer) (found : Option (List Peer)) (mid : World) → IsAmong through (map peer_of w.0.nodes) → LooksUp hss_judged w.0 key (through ∷ []) found mid
+looked_up : (w : Played) (r : ℕ) → Invariant w → w.0.replicas ≡ Some r → (key : Key) (through : Peer) (found : Option (List Peer)) (mid : World) → IsAmong through (map peer_of w.0.nodes) → LooksUp hss_judged w.0 key (through ∷ []) found mid
     → LookedUp w r found mid
 looked_up w r keeps ringed key through found mid among looks = record {
   keeps = ring_keeps w r mid w.1.acked keeps ringed rest (nodes_of r (shapes_of w.0) w.0.lost w.0.asked w.0.asked mid base looked.within) same (routes_hold w.0.met key looks.looks looks.fates keeps.met.held);
@@ -120,7 +120,7 @@ record IsNew (w : World) (r number : ℕ) (n : Node) : Type 0 where
   unknown : is_known_id (map peer_of w.nodes) (peer_numbered number) ≡ false
   few : length w.nodes < 256
 
-added_keeps : (w : Played) (r number : ℕ) (n : Node) → Keeps w → w.0.replicas ≡ Some r → IsNew w.0 r number n → Keeps (with_new_node w.0 n, w.1)
+added_keeps : (w : Played) (r number : ℕ) (n : Node) → Invariant w → w.0.replicas ≡ Some r → IsNew w.0 r number n → Invariant (with_new_node w.0 n, w.1)
 added_keeps w r number n keeps ringed new = world_changes w (record (no_changes w) { nodes = nodes }) keeps (record {
   peers = λ p h. subst (λ made. Contains made p) (sym more) (Contains-append_left (map peer_of w.0.nodes) (peer_of n ∷ []) p h);
   made = record {
@@ -134,7 +134,7 @@ added_keeps w r number n keeps ringed new = world_changes w (record (no_changes 
   views = keeps.met.views;
   moment = keeps.moment;
   grows = λ b h. h;
-  each = unchanged_mild w keeps w.0.met (λ b h. h);
+  each = unchanged_within_frame w keeps w.0.met (λ b h. h);
 })
   where
     nodes : List Node
@@ -220,7 +220,7 @@ module _ (w : Played) (r number : ℕ) where
     few = few;
   }
 
-join_keeps : (w : Played) → Keeps w → (number : ℕ) (replicas : Option ℕ) → w.0.replicas ≡ replicas → (o : Outcome World) → JoinLine hss_judged w.0 number replicas o → Keeping w.1 o
+join_keeps : (w : Played) → Invariant w → (number : ℕ) (replicas : Option ℕ) → w.0.replicas ≡ replicas → (o : Outcome World) → JoinLine hss_judged w.0 number replicas o → Keeping w.1 o
 join_keeps w keeps number _ ringed _ join_before_ring = tt
 join_keeps w keeps number _ ringed _ (join_known r known) = tt
 join_keeps w keeps number _ ringed _ (join_exceeds r unknown full) = tt
@@ -271,7 +271,7 @@ not_some : {A : Type 0} (o : Option A) → is_some o ≡ false → o ≡ None
 not_some None h = refl
 not_some (Some x) h = cc h
 
-ring_line_keeps : (w : Played) → Keeps w → (count r : ℕ) (o : Outcome World) → RingLine w.0 count r o → Keeping w.1 o
+ring_line_keeps : (w : Played) → Invariant w → (count r : ℕ) (o : Outcome World) → RingLine w.0 count r o → Keeping w.1 o
 ring_line_keeps w keeps count r _ (ring_refused h) = tt
 ring_line_keeps w keeps count r _ (ring_exceeds h few) = tt
 ring_line_keeps w keeps count r _ (ring_makes nodes allowed few settled) = record {

@@ -33,24 +33,24 @@ use Rattle.agent_model.specs.Turning.{Becomes, MayTake, MayWrite, TurnEnd, Turns
 use Rattle.agent_model.specs.Turning.Becomes.{loses, reads, saves}
 use Rattle.agent_model.specs.Turning.Turns.{answers, behind, below}
 use Rattle.turn_model.specs.Basis.{Holding}
-use Rattle.session_model.specs.Courses.{Settles}
-use Rattle.session_model.specs.Courses.Settles.{settles as settles_all}
-use Rattle.session_model.specs.Courses.TakesTurn.{answers as turn_answers, begins_anew, gives_up}
+use Rattle.session_model.specs.Executions.{Settles}
+use Rattle.session_model.specs.Executions.Settles.{settles as settles_all}
+use Rattle.session_model.specs.Executions.TakesTurn.{answers as turn_answers, begins_again, gives_up}
 use Rattle.session_model.specs.Sessions.{Session}
-use Rattle.world_model.specs.Agents.{Agent, IsKept, Kept, TakesTurn, hss, kept_bytes, opened, own, own_reach}
+use Rattle.world_model.specs.Agents.{HssAgent, IsHssKept, HssKept, TakesHssTurn, hss_signing, hss_kept_bytes, hss_opened as opened, own_hss_key, own_reach}
 use Rattle.world_model.specs.Keepers.{Keeper, asked_to_save}
 use Rattle.world_model.specs.Logs.{Played}
 use Rattle.world_model.specs.World.{Participant}
 use Rattle.turn_laws.specs.Laws.{HasRoom}
 use Rattle.world_laws.specs.FullRuns.{EmptyPublishesFew, FewPostsCome, HasFewPosts, MetLittle, PublishFew, ThereIsRoom, is_record}
-use Rattle.world_laws.specs.Keeps.{AreApart, IsKeptSo, IsMetPost, IsSavedWell, Keeps}
+use Rattle.world_laws.specs.Invariant.{AreApart, IsKeptSo, IsMetPost, IsSavedWell, Invariant}
 use Rattle.world_laws.proofs.KeptBytes.{kept_once}
 use Rattle.world_laws.proofs.LastingLines.{AllLast, IsLasting, LastsSnaps, lines_last}
 use Rattle.world_laws.proofs.NoSnapshotLines.{fewer_spelled}
 use Rattle.world_laws.proofs.NoSnapshotSaved.{reached, turns_are_saved}
 use Rattle.agent_laws.proofs.Floors.{joined_first}
 use Rattle.world_laws.proofs.Frames.{into_map}
-use Rattle.world_laws.proofs.Newcomer.{apart_more}
+use Rattle.world_laws.proofs.NewParticipant.{apart_more}
 use Rattle.world_laws.proofs.Placed.{apart_left}
 use Rattle.world_laws.proofs.SignedHeads.{from_map}
 
@@ -206,44 +206,44 @@ module _ (pending : List Post) (written : List Record) (head : Post) (is : is_he
 
 -- ---- turns
 
-module _ (view : View) (a : Agent) (h : Holding) (in_view : a.view ≡ Some view) (whole : IsKept (kept_of a)) (few : HasFewPosts (kept_of a)) (take : MayTake hss view a h) where
-  taken_few : HasFewPosts (kept_of (taking hss a h))
-  taken_few = record { records = let few = few.records in let more = joined_first (head_key_of (own a)) a.floor (joined h) take.spelled.in_order in omega (arith, few, more); heads = few.heads; blocks = few.blocks }
+module _ (view : View) (a : HssAgent) (h : Holding) (in_view : a.view ≡ Some view) (whole : IsHssKept (kept_of a)) (few : HasFewPosts (kept_of a)) (take : MayTake hss_signing view a h) where
+  taken_few : HasFewPosts (kept_of (taking hss_signing a h))
+  taken_few = record { records = let few = few.records in let more = joined_first (head_key_of (own_hss_key a)) a.floor (joined h) take.spelled.in_order in omega (arith, few, more); heads = few.heads; blocks = few.blocks }
 
-  wrote_few : (before : List Record) (last : Record) → MayWrite hss view a before last → HasFewPosts (kept_of (written_by hss a h before last))
+  wrote_few : (before : List Record) (last : Record) → MayWrite hss_signing view a before last → HasFewPosts (kept_of (written_by hss_signing a h before last))
   wrote_few before last may =
-      let head : Post = head_post hss a.signer (own_entry last).1 in record {
+      let head : Post = head_post hss_signing a.signer (own_entry last).1 in record {
         records = let few = few.records in let then_so = records_then a.pending (before ++ last ∷ []) head refl refl refl in let far = reached view a h in_view whole take before last may in omega (arith, few, then_so, far);
         heads = let one = heads_then a.pending (before ++ last ∷ []) head refl refl refl in omega (arith, one);
         blocks = subst (λ (ps : List Post). AreApart (map (λ (p : Post). p.bytes) ps)) (sym (blocks_then a.pending (before ++ last ∷ []) head refl refl refl)) few.blocks;
       }
 
-becomes_few : (view : View) (a : Agent) (h : Holding) (fails : Bool) (written : List Record) (after : Agent) (saving : Option Kept) → a.view ≡ Some view → IsKept (kept_of a) → HasFewPosts (kept_of a) → MayTake hss view a h
-    → Becomes hss view a h fails written after saving → HasFewPosts (kept_of after) × IfSome saving HasFewPosts
+becomes_few : (view : View) (a : HssAgent) (h : Holding) (fails : Bool) (written : List Record) (after : HssAgent) (saving : Option HssKept) → a.view ≡ Some view → IsHssKept (kept_of a) → HasFewPosts (kept_of a) → MayTake hss_signing view a h
+    → Becomes hss_signing view a h fails written after saving → HasFewPosts (kept_of after) × IfSome saving HasFewPosts
 becomes_few view a h fails _ _ _ in_view whole few take reads = (taken_few view a h in_view whole few take, tt)
 becomes_few view a h fails _ _ _ in_view whole few take (saves before last may succeeds) = let its = wrote_few view a h in_view whole few take before last may in (its, its)
 becomes_few view a h fails _ _ _ in_view whole few take (loses before last may failing) = (taken_few view a h in_view whole few take, wrote_few view a h in_view whole few take before last may)
 
 -- the agent may be saved, and neither it nor what its keeper holds has much to publish
-pub record HasSpace (a : Agent) (y : Keeper) : Type 0 where
-  pub whole : IsKept (kept_of a)
+pub record HasSpace (a : HssAgent) (y : Keeper) : Type 0 where
+  pub whole : IsHssKept (kept_of a)
   pub few : HasFewPosts (kept_of a)
-  pub kept : (k : Kept) × IsKept k × (y.kept ≡ Some (kept_bytes k)) × HasFewPosts k
+  pub kept : (k : HssKept) × IsHssKept k × (y.kept ≡ Some (hss_kept_bytes k)) × HasFewPosts k
 
 abbrev KeepsFew : Keeper → Type 0
-KeepsFew y = (k : Kept) × IsKept k × (y.kept ≡ Some (kept_bytes k)) × HasFewPosts k
+KeepsFew y = (k : HssKept) × IsHssKept k × (y.kept ≡ Some (hss_kept_bytes k)) × HasFewPosts k
 
-saved_few : (y : Keeper) (saving : Option Kept) → KeepsFew y → IfSome saving IsKept → IfSome saving HasFewPosts → KeepsFew (asked_to_save y saving)
+saved_few : (y : Keeper) (saving : Option HssKept) → KeepsFew y → IfSome saving IsHssKept → IfSome saving HasFewPosts → KeepsFew (asked_to_save y saving)
 saved_few y None h whole few = h
 saved_few y (Some k) h whole few = by (memory.planned_next y)
   where
-    by : (o : Option Bool) → KeepsFew (memory.after_planned o y (kept_bytes k))
+    by : (o : Option Bool) → KeepsFew (memory.after_planned o y (hss_kept_bytes k))
     by None = (k, whole, refl, few)
     by (Some true) = (k, whole, refl, few)
     by (Some false) = h
 
-turn_few : (given : Refresh) (a : Agent) (y : Keeper) (view : View) (fails : Bool) (asked : Asked) (now : Moment) (end : TurnEnd) (after : Agent) (saving : Option Kept) → a.view ≡ Some view → HasSpace a y
-    → Turns hss given (record { agent = a; view = view; now = now; fails = fails }) asked end after saving → HasSpace after (asked_to_save y saving)
+turn_few : (given : Refresh) (a : HssAgent) (y : Keeper) (view : View) (fails : Bool) (asked : Asked) (now : Moment) (end : TurnEnd) (after : HssAgent) (saving : Option HssKept) → a.view ≡ Some view → HasSpace a y
+    → Turns hss_signing given (record { agent = a; view = view; now = now; fails = fails }) asked end after saving → HasSpace after (asked_to_save y saving)
 turn_few given a y view fails asked now _ _ _ in_view space (behind late) = space
 turn_few given a y view fails asked now _ _ _ in_view space (below timely under) = record { whole = space.whole; few = space.few; kept = space.kept }
 turn_few given a y view fails asked now _ _ _ in_view space (answers h written reply after saving timely above same take becomes by_definition) =
@@ -251,15 +251,15 @@ turn_few given a y view fails asked now _ _ _ in_view space (answers h written r
     let few = becomes_few view a h fails written after saving in_view space.whole space.few take becomes in
     record { whole = whole.0; few = few.0; kept = saved_few y saving space.kept whole.1 few.1 }
 
-taking_few : (now : Moment) (a : Agent) (y : Keeper) (view : View) (fails : Bool) (s : Session) (end : TurnEnd) (after : Agent) (saving : Option Kept) (t : Session) → a.view ≡ Some view → HasSpace a y
-    → TakesTurn (record { agent = a; view = view; now = now; fails = fails }) s end after saving t → HasSpace after (asked_to_save y saving)
+taking_few : (now : Moment) (a : HssAgent) (y : Keeper) (view : View) (fails : Bool) (s : Session) (end : TurnEnd) (after : HssAgent) (saving : Option HssKept) (t : Session) → a.view ≡ Some view → HasSpace a y
+    → TakesHssTurn (record { agent = a; view = view; now = now; fails = fails }) s end after saving t → HasSpace after (asked_to_save y saving)
 taking_few now a y view fails s _ _ _ _ in_view space (turn_answers notes given xid asked reply applied after saving refreshed asks turns) = turn_few given a y view fails asked now _ after saving in_view space turns
-taking_few now a y view fails s _ _ _ _ in_view space (begins_anew notes given xid asked end after saving refreshed asks turns refusal few) = turn_few given a y view fails asked now end after saving in_view space turns
+taking_few now a y view fails s _ _ _ _ in_view space (begins_again notes given xid asked end after saving refreshed asks turns refusal few) = turn_few given a y view fails asked now end after saving in_view space turns
 taking_few now a y view fails s _ _ _ _ in_view space (gives_up notes given xid asked end after saving refreshed asks turns refusal many) = turn_few given a y view fails asked now end after saving in_view space turns
 
 -- ---- settling, entering, and starting again
 
-settled_few : (a after : Agent) (y : Keeper) (s t : Session) → HasSpace a y → Settles a s after t → HasSpace after y
+settled_few : (a after : HssAgent) (y : Keeper) (s t : Session) → HasSpace a y → Settles a s after t → HasSpace after y
 settled_few a _ y s _ space (settles_all said acks at) = record {
   whole = record {
     signer = space.whole.signer;
@@ -285,7 +285,7 @@ some_bytes : (a b : List ℕ) → Some a ≡ Some b → a ≡ b
 some_bytes a b e = cc e
 
 its_own_record : (signer : Signer) (now : Moment) → own_reach (opened signer now) ≡ 1
-its_own_record signer now = (let key : Key = head_key_of (own (opened signer now)) in ap (λ (b : Bool). reach (cond b (Some (own_entry (opening (own_key hss signer) now)).1) None)) (ties key key refl))
+its_own_record signer now = (let key : Key = head_key_of (own_hss_key (opened signer now)) in ap (λ (b : Bool). reach (cond b (Some (own_entry (opening (own_key hss_signing signer) now)).1) None)) (ties key key refl))
 
 space_lasts : IsLasting HasSpace
 space_lasts = record {
@@ -293,7 +293,7 @@ space_lasts = record {
   settles = settled_few;
   keeper = λ a y z same space. record { whole = space.whole; few = space.few; kept = (space.kept.0, space.kept.1, same ∙ space.kept.2, space.kept.3) };
   restarts = λ a y k space whole held.
-      let same : space.kept.0 ≡ k = kept_once space.kept.0 k space.kept.1 whole (some_bytes (kept_bytes space.kept.0) (kept_bytes k) (sym space.kept.2 ∙ held)) in
+      let same : space.kept.0 ≡ k = kept_once space.kept.0 k space.kept.1 whole (some_bytes (hss_kept_bytes space.kept.0) (hss_kept_bytes k) (sym space.kept.2 ∙ held)) in
       record { whole = whole; few = subst HasFewPosts same space.kept.3; kept = space.kept };
   enters = λ a y view space may.
       let few : HasFewPosts (kept_of (entered a view)) = record { records = space.few.records; heads = space.few.heads; blocks = space.few.blocks } in
@@ -343,8 +343,8 @@ apart_both (x ∷ xs) ys a b other = (
   apart_both xs ys a.1 b (λ z c. other z (there x xs z c)),
 )
 
-module _ (a : Agent) (root : Key) (blocks : List (List ℕ)) (apart : AreApart blocks) where
-  abbrev after : Agent
+module _ (a : HssAgent) (root : Key) (blocks : List (List ℕ)) (apart : AreApart blocks) where
+  abbrev after : HssAgent
   after = snapped a root blocks
 
   abbrev new : List (List ℕ)
@@ -382,7 +382,7 @@ space_snaps : LastsSnaps HasSpace
 space_snaps a y view space spelled =
     let root : Key = root_name view (basis_of a.holding) in
     let blocks : List (List ℕ) = snapshot_blocks view (basis_of a.holding) in
-    let whole : IsKept (kept_of (snapped a root blocks)) = record {
+    let whole : IsHssKept (kept_of (snapped a root blocks)) = record {
       signer = space.whole.signer;
       some = space.whole.some;
       few = space.whole.few;
@@ -469,7 +469,7 @@ few_posts_come w next line output keeps few step =
     record { agents = after.0; kept = after.1 }
 
 -- so many posts are to be published, where no more was met than a line may go on with
-pub few_pending : (w : Played) → Keeps w → PublishFew w.0 → MetLittle w.0 → (p : Participant) → Contains w.0.participants p → length p.agent.pending ≤ 17825795
+pub few_pending : (w : Played) → Invariant w → PublishFew w.0 → MetLittle w.0 → (p : Participant) → Contains w.0.participants p → length p.agent.pending ≤ 17825795
 few_pending w keeps few little p among =
     let saved = each (IsKeptSo IsSavedWell) w.0.participants p keeps.saved among in
     let posts = each (λ (q : Participant). HasFewPosts (kept_of q.agent)) w.0.participants p few.agents among in

@@ -13,10 +13,10 @@ use Rattle.dht_ids.specs.declared.ask.Ask.{Ask}
 use Rattle.dht_ids.specs.declared.ask.Ask.TheVariants as ask
 use Rattle.dht_ids.specs.declared.judge.Judged.{Judged}
 use Rattle.dht_ids.specs.declared.peer.Peer.{Peer}
-use Rattle.dhash_model.specs.Course.{Told}
+use Rattle.dhash_model.specs.Execution.{Told}
 use Rattle.dhash_model.specs.Stores.{Block, Blocks, bytes_held, without}
-use Rattle.dhash_model.specs.declared.kind.Kind.{Kind}
-use Rattle.dhash_model.specs.declared.kind.Kind.TheVariants.{Content, Head}
+use Rattle.dhash_model.specs.declared.kind.BlockKind.{BlockKind}
+use Rattle.dhash_model.specs.declared.kind.BlockKind.TheVariants.{Content, Head}
 use Rattle.node_store.specs.Stores.{IsStore}
 use Rattle.world_model.specs.Nodes.{Node}
 use Rattle.world_model.specs.World.{World, node_at, with_node}
@@ -80,7 +80,7 @@ module _ (met : List (List ℕ)) where
   asked_each question h [] = tt
   asked_each question h (s ∷ told) = (h, asked_each question h told)
 
-  pub of_kind : (kind : Kind) (key : Key) (bytes : List ℕ) → Contains met bytes → PutsMet met (question_as kind key bytes)
+  pub of_kind : (kind : BlockKind) (key : Key) (bytes : List ℕ) → Contains met bytes → PutsMet met (question_as kind key bytes)
   of_kind Content key bytes h = h
   of_kind Head key bytes h = h
 

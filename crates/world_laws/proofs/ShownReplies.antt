@@ -1,4 +1,4 @@
--- Which replies show that memory was wanting: none but that one.
+-- Which replies show that memory ran out: none but that one.
 use Rattle.std.proofs.Common.{◌≡◌, ◌≢◌, ◌⊎◌, inl, inr, ℕ, zero, suc, true, take, drop, nat_lt, Result, Ok, List, [], ◌∷◌, ◌++◌, Option, Some, None, refl, sym, ap, ◌∙◌, arith}
 use Rattle.std.proofs.lemmas.List.{append-nil}
 use Rattle.std.specs.List.{list_all}
@@ -8,14 +8,14 @@ use Rattle.hex.specs.declared.error.FromHexError.{FromHexError}
 use Rattle.hex.proofs.HexLemmas.{decode_of-encode_lower}
 use Rattle.tree_model.proofs.Sound.{both_true}
 use Rattle.turn_laws.proofs.Octets.{a_word, joined}
-use Rattle.wire_model.specs.Rpc.{Outcome, Success, ProgramUnavailable, ProgramMismatch, ProcedureUnavailable, GarbageArguments, SystemError, RpcMismatch, BadCredential, reply}
+use Rattle.wire_model.specs.Rpc.{CallOutcome, Success, ProgramUnavailable, ProgramMismatch, ProcedureUnavailable, GarbageArguments, SystemError, RpcMismatch, BadCredential, reply}
 use Rattle.log_model.specs.View.{View}
 use Rattle.nfs_model.specs.declared.replies.Reply.{Reply}
 use Rattle.session_model.specs.Replies.{IsByMessage, missed_reply, said_bare, said_no_memory, said_of}
 use Rattle.session_model.specs.Replies.IsByMessage.{no_call, other_version, no_program, no_version, no_procedure, no_caller, no_arguments, alone as by_itself}
 use Rattle.session_model.specs.Sessions.{Said, Session}
 use Rattle.world_model.specs.Calls.{reply_line, shown_message}
-use Rattle.world_model.specs.Story.{Story}
+use Rattle.world_model.specs.GhostState.{GhostState}
 use Rattle.world_laws.specs.Causes.{HasCause}
 use Rattle.world_laws.specs.Causes.HasCause.{alone, missed, turned, no_memory}
 
@@ -25,7 +25,7 @@ byte_at zero (b ∷ bs) = b
 byte_at (suc n) (b ∷ bs) = byte_at n bs
 
 -- the call was served, or refused for another reason
-abbrev pub IsOther : Outcome → Type 0
+abbrev pub IsOther : CallOutcome → Type 0
 IsOther SystemError = ⊥
 IsOther _ = Unit {0}
 
@@ -36,7 +36,7 @@ ShowsOther message = (xid : ℕ) (misses notes rest : List ℕ) → (shown_messa
 shows_none : ShowsOther None
 shows_none xid misses notes rest e = (let first : 110 ≡ 114 = ap (byte_at 0) e in omega (arith, first))
 
-pub shows_other : (x : ℕ) (o : Outcome) → IsOther o → ShowsOther (Some (reply x o))
+pub shows_other : (x : ℕ) (o : CallOutcome) → IsOther o → ShowsOther (Some (reply x o))
 unfolding encode_with
 shows_other x (Success result) other xid misses notes rest e = (let at : 48 ≡ 53 = ap (byte_at 53) e in omega (arith, at))
 shows_other x ProgramUnavailable other xid misses notes rest e = (let at : 49 ≡ 53 = ap (byte_at 53) e in omega (arith, at))
@@ -47,7 +47,7 @@ shows_other x SystemError other xid misses notes rest e = other
 shows_other x RpcMismatch other xid misses notes rest e = (let at : 49 ≡ 48 = ap (byte_at 29) e in omega (arith, at))
 shows_other x BadCredential other xid misses notes rest e = (let at : 49 ≡ 48 = ap (byte_at 29) e in omega (arith, at))
 
--- so it isn't said for want of memory
+-- so it isn't said because memory ran out
 pub said_other : (said : Said) → ShowsOther said.message → (xid : ℕ) → said ≢ said_no_memory xid
 said_other said shows xid is = shows xid [] [] [] (append-nil (shown_message said.message ++ []) ∙ ap (λ (m : Said). shown_message m.message ++ []) is)
 
@@ -64,14 +64,14 @@ by_message_other view message _ (by_itself c who args r is served caller are ans
 pub said_of_other : (xid : ℕ) (r : Reply) → ShowsOther (said_of xid r).message
 said_of_other xid r = shows_other xid (Success _) tt
 
--- What has a cause is said for want of memory, or shows no such reply.
-pub cause_shows : {st : Story} {number : ℕ} {s : Session} {said : Said} → HasCause st number s said → ((xid : ℕ) × (said ≡ said_no_memory xid)) ⊎ ShowsOther said.message
+-- What has a cause is said because memory ran out, or shows no such reply.
+pub cause_shows : {st : GhostState} {number : ℕ} {s : Session} {said : Said} → HasCause st number s said → ((xid : ℕ) × (said ≡ said_no_memory xid)) ⊎ ShowsOther said.message
 cause_shows {s = s} (alone given is) = inr (by_message_other s.standing.view s.message given is)
 cause_shows (missed xid asked given miss asks refreshed is) = inr (said_of_other xid (missed_reply asked miss))
 cause_shows (turned h xid asked given among of asks refreshed) = inr (said_of_other xid h.turned.reply)
 cause_shows (no_memory xid asked asks) = inl (xid, refl)
 
--- ---- the reply for want of memory
+-- ---- the reply when out of memory
 
 below : (bytes : List ℕ) → list_all (λ b. nat_lt b 256) bytes ≡ true → IsBytes bytes
 below [] h i = omega arith

@@ -7,7 +7,7 @@ use Rattle.world_model.specs.Calls.{reply_line}
 use Rattle.world_model.specs.Shows.{Showing, Absent, TooMuch, Text, Shows, showing, shown_as, word_of}
 use Rattle.world_model.specs.World.{World}
 
--- so a law holds of such a line if it holds of going on in that world with any text behind the line's word
+-- so a law holds of such a line if it holds of going on in that world with any text after the line's word
 pub shows_are_still : (w : World) (s : Shown) (Law : Outcome World → Type 0) → ((text : List ℕ) → Law (Goes w (word_of s ++ 32 ∷ text))) → Law Refuses → Law Exceeds → (outcome : Outcome World) → Shows w s outcome
     → Law outcome
 shows_are_still w s Law goes refuses exceeds outcome shows = subst Law (sym shows.2) (by (showing shows.0 w s))

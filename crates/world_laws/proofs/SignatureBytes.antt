@@ -21,15 +21,15 @@ use Rattle.hash_signature_model.specs.declared.set.Height.TheVariants.{H5, H10}
 use Rattle.hash_signature_model.specs.declared.set.Set.{Set}
 use Rattle.hash_signature_model.specs.declared.set.Width.{Width}
 use Rattle.hash_signature_model.specs.declared.set.Width.TheVariants.{W4, W8}
-use Rattle.hash_signature_model.specs.Nodes.{above, beside, node}
-use Rattle.hash_signature_model.specs.OneTime.{chain, coefficient, derived, joined, randomizer_of, signed_value, word}
+use Rattle.hash_signature_model.specs.Nodes.{above, sibling_of, node}
+use Rattle.hash_signature_model.specs.OneTime.{chain, coefficient, derived, joined_values, randomizer_of, signed_value, u32_string}
 use Rattle.hash_signature_model.specs.Parameters.{chains, leaves, levels, lms_type, ots_type}
 use Rattle.hash_signature_model.specs.Signatures.{code_of, path_of}
 use Rattle.hash_signature_model.specs.Saved.{AreOctets, IsSigner}
 use Rattle.hash_signature_model.specs.Signer.{Signer, hss_signature_of, leaf_signature, leaf_used, lower_key, next_signature, signed_by, signed_lower, tree_public}
 use Rattle.agent_model.specs.Agent.{own_key}
 use Rattle.agent_model.specs.SavedBytes.{AreOpaque}
-use Rattle.world_model.specs.Agents.{hss, sealed}
+use Rattle.world_model.specs.Agents.{hss_signing, hss_sealed}
 use Rattle.world_laws.proofs.PublicKeys.{digest_octets, is_byte, node_octets, owner_is_key, tree_octets, word_octets}
 
 -- bytes, so many at most
@@ -49,8 +49,8 @@ after m n a b f g = record { few = omega (arith, length-append a b, f.few, g.few
 within : (m n : ℕ) (xs : List ℕ) → m ≤ n → IsShort m xs → IsShort n xs
 within m n xs le h = record { few = omega (arith, le, h.few); each = h.each }
 
-a_word : (n : ℕ) → IsShort 4 (word n)
-a_word n = of_octets 4 (word n) (word_octets n)
+a_word : (n : ℕ) → IsShort 4 (u32_string n)
+a_word n = of_octets 4 (u32_string n) (word_octets n)
 
 -- ---- the first of some bytes
 
@@ -77,10 +77,10 @@ unfolding chain
 chain_octets id leaf i from zero value h = h
 chain_octets id leaf i from (suc steps) value h = digest_octets _
 
-joined_short : (values : ℕ → List ℕ) → ((i : ℕ) → AreOctets 32 (values i)) → (n : ℕ) → IsShort (32 * n) (joined values n)
-unfolding joined
+joined_short : (values : ℕ → List ℕ) → ((i : ℕ) → AreOctets 32 (values i)) → (n : ℕ) → IsShort (32 * n) (joined_values values n)
+unfolding joined_values
 joined_short values h zero = no_bytes
-joined_short values h (suc n) = within (32 * n + 32) (32 * suc n) (joined values n ++ values n) (omega arith) (after (32 * n) 32 (joined values n) (values n) (joined_short values h n) (of_octets 32 (values n) (h n)))
+joined_short values h (suc n) = within (32 * n + 32) (32 * suc n) (joined_values values n ++ values n) (omega arith) (after (32 * n) 32 (joined_values values n) (values n) (joined_short values h n) (of_octets 32 (values n) (h n)))
 
 few_chains : (w : Width) → chains w ≤ 67
 few_chains W4 = omega arith
@@ -92,10 +92,10 @@ few_levels H10 = omega arith
 
 leaf_short : (key : PrivateKey) (leaf : ℕ) (message : List ℕ) → IsShort 2508 (leaf_signature key leaf message)
 leaf_short key leaf message =
-    after 4 2504 (word leaf) (word (ots_type key.set.w) ++ (((random ++ values) ++ word (lms_type key.set.h)) ++ path_of key leaf)) (a_word leaf)
-    (after 4 2500 (word (ots_type key.set.w)) (((random ++ values) ++ word (lms_type key.set.h)) ++ path_of key leaf) (a_word (ots_type key.set.w))
-    (after 2180 320 ((random ++ values) ++ word (lms_type key.set.h)) (path_of key leaf)
-    (after 2176 4 (random ++ values) (word (lms_type key.set.h)) (after 32 2144 random values (of_octets 32 random (derived_octets key.id key.seed leaf 0xfffd)) some_values) (a_word (lms_type key.set.h)))
+    after 4 2504 (u32_string leaf) (u32_string (ots_type key.set.w) ++ (((random ++ values) ++ u32_string (lms_type key.set.h)) ++ path_of key leaf)) (a_word leaf)
+    (after 4 2500 (u32_string (ots_type key.set.w)) (((random ++ values) ++ u32_string (lms_type key.set.h)) ++ path_of key leaf) (a_word (ots_type key.set.w))
+    (after 2180 320 ((random ++ values) ++ u32_string (lms_type key.set.h)) (path_of key leaf)
+    (after 2176 4 (random ++ values) (u32_string (lms_type key.set.h)) (after 32 2144 random values (of_octets 32 random (derived_octets key.id key.seed leaf 0xfffd)) some_values) (a_word (lms_type key.set.h)))
     some_path))
   where
     random : List ℕ
@@ -105,7 +105,7 @@ leaf_short key leaf message =
     value = signed_value key.set.w key.id key.seed leaf (code_of key leaf message)
 
     values : List ℕ
-    values = joined value (chains key.set.w)
+    values = joined_values value (chains key.set.w)
 
     some_values : IsShort 2144 values
     some_values = within (32 * chains key.set.w) 2144 values (omega (arith, few_chains key.set.w))
@@ -113,7 +113,7 @@ leaf_short key leaf message =
 
     some_path : IsShort 320 (path_of key leaf)
     some_path = within (32 * levels key.set.h) 320 (path_of key leaf) (omega (arith, few_levels key.set.h))
-        (joined_short (λ n. node key.set key.id key.seed n (beside (above (leaves key.set.h + leaf) n))) (λ n. node_octets key.set key.id key.seed n (beside (above (leaves key.set.h + leaf) n))) (levels key.set.h))
+        (joined_short (λ n. node key.set key.id key.seed n (sibling_of (above (leaves key.set.h + leaf) n))) (λ n. node_octets key.set key.id key.seed n (sibling_of (above (leaves key.set.h + leaf) n))) (levels key.set.h))
 
 -- ---- a signature
 
@@ -137,7 +137,7 @@ signature_short : (id seed : List ℕ) (sets : List Set) (made : ℕ) (message :
 signature_short id seed [] made message few = record { few = omega arith; each = refl }
 signature_short id seed (set ∷ lower) made message few =
     within (4 + 2564 * (length lower + 1)) 8000 _ (omega (arith, few))
-    (after 4 (2564 * (length lower + 1)) (word (length lower)) (signed_by (record { set = set; id = id; seed = seed }) lower made message) (a_word (length lower)) (signed_short (record { set = set; id = id; seed = seed }) lower made message))
+    (after 4 (2564 * (length lower + 1)) (u32_string (length lower)) (signed_by (record { set = set; id = id; seed = seed }) lower made message) (a_word (length lower)) (signed_short (record { set = set; id = id; seed = seed }) lower made message))
 
 -- ---- heads and opening records
 
@@ -149,7 +149,7 @@ padding_short : (n : ℕ) → IsShort 3 (padding n)
 padding_short n = within ((4 - n % 4) % 4) 3 (padding n) (omega arith) (zeros_short ((4 - n % 4) % 4))
 
 opaque_short : (most : ℕ) (bytes : List ℕ) → IsShort most bytes → IsShort (4 + (most + 3)) (opaque bytes)
-opaque_short most bytes h = after 4 (most + 3) (word (length bytes)) (bytes ++ padding (length bytes)) (a_word (length bytes)) (after most 3 bytes (padding (length bytes)) h (padding_short (length bytes)))
+opaque_short most bytes h = after 4 (most + 3) (u32_string (length bytes)) (bytes ++ padding (length bytes)) (a_word (length bytes)) (after most 3 bytes (padding (length bytes)) h (padding_short (length bytes)))
 
 key_short : (k : Key) → IsKey k → IsShort 20 k.0
 key_short k h = record { few = omega (arith, h.size); each = h.each }
@@ -157,29 +157,29 @@ key_short k h = record { few = omega (arith, h.size); each = h.each }
 to_opaque : (most : ℕ) (bytes : List ℕ) → most < 2 ^ 32 → IsShort most bytes → AreOpaque bytes
 to_opaque most bytes fits h = (omega (arith, fits, h.few), h.each)
 
-pub sealed_opaque : (s : Signer) → IsSigner s → (t : Stamp) → IsKey t.name → AreOpaque (sealed s t)
+pub sealed_opaque : (s : Signer) → IsSigner s → (t : Stamp) → IsKey t.name → AreOpaque (hss_sealed s t)
 sealed_opaque s whole t named =
-    to_opaque 8095 (sealed s t) (omega arith)
-    (after 88 8007 (((head_tag ++ owner) ++ word t.seq) ++ t.name.0) (opaque signature)
-    (after 68 20 ((head_tag ++ owner) ++ word t.seq) t.name.0
-    (after 64 4 (head_tag ++ owner) (word t.seq) (after 4 60 head_tag owner (record { few = omega arith; each = refl }) (record { few = omega (arith, key.size); each = key.each })) (a_word t.seq))
+    to_opaque 8095 (hss_sealed s t) (omega arith)
+    (after 88 8007 (((head_tag ++ owner) ++ u32_string t.seq) ++ t.name.0) (opaque signature)
+    (after 68 20 ((head_tag ++ owner) ++ u32_string t.seq) t.name.0
+    (after 64 4 (head_tag ++ owner) (u32_string t.seq) (after 4 60 head_tag owner (record { few = omega arith; each = refl }) (record { few = omega (arith, key.size); each = key.each })) (a_word t.seq))
     (key_short t.name named))
     (opaque_short 8000 signature (signature_short s.id s.seed s.sets s.made _ whole.sets.few)))
   where
     owner : List ℕ
-    owner = (own_key hss s).0
+    owner = (own_key hss_signing s).0
 
     key : IsBlock 60 owner
     key = owner_is_key s whole
 
     signature : List ℕ
-    signature = next_signature s (head_message (own_key hss s) t)
+    signature = next_signature s (head_message (own_key hss_signing s) t)
 
 pub opening_opaque : (own : PubKey) (now : Moment) → AreOpaque (record_block (opening own now))
 opening_opaque own now =
     to_opaque 64 (record_block (opening own now)) (omega arith)
-    (after 64 0 (kept ++ word 0) [] (after 60 4 kept (word 0) (after 52 8 numbered (moment now) (after 48 4 named (word 1) (after 28 20 tagged no_name.0 (after 8 20 (record_tag One ++ word 9) head_key (record { few = omega arith; each = refl }) key)
-    (record { few = omega arith; each = refl })) (a_word 1)) (after 4 4 (word now.sec) (word now.nsec) (a_word now.sec) (a_word now.nsec))) (a_word 0)) no_bytes)
+    (after 64 0 (kept ++ u32_string 0) [] (after 60 4 kept (u32_string 0) (after 52 8 numbered (moment now) (after 48 4 named (u32_string 1) (after 28 20 tagged no_name.0 (after 8 20 (record_tag One ++ u32_string 9) head_key (record { few = omega arith; each = refl }) key)
+    (record { few = omega arith; each = refl })) (a_word 1)) (after 4 4 (u32_string now.sec) (u32_string now.nsec) (a_word now.sec) (a_word now.nsec))) (a_word 0)) no_bytes)
   where
     head_key : List ℕ
     head_key = (head_key_of own).0
@@ -188,13 +188,13 @@ opening_opaque own now =
     key = record { few = omega (arith, length-digest own.0); each = bytes-digest own.0 }
 
     tagged : List ℕ
-    tagged = (record_tag One ++ word 9) ++ head_key
+    tagged = (record_tag One ++ u32_string 9) ++ head_key
 
     named : List ℕ
     named = tagged ++ no_name.0
 
     numbered : List ℕ
-    numbered = named ++ word 1
+    numbered = named ++ u32_string 1
 
     kept : List ℕ
     kept = numbered ++ moment now

@@ -8,7 +8,7 @@ use Rattle.log_model.proofs.Lists.{each, each_from, here, in_cons, in_nothing, t
 use Rattle.log_model.specs.Vector.{Stamp}
 use Rattle.hash_signature_model.specs.Signer.{Signer}
 use Rattle.world_model.specs.World.{meets}
-use Rattle.world_laws.specs.Keeps.{AreSignedOnce, sealed_with}
+use Rattle.world_laws.specs.Invariant.{AreSignedOnce, sealed_with}
 use Rattle.world_laws.proofs.Lines.{meets_it, meets_more}
 use Rattle.world_laws.proofs.SignedHeads.{from_map}
 

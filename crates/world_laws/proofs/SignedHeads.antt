@@ -5,10 +5,10 @@ use Rattle.log_model.proofs.Lists.{each, here, in_cons, in_nothing, there}
 use Rattle.hash_signature_model.specs.Signer.{capacity}
 use Rattle.hss_keys.specs.Signer.{leaves_used}
 use Rattle.hss_keys.proofs.Signing.{no_leaf_twice}
-use Rattle.world_model.specs.Agents.{IsKept, Kept, kept_bytes, own_reach}
+use Rattle.world_model.specs.Agents.{IsHssKept, HssKept, hss_kept_bytes, own_reach}
 use Rattle.world_model.specs.World.{Participant}
 use Rattle.world_model.specs.Steps.{heads_by}
-use Rattle.world_laws.specs.Keeps.{IsKeptSo, SignsOnce, sealed_with}
+use Rattle.world_laws.specs.Invariant.{IsKeptSo, SignsOnce, sealed_with}
 use Rattle.world_laws.specs.Laws.{HeadsAreSavedFirst, LeafSignsOnce}
 use Rattle.world_laws.proofs.KeptBytes.{kept_once}
 
@@ -16,9 +16,9 @@ some_bytes : (a b : List ℕ) → Some a ≡ Some b → a ≡ b
 some_bytes a b e = cc e
 
 -- what holds of the one whose bytes the keeper holds holds of each that may be saved as those bytes
-pub so_of : (Holds : Participant → Kept → Type 0) (p : Participant) (k : Kept) → IsKeptSo Holds p → IsKept k → p.keeper.kept ≡ Some (kept_bytes k) → Holds p k
+pub so_of : (Holds : Participant → HssKept → Type 0) (p : Participant) (k : HssKept) → IsKeptSo Holds p → IsHssKept k → p.keeper.kept ≡ Some (hss_kept_bytes k) → Holds p k
 so_of Holds p k so whole held =
-    subst (Holds p) (kept_once so.0 k so.1 whole (some_bytes (kept_bytes so.0) (kept_bytes k) (sym so.2 ∙ held))) so.3
+    subst (Holds p) (kept_once so.0 k so.1 whole (some_bytes (hss_kept_bytes so.0) (hss_kept_bytes k) (sym so.2 ∙ held))) so.3
 
 -- an element of a mapped list
 pub from_map : {A B : Type 0} (f : A → B) (xs : List A) (b : B) → Contains (map f xs) b → (a : A) × Contains xs a × (b ≡ f a)

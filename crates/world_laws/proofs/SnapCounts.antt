@@ -1,5 +1,5 @@
--- What would be saved of a snapshot has fewer posts than a word counts, where names tell apart and no more was met than a line may go on with: a snapshot has so many
--- blocks for each record of what it stands for, and each record has so many bytes.
+-- What would be saved of a snapshot has fewer posts than a word counts, where no names collide and no more was met than a line may go on
+-- with: a snapshot has so many blocks for each record of what it stands for, and each record has so many bytes.
 use Rattle.std.proofs.Common.{◌≡◌, ℕ, zero, suc, ◌+◌, ◌*◌, ◌/◌, ◌<◌, ◌≤◌, ◌^◌, Bool, true, false, cond, not, List, [], ◌∷◌, ◌++◌, length, map, fold, filter, take, drop, Option, Some, None, refl, sym, ap, ◌∙◌, subst, arith, Contains, append_assoc}
 use Rattle.std.specs.Prelude.{IfSome, IsTrue, if◌then◌else◌, nat_le, sum_by}
 use Rattle.std.specs.List.{AllByRecursion, cons_option, filter_map, flat_map, list_any}
@@ -13,7 +13,7 @@ use Rattle.ivy_base.specs.declared.key.Key.{Key}
 use Rattle.ivy_base.specs.declared.key.PubKey.{PubKey}
 use Rattle.ivy_base.specs.declared.operation.Kind.{Kind}
 use Rattle.ivy_base.specs.declared.operation.Kind.TheVariants.{Reg, Dir, Lnk}
-use Rattle.ivy_base.specs.Naming.{NamesTellApart, head_key_of, key_cmp}
+use Rattle.ivy_base.specs.Naming.{IsCollisionFree, head_key_of, key_cmp}
 use Rattle.ivy_base.proofs.NameLemmas.{length-digest}
 use Rattle.tree_model.specs.Tree.{Inode, Place, Tree, listing, longest_file, same_key}
 use Rattle.tree_model.proofs.Applied.{records_make_sound_trees}
@@ -40,17 +40,17 @@ use Rattle.ring_model.proofs.Lists.{all_weaker}
 use Rattle.dht_ids.specs.declared.post.Post.{Post}
 use Rattle.snapshot_model.specs.Blocks.{most_entries}
 use Rattle.snapshot_model.specs.Reading.{HasBounds, IsBodyOf}
-use Rattle.snapshot_model.specs.Spelling.{Made, entries_made, in_pieces, inode_made, items_of, list_made, list_of, listed, over, piece_made, snapshot_blocks, snapshot_of, with_block}
+use Rattle.snapshot_model.specs.Spelling.{Made, entries_made, in_pieces, inode_made, items_of, list_made, list_of, list_blocks_over, over, piece_made, snapshot_blocks, snapshot_of, with_block}
 use Rattle.snapshot_model.proofs.Pieces.{few_pieces, join-in_pieces, joined}
 use Rattle.snapshot_model.proofs.SortedEntries.{all_behind, not_below_itself}
 use Rattle.agent_model.specs.Others.{basis_of, block_post, is_pending_block}
-use Rattle.world_model.specs.Agents.{own}
+use Rattle.world_model.specs.Agents.{own_hss_key}
 use Rattle.world_model.specs.Logs.{Played}
-use Rattle.world_model.specs.Story.{knowing_of, known_of}
+use Rattle.world_model.specs.GhostState.{knowing_of, known_of}
 use Rattle.world_model.specs.World.{Participant, named_bytes}
 use Rattle.world_laws.specs.Effects.{snapped_in}
 use Rattle.world_laws.specs.FullRuns.{SnapshotsAreFew}
-use Rattle.world_laws.specs.Keeps.{AreApart, IsKeptSo, IsSavedWell, IsSound, IsSoundIn, Keeps}
+use Rattle.world_laws.specs.Invariant.{AreApart, IsKeptSo, IsSavedWell, IsSound, IsSoundIn, Invariant}
 use Rattle.world_laws.proofs.Publishing.{short_filter}
 use Rattle.world_laws.proofs.Rooms.{few_pending, no_more_bytes}
 use Rattle.world_laws.proofs.SignedHeads.{from_map}
@@ -100,15 +100,15 @@ half n count many few = let le = few (omega (arith, many)) in omega (arith, le)
 not_few : (n : ℕ) → nat_le n 512 ≡ false → 512 < n
 not_few n e = grind (arith, e)
 
-listed_sizes : (levels level : ℕ) (items : List Made) → sizes (listed levels level items).1 ≤ sizes items + length items
+listed_sizes : (levels level : ℕ) (items : List Made) → sizes (list_blocks_over levels level items).1 ≤ sizes items + length items
 listed_sizes zero level [] = omega arith
 listed_sizes zero level (m ∷ ms) = omega arith
 listed_sizes (suc n) level [] = omega arith
 listed_sizes (suc n) level (m ∷ ms) = by (nat_le (length (m ∷ ms)) 512) refl (listed_sizes n (level + 1) (map (list_made level) (in_pieces 512 (m ∷ ms))))
   where
     by : (b : Bool) → nat_le (length (m ∷ ms)) 512 ≡ b
-        → sizes (listed n (level + 1) (map (list_made level) (in_pieces 512 (m ∷ ms)))).1 ≤ sizes (map (list_made level) (in_pieces 512 (m ∷ ms))) + length (map (list_made level) (in_pieces 512 (m ∷ ms)))
-        → sizes (if b then (level, list_made level (m ∷ ms) ∷ []) else listed n (level + 1) (map (list_made level) (in_pieces 512 (m ∷ ms)))).1 ≤ sizes (m ∷ ms) + length (m ∷ ms)
+        → sizes (list_blocks_over n (level + 1) (map (list_made level) (in_pieces 512 (m ∷ ms)))).1 ≤ sizes (map (list_made level) (in_pieces 512 (m ∷ ms))) + length (map (list_made level) (in_pieces 512 (m ∷ ms)))
+        → sizes (if b then (level, list_made level (m ∷ ms) ∷ []) else list_blocks_over n (level + 1) (map (list_made level) (in_pieces 512 (m ∷ ms)))).1 ≤ sizes (m ∷ ms) + length (m ∷ ms)
     by true e rest = let one = sizes_cons (list_made level (m ∷ ms)) [] in let whole : size (list_made level (m ∷ ms)) ≡ sizes (m ∷ ms) + 1 = over_size _ (m ∷ ms) in omega (arith, one, whole)
     by false e rest =
         let lists = all_lists level (in_pieces 512 (m ∷ ms)) in
@@ -169,7 +169,7 @@ listed_in names dir = filter_map (λ e. if same_key dir e.0.0 then Some (e.0.1, 
 abbrev hits : Key → List (Key × Inode) → ℕ
 hits k inodes = sum_by (λ i. cond (same_key i.0 k) 1 0) inodes
 
--- a key that an inode behind has isn't that of the first
+-- a key that an inode after has isn't that of the first
 hits_none : (k : Key) (inodes : List (Key × Inode)) → AllByRecursion (λ i. same_key i.0 k ≡ false) inodes → hits k inodes ≡ 0
 hits_none k [] h = refl
 hits_none k (i ∷ inodes) h = let first = sum_by-cons (λ (x : Key × Inode). cond (same_key x.0 k) 1 0) i inodes in let none : cond {A = ℕ} (same_key i.0 k) 1 0 ≡ 0 = ap (λ (b : Bool). cond {A = ℕ} b 1 0) h.0 in let rest = hits_none k inodes h.1 in omega (arith, first, none, rest)
@@ -333,7 +333,7 @@ pub snapshots_are_few : SnapshotsAreFew
 snapshots_are_few w p view keeps few little apart among in_view =
     let a = p.agent in
     let saved = each (IsKeptSo IsSavedWell) w.0.participants p keeps.saved among in
-    let its_view = subst (λ (o : Option View). IfSome o (λ v. IsView v × HasKeys v × Contains v.members (own a) × AllByRecursion (λ e. IsTrue (is_named v e.0)) a.floor)) in_view saved.3.agent.view in
+    let its_view = subst (λ (o : Option View). IfSome o (λ v. IsView v × HasKeys v × Contains v.members (own_hss_key a) × AllByRecursion (λ e. IsTrue (is_named v e.0)) a.floor)) in_view saved.3.agent.view in
     let sound : IsSound w.0.met p (knowing_of w.1 p.name) view =
     subst (IsSoundIn w.0.met p (knowing_of w.1 p.name)) in_view (each (λ (x : Participant). IsSoundIn w.0.met x (knowing_of w.1 x.name) x.agent.view) w.0.participants p (keeps.sound apart).agents among) in
     let held = holding_stands view a.floor a.holding (known_of w.1 p.name) sound.knows in

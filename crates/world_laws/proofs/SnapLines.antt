@@ -1,4 +1,4 @@
--- The line that makes a snapshot leaves a world that keeps what it should.
+-- The line that makes a snapshot leaves a world in which the invariant holds.
 use Rattle.std.proofs.Common.{◌≡◌, ⊎_elim, inr, ℕ, Bool, true, false, not, ◌&&◌, List, [], ◌++◌, map, filter, Option, Some, None, refl, sym, ap, ◌∙◌, subst, arith, Contains}
 use Rattle.std.specs.Prelude.{IfSome, IsTrue, is_some, if◌then◌else◌}
 use Rattle.std.specs.List.{AllByRecursion}
@@ -8,7 +8,7 @@ use Rattle.tree_model.proofs.Sound.{both_true}
 use Rattle.std.proofs.lemmas.List.{append-nil}
 use Rattle.std.proofs.lemmas.List.Elements.{Contains-append_cases, Contains-append_left, Contains-append_right}
 use Rattle.ivy_base.specs.declared.key.Key.{Key}
-use Rattle.ivy_base.specs.Naming.{NamesTellApart}
+use Rattle.ivy_base.specs.Naming.{IsCollisionFree}
 use Rattle.ivy_io.specs.Keepers as memory
 use Rattle.dhash_model.specs.Signed.{hss_judged}
 use Rattle.log_model.specs.Closed.{log_of}
@@ -27,15 +27,15 @@ use Rattle.agent_model.specs.SavedBytes.{ArePostsSpelled, HasItsName}
 use Rattle.session_model.specs.Sessions.{Session}
 use Rattle.session_laws.specs.Loading.{IsSnapshotOf}
 use Rattle.script_driver.specs.Run.{Goes, Outcome}
-use Rattle.world_model.specs.Agents.{Agent, IsKept, Kept, kept_bytes, own, own_reach}
+use Rattle.world_model.specs.Agents.{HssAgent, IsHssKept, HssKept, hss_kept_bytes, own_hss_key, own_reach}
 use Rattle.world_model.specs.Keepers.{Keeper, asked_to_save}
 use Rattle.world_model.specs.World.{World, Participant, named_bytes, participant, with_participant}
-use Rattle.world_model.specs.Story.{Began, Knowing, knowing_of, known_of}
+use Rattle.world_model.specs.GhostState.{Began, Knowing, knowing_of, known_of}
 use Rattle.world_model.specs.Steps.{heads_by, met_by}
 use Rattle.world_model.specs.Logs.{Played, Publishes, SnapLine}
 use Rattle.world_model.specs.Logs.SnapLine.{cannot as snap_cannot, fails as snap_fails, makes as snap_makes, nobody as snap_nobody, outside as snap_outside}
-use Rattle.world_laws.specs.Keeps.{AreParticipants, AreSignedOnce, AreSound, EntersOwned, IsKeptSo, IsMetPost, IsSavedWell, IsSound, IsSoundIn, IsSoundKept, IsSoundKeptIn, IsSoundSession, Keeps, KeepsUp, NamesOneOf, SignsOnce}
-use Rattle.world_laws.specs.Keeps.KeepsUp.{dropped, grown, still}
+use Rattle.world_laws.specs.Invariant.{AreParticipants, AreSignedOnce, AreSound, EntersOwned, IsKeptSo, IsMetPost, IsSavedWell, IsSound, IsSoundIn, IsSoundKept, IsSoundKeptIn, IsSoundSession, Invariant, KeepsUp, NamesOneOf, SignsOnce}
+use Rattle.world_laws.specs.Invariant.KeepsUp.{dropped, grown, still}
 use Rattle.world_laws.specs.Frames.{unchanged}
 use Rattle.world_laws.specs.Laws.{SnapLinesKeep, SnapshotsKeep}
 use Rattle.world_laws.proofs.Bringing.{found_named, some_same}
@@ -71,13 +71,13 @@ pending_block pending b there =
     (found.0, found.1, (bytes_eq-Decides found.0.bytes b).0 (both_true (bytes_eq found.0.bytes b) (is_block found.0.kind) found.2).0)
 
 -- a session goes on as it did, whatever its agent has to publish
-still_up : (s : Session) (of : Holding) (a : Agent) (snapshot : Option Key) (posts : List Post) (known : List Record) → KeepsUp s of a known → KeepsUp s of (record a { snapshot = snapshot; pending = posts }) known
+still_up : (s : Session) (of : Holding) (a : HssAgent) (snapshot : Option Key) (posts : List Post) (known : List Record) → KeepsUp s of a known → KeepsUp s of (record a { snapshot = snapshot; pending = posts }) known
 still_up s of a snapshot posts known (still load held floor) = still load held floor
 still_up s of a snapshot posts known (grown load all far) = grown load all far
 still_up s of a snapshot posts known (dropped other first load basis) = dropped other first load basis
 
-module _ (w : Played) (keeps : Keeps w) (p : Participant) (is_p : participant w.0 p.name ≡ Some p) (view : View) (in_view : p.agent.view ≡ Some view) where
-  abbrev a : Agent
+module _ (w : Played) (keeps : Invariant w) (p : Participant) (is_p : participant w.0 p.name ≡ Some p) (view : View) (in_view : p.agent.view ≡ Some view) where
+  abbrev a : HssAgent
   a = p.agent
 
   abbrev root : Key
@@ -92,11 +92,11 @@ module _ (w : Played) (keeps : Keeps w) (p : Participant) (is_p : participant w.
   abbrev posts : List Post
   posts = a.pending ++ map block_post new_blocks
 
-  abbrev after : Agent
+  abbrev after : HssAgent
   after = snapped a root blocks
 
   -- what is saved
-  abbrev k : Kept
+  abbrev k : HssKept
   k = kept_of after
 
   abbrev now : Knowing
@@ -115,8 +115,8 @@ module _ (w : Played) (keeps : Keeps w) (p : Participant) (is_p : participant w.
   saved : IsSavedWell p so.0
   saved = so_of IsSavedWell p so.0 (each (IsKeptSo IsSavedWell) w.0.participants p keeps.saved among) so.1 so.2
 
-  its_view : IsView view × HasKeys view × Contains view.members (own a) × AllByRecursion (λ e. IsTrue (is_named view e.0)) a.floor
-  its_view = subst (λ (o : Option View). IfSome o (λ v. IsView v × HasKeys v × Contains v.members (own a) × AllByRecursion (λ e. IsTrue (is_named v e.0)) a.floor)) in_view saved.agent.view
+  its_view : IsView view × HasKeys view × Contains view.members (own_hss_key a) × AllByRecursion (λ e. IsTrue (is_named view e.0)) a.floor
+  its_view = subst (λ (o : Option View). IfSome o (λ v. IsView v × HasKeys v × Contains v.members (own_hss_key a) × AllByRecursion (λ e. IsTrue (is_named v e.0)) a.floor)) in_view saved.agent.view
 
   ours : IfSome a.view (AreParticipants w.0)
   ours = (each (EntersOwned w.0) w.0.participants p keeps.entered among).agent
@@ -152,9 +152,9 @@ module _ (w : Played) (keeps : Keeps w) (p : Participant) (is_p : participant w.
     pending = left;
   }
 
-  -- ---- where names tell apart
+  -- ---- where no names collide
 
-  module _ (apart : NamesTellApart (named_bytes w.0)) where
+  module _ (apart : IsCollisionFree (named_bytes w.0)) where
     old : AreSound w.0 w.1
     old = keeps.sound apart
 
@@ -173,8 +173,8 @@ module _ (w : Played) (keeps : Keeps w) (p : Participant) (is_p : participant w.
       within = stands.2;
     })
 
-    its_heads : AllByRecursion (NamesOneOf a.signer (log_of (own a) now.known)) p.left
-    its_heads = heads_known p so.0 saved view in_view now w.0.met so.3 so.1 (s.knows.by_floor.ends (own a) its_view.2)
+    its_heads : AllByRecursion (NamesOneOf a.signer (log_of (own_hss_key a) now.known)) p.left
+    its_heads = heads_known p so.0 saved view in_view now w.0.met so.3 so.1 (s.knows.by_floor.ends (own_hss_key a) its_view.2)
         (so_of (λ x y. IsSoundKeptIn w.0.met x (knowing_of w.1 x.name) y y.view) p so.0 (each (IsKeptSo (λ x y. IsSoundKeptIn w.0.met x (knowing_of w.1 x.name) y y.view)) w.0.participants p old.keepers among) so.1 so.2)
 
     -- what the saved bytes say
@@ -185,12 +185,12 @@ module _ (w : Played) (keeps : Keeps w) (p : Participant) (is_p : participant w.
       by_floor = s.knows.by_floor;
       closed = s.knows.closed;
       stand = more_stand w.0.met more grows_on now.known s.stand;
-      verified = more_verified w.0.met more grows_on view (own a) a.floor now.received now.known s.verified;
+      verified = more_verified w.0.met more grows_on view (own_hss_key a) a.floor now.received now.known s.verified;
       covers = s.covers;
       snapshot = snapshot_in more (λ b c. Contains-append_right met (map (λ (post : Post). post.bytes) posts) b (all_posted b c));
-      goes_on = ([], sym (append-nil (log_of (own a) now.known)));
-      heads = each_from (NamesOneOf a.signer (log_of (own a) now.known)) (p.left ++ heads_by posts) (λ b c.
-          each (NamesOneOf a.signer (log_of (own a) now.known)) p.left b its_heads (⊎_elim (λ left. left) (heads_left b) (Contains-append_cases p.left (heads_by posts) b c)));
+      goes_on = ([], sym (append-nil (log_of (own_hss_key a) now.known)));
+      heads = each_from (NamesOneOf a.signer (log_of (own_hss_key a) now.known)) (p.left ++ heads_by posts) (λ b c.
+          each (NamesOneOf a.signer (log_of (own_hss_key a) now.known)) p.left b its_heads (⊎_elim (λ left. left) (heads_left b) (Contains-append_cases p.left (heads_by posts) b c)));
     }
       where
         more : List (List ℕ)
@@ -213,7 +213,7 @@ module _ (w : Played) (keeps : Keeps w) (p : Participant) (is_p : participant w.
         one = some_same h.by p (sym h.is_by ∙ ap (participant w.0) by_is ∙ is_p)
 
   module _ (spelled : ArePostsSpelled posts) where
-    whole : IsKept k
+    whole : IsHssKept k
     whole = record {
       signer = saved.agent.signer;
       some = saved.agent.some;
@@ -226,7 +226,7 @@ module _ (w : Played) (keeps : Keeps w) (p : Participant) (is_p : participant w.
 
     -- ---- the snapshot is made
 
-    module _ (keeper : Keeper) (held : keeper.kept ≡ Some (kept_bytes k)) where
+    module _ (keeper : Keeper) (held : keeper.kept ≡ Some (hss_kept_bytes k)) where
       abbrev made : Participant
       made = q (Some root) posts a.has_failed keeper (Some root)
 
@@ -261,7 +261,7 @@ module _ (w : Played) (keeps : Keeps w) (p : Participant) (is_p : participant w.
         agent = λ apart. subst (IsSoundIn met made (knowing_then w p now.known)) (sym in_view) (let sound = s apart in record {
           knows = sound.knows;
           stand = more_stand w.0.met met grows now.known sound.stand;
-          verified = more_verified w.0.met met grows view (own a) a.floor now.received now.known sound.verified;
+          verified = more_verified w.0.met met grows view (own_hss_key a) a.floor now.received now.known sound.verified;
           covers = sound.covers;
         });
         keeper = λ apart. (k, whole, held, subst (IsSoundKeptIn met made (knowing_then w p now.known) k) (sym in_view) (kept_sound apart met grows (Some root) posts a.has_failed keeper (Some root)));
@@ -274,10 +274,10 @@ module _ (w : Played) (keeps : Keeps w) (p : Participant) (is_p : participant w.
       told : ToldThen w p now.known [] w.1
       told = record { names = refl; its = refl; others = λ name other. refl; received = keeps.received; sessions = refl; begun = refl; turns = sym (append-nil w.1.turns) }
 
-      made_keeps : Keeps (record (with_participant w.0 made) { met = met }, w.1)
+      made_keeps : Invariant (record (with_participant w.0 made) { met = met }, w.1)
       made_keeps = keeps_then w keeps p is_p made met grows now.known fit [] (λ h c. absurd (in_nothing h c)) w.1 told
 
-      published_keeps : (r : ℕ) (next : Played) → w.0.replicas ≡ Some r → Publishes hss_judged r (record (with_participant w.0 made) { met = met }, w.1) made next → Keeps next
+      published_keeps : (r : ℕ) (next : Played) → w.0.replicas ≡ Some r → Publishes hss_judged r (record (with_participant w.0 made) { met = met }, w.1) made next → Invariant next
       published_keeps r next ringed published =
           (whole_publishing_keeps (record (with_participant w.0 made) { met = met }, w.1) r made next made_keeps ringed (found_placed w.0 keeps.apart p.name p is_p made refl) published).0
 
@@ -287,7 +287,7 @@ module _ (w : Played) (keeps : Keeps w) (p : Participant) (is_p : participant w.
     failing_it keeper = q a.snapshot a.pending true keeper p.printed
 
     -- and the old bytes are kept
-    old_bytes_keep : (keeper : Keeper) → keeper.kept ≡ p.keeper.kept → Keeps (with_participant w.0 (failing_it keeper), w.1)
+    old_bytes_keep : (keeper : Keeper) → keeper.kept ≡ p.keeper.kept → Invariant (with_participant w.0 (failing_it keeper), w.1)
     old_bytes_keep keeper held = participant_keeps w p.name p (record (unchanged p) { has_failed = true; keeper = keeper }) keeps is_p (record {
       kept = held;
       pending = λ post c. c;
@@ -296,7 +296,7 @@ module _ (w : Played) (keeps : Keeps w) (p : Participant) (is_p : participant w.
     })
 
     -- or the new bytes are
-    new_bytes_keep : (keeper : Keeper) → keeper.kept ≡ Some (kept_bytes k) → Keeps (with_participant w.0 (failing_it keeper), w.1)
+    new_bytes_keep : (keeper : Keeper) → keeper.kept ≡ Some (hss_kept_bytes k) → Invariant (with_participant w.0 (failing_it keeper), w.1)
     new_bytes_keep keeper held = other_bytes_keep w keeps p is_p (record (unchanged p) { has_failed = true; keeper = keeper }) refl (record {
       cached = each _ w.0.participants p keeps.met.cached among;
       signs = (k, whole, held, signs_then a.snapshot a.pending true keeper p.printed so.3.pending);
@@ -307,18 +307,18 @@ module _ (w : Played) (keeps : Keeps w) (p : Participant) (is_p : participant w.
 
   -- ---- what comes of it
 
-  abbrev tried : Bool → Bool → (Agent × Bool) × Option Kept
+  abbrev tried : Bool → Bool → (HssAgent × Bool) × Option HssKept
   tried has_failed fails = if has_failed then ((a, false), None) else (if fails then (failed a, false) else (after, true), Some k)
 
   abbrev having : Bool → Bool → Participant
   having has_failed fails = record p { agent = (tried has_failed fails).0.0; keeper = asked_to_save p.keeper (tried has_failed fails).1 }
 
-  saved_now : (o : Option Bool) → memory.planned_next p.keeper ≡ o → (asked_to_save p.keeper (Some k)).kept ≡ (memory.after_planned o p.keeper (kept_bytes k)).kept
-  saved_now o planned = ap (λ x. (memory.after_planned x p.keeper (kept_bytes k)).kept) planned
+  saved_now : (o : Option Bool) → memory.planned_next p.keeper ≡ o → (asked_to_save p.keeper (Some k)).kept ≡ (memory.after_planned o p.keeper (hss_kept_bytes k)).kept
+  saved_now o planned = ap (λ x. (memory.after_planned x p.keeper (hss_kept_bytes k)).kept) planned
 
   failing : (has_failed : Bool) (o : Option Bool) → memory.planned_next p.keeper ≡ o → (tried has_failed (is_some o)).0.1 ≡ false → IfSome (tried has_failed (is_some o)).1 (λ l. ArePostsSpelled l.pending)
-      → Keeps (with_participant w.0 (having has_failed (is_some o)), w.1)
-  failing true o planned none spelled = subst (λ (v : World). Keeps (v, w.1)) (sym (placed_itself w.0 keeps.apart p.name p is_p)) keeps
+      → Invariant (with_participant w.0 (having has_failed (is_some o)), w.1)
+  failing true o planned none spelled = subst (λ (v : World). Invariant (v, w.1)) (sym (placed_itself w.0 keeps.apart p.name p is_p)) keeps
   failing false None planned none spelled = cc none
   failing false (Some true) planned none spelled = new_bytes_keep spelled (asked_to_save p.keeper (Some k)) (saved_now (Some true) planned)
   failing false (Some false) planned none spelled = old_bytes_keep spelled (asked_to_save p.keeper (Some k)) (saved_now (Some false) planned)
@@ -328,22 +328,22 @@ module _ (w : Played) (keeps : Keeps w) (p : Participant) (is_p : participant w.
 
   -- before what it has is published
   coming : (has_failed : Bool) (o : Option Bool) → memory.planned_next p.keeper ≡ o → (tried has_failed (is_some o)).0.1 ≡ true → ArePostsSpelled (printing has_failed (is_some o)).agent.pending
-      → Keeps (record (with_participant w.0 (printing has_failed (is_some o))) { met = met_by w.0.met (printing has_failed (is_some o)).agent.pending }, w.1)
+      → Invariant (record (with_participant w.0 (printing has_failed (is_some o))) { met = met_by w.0.met (printing has_failed (is_some o)).agent.pending }, w.1)
   coming true o planned some spelled = cc some
   coming false (Some new) planned some spelled = cc some
   coming false None planned some spelled = made_keeps spelled (asked_to_save p.keeper (Some k)) (saved_now None planned)
 
   making : (has_failed : Bool) → a.has_failed ≡ has_failed → (o : Option Bool) → memory.planned_next p.keeper ≡ o → (r : ℕ) (next : Played) → (tried has_failed (is_some o)).0.1 ≡ true → w.0.replicas ≡ Some r
       → ArePostsSpelled (printing has_failed (is_some o)).agent.pending
-      → Publishes hss_judged r (record (with_participant w.0 (printing has_failed (is_some o))) { met = met_by w.0.met (printing has_failed (is_some o)).agent.pending }, w.1) (printing has_failed (is_some o)) next → Keeps next
+      → Publishes hss_judged r (record (with_participant w.0 (printing has_failed (is_some o))) { met = met_by w.0.met (printing has_failed (is_some o)).agent.pending }, w.1) (printing has_failed (is_some o)) next → Invariant next
   making true failed_before o planned r next some ringed spelled published = cc some
   making false unfailed (Some new) planned r next some ringed spelled published = cc some
   making false unfailed None planned r next some ringed spelled published = published_keeps spelled (asked_to_save p.keeper (Some k)) (saved_now None planned) r next ringed published
 
 -- ---- the line
 
-snap_so : (w : Played) → Keeps w → (log : List ℕ) (o : Option Participant) → participant w.0 log ≡ o
-    → (out : Outcome Played) → SnapLine hss_judged w o out → ToSuch Keeps out
+snap_so : (w : Played) → Invariant w → (log : List ℕ) (o : Option Participant) → participant w.0 log ≡ o
+    → (out : Outcome Played) → SnapLine hss_judged w o out → ToSuch Invariant out
 snap_so w keeps log _ is _ snap_nobody = tt
 snap_so w keeps log _ is _ (snap_outside p out) = tt
 snap_so w keeps log _ is _ (snap_cannot p view in_view unspelled) = keeps

@@ -13,17 +13,17 @@ use Rattle.snapshot_model.proofs.DecidedForms.{dec_key, dec_same_key}
 use Rattle.agent_model.specs.Agent.{failed, is_head, kept_of}
 use Rattle.agent_model.specs.Others.{basis_of, snapped}
 use Rattle.agent_model.specs.SavedBytes.{AreOpaque, ArePostsSpelled, HasItsName}
-use Rattle.world_model.specs.Agents.{Agent, Kept}
+use Rattle.world_model.specs.Agents.{HssAgent, HssKept}
 use Rattle.world_model.specs.Keepers.{fails_next}
 use Rattle.world_model.specs.Logs.{having_snapped, snapping_in}
 use Rattle.world_model.specs.World.{Participant}
 use Rattle.world_laws.proofs.SecondTurns.{one_view}
 
 -- it is to be saved, and has a spelling; or it is to be saved, and has none
-abbrev pub IsSpelledIn : Option Kept → Type 0
+abbrev pub IsSpelledIn : Option HssKept → Type 0
 IsSpelledIn o = IfSome o (λ k. ArePostsSpelled k.pending)
 
-abbrev pub IsUnspelledIn : Option Kept → Type 0
+abbrev pub IsUnspelledIn : Option HssKept → Type 0
 IsUnspelledIn o = IsSomeAnd o (λ k. ArePostsSpelled k.pending → ⊥)
 
 -- ---- which
@@ -49,7 +49,7 @@ dec_posts : (posts : List Post) → Dec (ArePostsSpelled posts)
 dec_posts posts = map_dec {A = (length posts < 2 ^ 32) × AllByRecursion IsOne posts} (λ h. record { few = h.0; each = h.1 }) (λ h. (h.few, h.each))
     (dec_both (dec_lt (length posts) (2 ^ 32)) (dec_each IsOne dec_one posts))
 
-pub spelled_or_not : (o : Option Kept) → IsSpelledIn o ⊎ IsUnspelledIn o
+pub spelled_or_not : (o : Option HssKept) → IsSpelledIn o ⊎ IsUnspelledIn o
 spelled_or_not None = inl tt
 spelled_or_not (Some k) = by (dec_posts k.pending)
   where
@@ -59,15 +59,15 @@ spelled_or_not (Some k) = by (dec_posts k.pending)
 
 -- ---- never both
 
-pub not_both : (o : Option Kept) → IsSpelledIn o → IsUnspelledIn o → ⊥
+pub not_both : (o : Option HssKept) → IsSpelledIn o → IsUnspelledIn o → ⊥
 not_both None spelled unspelled = unspelled
 not_both (Some k) spelled unspelled = unspelled spelled
 
 -- what is to be published of a snapshot that was made is what is to be saved
-abbrev snap_out : Agent → Agent → Agent → Bool → Bool → (Agent × Bool) × Option Kept
+abbrev snap_out : HssAgent → HssAgent → HssAgent → Bool → Bool → (HssAgent × Bool) × Option HssKept
 snap_out a tried made before now = cond before ((a, false), None) (cond now (tried, false) (made, true), Some (kept_of made))
 
-made_so : (a tried made : Agent) (before now : Bool) → (snap_out a tried made before now).0.1 ≡ true → ArePostsSpelled (snap_out a tried made before now).0.0.pending → IsUnspelledIn (snap_out a tried made before now).1 → ⊥
+made_so : (a tried made : HssAgent) (before now : Bool) → (snap_out a tried made before now).0.1 ≡ true → ArePostsSpelled (snap_out a tried made before now).0.0.pending → IsUnspelledIn (snap_out a tried made before now).1 → ⊥
 made_so a tried made true now is spelled unspelled = cc is
 made_so a tried made false true is spelled unspelled = cc is
 made_so a tried made false false is spelled unspelled = unspelled spelled

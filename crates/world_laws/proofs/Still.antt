@@ -19,7 +19,7 @@ AllGo w Ends = Unit {0}
 AllGo w Refuses = Unit {0}
 AllGo w Exceeds = Unit {0}
 
--- where the outcome goes on, it does so to such a world and the same story
+-- where the outcome goes on, it does so to such a world and the same ghost state
 abbrev IsStillIn : Played → Outcome Played → Type 0
 IsStillIn w (Goes next output) = (next.1 ≡ w.1) × IsAlmost w.0 next.0
 IsStillIn w Ends = Unit {0}

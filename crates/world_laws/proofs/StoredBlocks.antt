@@ -14,7 +14,7 @@ use Rattle.ivy_base.specs.Naming.{key_cmp}
 use Rattle.dht_ids.specs.declared.ask.StoreFault.{StoreFault}
 use Rattle.dht_ids.specs.declared.ask.StoreFault.TheVariants.{Full}
 use Rattle.dht_ids.specs.declared.judge.Judged.{Judged}
-use Rattle.dhash_model.specs.Stores.{Block, Blocks, bytes_held, capacity, content, content_fault, full, head, head_fault, not_judged, number_at, older, wrong_name}
+use Rattle.dhash_model.specs.Stores.{Block, Blocks, bytes_held, store_capacity, content, content_fault, full, head, head_fault, not_judged, number_at, older, wrong_name}
 use Rattle.node_store.specs.Stores.{IsStore}
 use Rattle.node_store.proofs.Maps.{keys_total}
 
@@ -58,7 +58,7 @@ from_sorted (e ∷ es) h = (from_below e.0 es (first (below_all key_cmp e.0 es) 
 -- ---- puts
 
 -- where there is room, a store with a block more is a store
-pub put_store : (key : Key) (block : Block) (blocks : Blocks) → IsStore blocks → bytes_held (put key_cmp key block blocks) ≤ capacity → IsStore (put key_cmp key block blocks)
+pub put_store : (key : Key) (block : Block) (blocks : Blocks) → IsStore blocks → bytes_held (put key_cmp key block blocks) ≤ store_capacity → IsStore (put key_cmp key block blocks)
 put_store key block blocks store fits = record {
   ascending = from_sorted (put key_cmp key block blocks) (is_sorted-put key_cmp keys_total key block blocks (to_sorted blocks store.ascending));
   within = fits;
@@ -76,21 +76,21 @@ put_each P key block (e ∷ es) new h = by (key_cmp key e.0) (put_each P key blo
 
 -- ---- faults
 
-room_by : (key : Key) (block : Block) (blocks : Blocks) → full key block blocks ≡ None → bytes_held (put key_cmp key block blocks) ≤ capacity
-room_by key block blocks none = by (nat_lt capacity (bytes_held (put key_cmp key block blocks))) refl none
+room_by : (key : Key) (block : Block) (blocks : Blocks) → full key block blocks ≡ None → bytes_held (put key_cmp key block blocks) ≤ store_capacity
+room_by key block blocks none = by (nat_lt store_capacity (bytes_held (put key_cmp key block blocks))) refl none
   where
-    by : (b : Bool) → nat_lt capacity (bytes_held (put key_cmp key block blocks)) ≡ b → cond b (Some Full) None ≡ None → bytes_held (put key_cmp key block blocks) ≤ capacity
+    by : (b : Bool) → nat_lt store_capacity (bytes_held (put key_cmp key block blocks)) ≡ b → cond b (Some Full) None ≡ None → bytes_held (put key_cmp key block blocks) ≤ store_capacity
     by true is e = cc e
-    by false is e = ltb-false capacity (bytes_held (put key_cmp key block blocks)) is
+    by false is e = ltb-false store_capacity (bytes_held (put key_cmp key block blocks)) is
 
 second_none : (a b : Option StoreFault) → option_or a b ≡ None → b ≡ None
 second_none None b e = e
 second_none (Some f) b e = cc e
 
-pub room_for_content : (key : Key) (bytes : List ℕ) (blocks : Blocks) → content_fault key bytes blocks ≡ None → bytes_held (put key_cmp key (content bytes) blocks) ≤ capacity
+pub room_for_content : (key : Key) (bytes : List ℕ) (blocks : Blocks) → content_fault key bytes blocks ≡ None → bytes_held (put key_cmp key (content bytes) blocks) ≤ store_capacity
 room_for_content key bytes blocks none = room_by key (content bytes) blocks (second_none (wrong_name key bytes) (full key (content bytes) blocks) none)
 
-pub room_for_head : (judged : Key → List ℕ → Option Judged) (key : Key) (bytes : List ℕ) (blocks : Blocks) → head_fault judged key bytes blocks ≡ None → bytes_held (put key_cmp key (head bytes) blocks) ≤ capacity
+pub room_for_head : (judged : Key → List ℕ → Option Judged) (key : Key) (bytes : List ℕ) (blocks : Blocks) → head_fault judged key bytes blocks ≡ None → bytes_held (put key_cmp key (head bytes) blocks) ≤ store_capacity
 room_for_head judged key bytes blocks none =
     room_by key (head bytes) blocks (second_none (older (number_at judged key blocks) (judged key bytes)) (full key (head bytes) blocks)
     (second_none (not_judged (judged key bytes)) (option_or (older (number_at judged key blocks) (judged key bytes)) (full key (head bytes) blocks)) none))

@@ -1,4 +1,4 @@
--- What a session takes without asking was met, and has its name; so memory may be wanting behind it.
+-- What a session takes without asking was met, and has its name; so memory may run out after it.
 use Rattle.std.proofs.Common.{◌≡◌, ◌⊎◌, inl, inr, ⊎_elim, ℕ, Bool, true, false, cond, ◌&&◌, not, List, [], ◌∷◌, ◌++◌, Option, Some, None, Ok, refl, sym, ap, ◌∙◌, subst, Contains}
 use Rattle.std.specs.List.{AllByRecursion, find}
 use Rattle.std.specs.Map.{lookup}
@@ -10,7 +10,7 @@ use Rattle.ivy_base.specs.Naming.{name}
 use Rattle.tree_model.specs.Tree.{same_key}
 use Rattle.tree_model.proofs.Keys.{same_key_is}
 use Rattle.tree_model.proofs.Sound.{both_true}
-use Rattle.dhash_model.specs.Cache.{block_of, moved_to_front, others, same_key as same_cached}
+use Rattle.dhash_model.specs.Cache.{block_of, moved_to_front, others, keys_equal as same_cached}
 use Rattle.block_cache.specs.Blocks.{IsCache}
 use Rattle.block_cache.proofs.Pairs.{found_named as named_in_cache, moved_valid}
 use Rattle.dhash_model.specs.Signed.{hss_judged}
@@ -23,7 +23,7 @@ use Rattle.session_model.specs.Brought.{BlockOf, Brought, Part, all_heads, broug
 use Rattle.session_model.specs.Sessions.{Cache, Session, Takes, TakesSome, pending_block}
 use Rattle.session_model.specs.Sessions.Takes.{posted, cached}
 use Rattle.session_model.specs.Sessions.TakesSome.{none as some_none, more as some_more}
-use Rattle.world_laws.specs.Keeps.{IsMetPost}
+use Rattle.world_laws.specs.Invariant.{IsMetPost}
 
 -- the bytes were met, and that is their name
 abbrev pub IsMetBlock : List (List ℕ) → Key → List ℕ → Type 0

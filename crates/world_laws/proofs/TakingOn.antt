@@ -1,14 +1,14 @@
--- What is at hand is taken, and the refresh goes on: that leaves a world that keeps what it should, and such a session.
+-- What is available is taken, and the refresh goes on: that leaves a world in which the invariant holds, and such a session.
 use Rattle.std.proofs.Common.{◌≡◌, ◌≢◌, ◌⊎◌, inl, inr, ⊎_elim, ℕ, List, [], ◌∷◌, ◌++◌, Option, Some, None, Ok, refl, sym, ap, ◌∙◌, subst, arith}
 use Rattle.std.specs.Prelude.{IfSome}
 use Rattle.std.specs.List.{AllByRecursion}
 use Rattle.ivy_base.specs.declared.key.Key.{Key}
-use Rattle.ivy_base.specs.Naming.{NamesTellApart}
+use Rattle.ivy_base.specs.Naming.{IsCollisionFree}
 use Rattle.dhash_model.specs.Signed.{hss_judged}
 use Rattle.log_model.proofs.Lists.{each}
 use Rattle.dht_ids.specs.declared.ask.Heard.{Heard}
 use Rattle.dhash_model.specs.declared.miss.Miss.{Miss}
-use Rattle.session_model.specs.Brought.{Brought, BlockOf, Content, Part, Want, brought_in}
+use Rattle.session_model.specs.Brought.{Brought, BlockOf, Content, Part, WantedOfRing, brought_in}
 use Rattle.session_model.specs.Refreshing.{Done, FailsBy, Needs, RefreshEnd, Refreshes}
 use Rattle.session_model.specs.Sessions.{Cache, Session, Refreshing, Stage, TakesSome, Wants, with_part}
 use Rattle.session_model.specs.Sessions.Takes.{posted, cached}
@@ -17,12 +17,12 @@ use Rattle.session_laws.specs.Going.{ComesTo, IsMissed, IsOfWant, SnapshotsAreDe
 use Rattle.session_laws.proofs.DecidedSnapshots.{snapshots_are_decided}
 use Rattle.session_laws.proofs.Going.{refresh_goes_on}
 use Rattle.session_laws.proofs.Missing.{fails_by_the_last}
-use Rattle.session_laws.proofs.AskedGets.{gets_are_one}
+use Rattle.session_laws.proofs.AskedGets.{gets_are_deterministic}
 use Rattle.world_model.specs.World.{World, Participant, named_bytes, participant, with_participant}
-use Rattle.world_model.specs.Steps.{Scene}
+use Rattle.world_model.specs.Steps.{Configuration}
 use Rattle.world_laws.specs.Causes.{said_at}
-use Rattle.world_laws.specs.Keeps.{GoesOn, HasSaid, IsAnswerIn, IsAtStage, IsInHand, IsRefreshing, IsRefreshingOn, IsSoundSession, Keeps}
-use Rattle.world_laws.specs.Frames.{Change, IsMildChange, changed, unchanged}
+use Rattle.world_laws.specs.Invariant.{GoesOn, HasSaid, IsAnswerIn, IsAtStage, IsInHand, IsRefreshing, IsRefreshingOn, IsSoundSession, Invariant}
+use Rattle.world_laws.specs.Frames.{Change, IsChangeWithinFrame, changed, unchanged}
 use Rattle.world_laws.specs.Laws.{TakingKeeps}
 use Rattle.world_laws.proofs.Bringing.{found_named}
 use Rattle.world_laws.proofs.Frames.{participant_keeps, same_keys}
@@ -50,7 +50,7 @@ decided_for None = tt
 decided_for (Some root) = snapshots_are_decided
 
 -- with a part more, the session's refresh has come to this
-pub comes_with : (r : ℕ) (s : Session) (want : Want) (b : Brought) (asks : List Heard) → Wants hss_judged r s want → IsOfWant want b → ComesTo s.standing (brought_in (s.parts ++ record { brought = b; asks = asks } ∷ []))
+pub comes_with : (r : ℕ) (s : Session) (want : WantedOfRing) (b : Brought) (asks : List Heard) → Wants hss_judged r s want → IsOfWant want b → ComesTo s.standing (brought_in (s.parts ++ record { brought = b; asks = asks } ∷ []))
 comes_with r s want b asks wants of =
     subst (ComesTo s.standing) (sym (brought_then s.parts b asks)) (refresh_goes_on s.standing (brought_in s.parts) wants.1 wants.2 want b (decided_for s.standing.to_load) wants.3 of)
 
@@ -60,7 +60,7 @@ block_came key bytes miss h = h
 
 -- where it hasn't failed, the session goes on
 pub on_so : (r : ℕ) (t : Session) → t.entries ≢ [] → t.current ≡ [] → (end : RefreshEnd) → ((miss : Miss) → end ≡ FailsBy miss → ⊥) → IsRefreshingOn r t end
-on_so r t some fresh (Needs want) goes = subst (λ asks. IsRefreshingOn r (record t { current = asks }) (Needs want)) (sym fresh) ((gets_are_one hss_judged r t.entries want).3 some)
+on_so r t some fresh (Needs want) goes = subst (λ asks. IsRefreshingOn r (record t { current = asks }) (Needs want)) (sym fresh) ((gets_are_deterministic hss_judged r t.entries want).3 some)
 on_so r t some fresh (FailsBy miss) goes = absurd (goes miss refl)
 on_so r t some fresh Done goes = fresh
 
@@ -83,7 +83,7 @@ module _ (r : ℕ) (s : Session) (key : Key) (bytes : List ℕ) (some : s.entrie
       by : IsRefreshing r s → IsRefreshing r then_on
       by h = record { xid = h.xid; asked = h.asked; asks = h.asks; notes = came.notes; given = came.given; end = came.end; refreshed = came.refreshes; goes_on = on_so r then_on some refl came.end goes }
 
--- ---- all that is at hand
+-- ---- all that is available
 
 record GoesSo (w : World) (r : ℕ) (s t : Session) : Type 0 where
   parts : List Part
@@ -103,7 +103,7 @@ takes_on w r (some_more {s = s} (cached key bytes wants none missing is) rest) s
 
 -- ---- the law
 
-module _ (c : Scene) (r : ℕ) (p : Participant) (taken : Session) (cache : Cache) (keeps : Keeps (c.world, c.story)) (hand : IsInHand c r) (is_p : participant c.world c.session.by ≡ Some p)
+module _ (c : Configuration) (r : ℕ) (p : Participant) (taken : Session) (cache : Cache) (keeps : Invariant (c.world, c.ghost_state)) (hand : IsInHand c r) (is_p : participant c.world c.session.by ≡ Some p)
     (takes : TakesSome hss_judged r c.session p.cache taken cache) where
   abbrev d : Change
   d = record (unchanged p) { cache = cache }
@@ -114,11 +114,11 @@ module _ (c : Scene) (r : ℕ) (p : Participant) (taken : Session) (cache : Cach
   abbrev then_world : World
   then_world = with_participant c.world (record p { cache = cache })
 
-  mild : IsMildChange c.world.met p d
-  mild = record { kept = refl; pending = λ post h. h; fewer = omega arith; cached = has.cache }
+  within_frame : IsChangeWithinFrame c.world.met p d
+  within_frame = record { kept = refl; pending = λ post h. h; fewer = omega arith; cached = has.cache }
 
-  apart_before : NamesTellApart (named_bytes then_world) → NamesTellApart (named_bytes c.world)
-  apart_before apart = subst (λ keys. NamesTellApart (c.world.met ++ keys)) (same_keys c.world keeps.apart c.session.by p is_p (changed p d) refl refl) apart
+  apart_before : IsCollisionFree (named_bytes then_world) → IsCollisionFree (named_bytes c.world)
+  apart_before apart = subst (λ keys. IsCollisionFree (c.world.met ++ keys)) (same_keys c.world keeps.apart c.session.by p is_p (changed p d) refl refl) apart
 
   on : GoesOn then_world r c.session
   on = goes_on_then c r p keeps hand is_p d
@@ -139,19 +139,19 @@ module _ (c : Scene) (r : ℕ) (p : Participant) (taken : Session) (cache : Cach
     stage = goes.stage;
   })
 
-  has_said : HasSaid c.story c.began.number taken (said_at taken.stage)
+  has_said : HasSaid c.ghost_state c.began.number taken (said_at taken.stage)
   has_said = ⊎_elim
-      (λ at. subst (λ (u : Session). HasSaid c.story c.began.number u (said_at u.stage)) (sym goes.is)
-      (subst (λ (x : Stage). HasSaid c.story c.began.number (record c.session { parts = goes.parts; current = goes.current }) (said_at x)) (sym at) tt))
-      (λ same. subst (λ (u : Session). HasSaid c.story c.began.number u (said_at u.stage)) (sym same) hand.said)
+      (λ at. subst (λ (u : Session). HasSaid c.ghost_state c.began.number u (said_at u.stage)) (sym goes.is)
+      (subst (λ (x : Stage). HasSaid c.ghost_state c.began.number (record c.session { parts = goes.parts; current = goes.current }) (said_at x)) (sym at) tt))
+      (λ same. subst (λ (u : Session). HasSaid c.ghost_state c.began.number u (said_at u.stage)) (sym same) hand.said)
       goes.refreshing
 
-  sound_so : NamesTellApart (named_bytes then_world) → IsSoundSession then_world c.story taken c.began
-  sound_so apart = subst (λ (u : Session). IsSoundSession then_world c.story u c.began) (sym has.is)
-      (sound_taken then_world c.story c.session c.began has.parts has.current c.session.stage c.session.notes c.session.missed has.taken (sound_then c r p keeps hand is_p d (hand.sound (apart_before apart))))
+  sound_so : IsCollisionFree (named_bytes then_world) → IsSoundSession then_world c.ghost_state taken c.began
+  sound_so apart = subst (λ (u : Session). IsSoundSession then_world c.ghost_state u c.began) (sym has.is)
+      (sound_taken then_world c.ghost_state c.session c.began has.parts has.current c.session.stage c.session.notes c.session.missed has.taken (sound_then c r p keeps hand is_p d (hand.sound (apart_before apart))))
 
-  taken_so : Keeps (then_world, c.story) × IsInHand (record c { world = then_world; session = taken }) r
-  taken_so = (participant_keeps (c.world, c.story) c.session.by p d keeps is_p mild, record { number = hand.number; goes_on = goes_then; said = has_said; sound = sound_so })
+  taken_so : Invariant (then_world, c.ghost_state) × IsInHand (record c { world = then_world; session = taken }) r
+  taken_so = (participant_keeps (c.world, c.ghost_state) c.session.by p d keeps is_p within_frame, record { number = hand.number; goes_on = goes_then; said = has_said; sound = sound_so })
 
 pub taking_keeps : TakingKeeps
 taking_keeps c r p taken cache keeps hand is_p takes = taken_so c r p taken cache keeps hand is_p takes

@@ -13,10 +13,10 @@ use Rattle.log_records.proofs.Standing.{block_is_met, stands_in_either}
 use Rattle.log_model.specs.View.{View}
 use Rattle.log_model.proofs.Lists.{each, each_from}
 use Rattle.log_model.proofs.Part.{chain_good}
-use Rattle.world_model.specs.Agents.{own}
+use Rattle.world_model.specs.Agents.{own_hss_key}
 use Rattle.world_model.specs.World.{Participant, named_bytes}
 use Rattle.world_model.specs.Logs.{Played}
-use Rattle.world_laws.specs.Keeps.{IsKeptSo, IsSavedWell, Keeps}
+use Rattle.world_laws.specs.Invariant.{IsKeptSo, IsSavedWell, Invariant}
 use Rattle.world_laws.proofs.PublicKeys.{owner_is_key, word_octets}
 use Rattle.world_laws.proofs.SignedHeads.{from_map}
 
@@ -61,11 +61,11 @@ stand_apart met keys size view owner chain is_chain stand = each_from (StandsAmo
     (stands_in_either met keys r (each (StandsAmong (met ++ keys)) chain r stand c)))
 
 -- the participants' public keys have 60 bytes
-pub keys_short : (w : Played) → Keeps w → (k : List ℕ) → Contains (map (λ (p : Participant). (own p.agent).0) w.0.participants) k → length k ≡ 60
+pub keys_short : (w : Played) → Invariant w → (k : List ℕ) → Contains (map (λ (p : Participant). (own_hss_key p.agent).0) w.0.participants) k → length k ≡ 60
 keys_short w keeps k c =
-    let found = from_map (λ (p : Participant). (own p.agent).0) w.0.participants k c in
+    let found = from_map (λ (p : Participant). (own_hss_key p.agent).0) w.0.participants k c in
     let saved = each (IsKeptSo IsSavedWell) w.0.participants found.0 keeps.saved found.1 in
     ap length found.2 ∙ (owner_is_key found.0.agent.signer saved.3.agent.signer).size
 
-pub stand_met : (w : Played) → Keeps w → (view : View) (owner : PubKey) (chain : List Record) → IsChain view owner chain → Stand (named_bytes w.0) chain → Stand w.0.met chain
-stand_met w keeps view owner chain is_chain stand = stand_apart w.0.met (map (λ (p : Participant). (own p.agent).0) w.0.participants) (keys_short w keeps) view owner chain is_chain stand
+pub stand_met : (w : Played) → Invariant w → (view : View) (owner : PubKey) (chain : List Record) → IsChain view owner chain → Stand (named_bytes w.0) chain → Stand w.0.met chain
+stand_met w keeps view owner chain is_chain stand = stand_apart w.0.met (map (λ (p : Participant). (own_hss_key p.agent).0) w.0.participants) (keys_short w keeps) view owner chain is_chain stand

@@ -26,13 +26,13 @@ use Rattle.agent_model.specs.Standing.{going_on}
 use Rattle.session_model.specs.Sessions.{Session}
 use Rattle.session_laws.specs.Loading.{IsSnapshotOf}
 use Rattle.session_laws.proofs.Starting.{joined_front}
-use Rattle.world_model.specs.Agents.{Agent, IsKept, Kept, own, own_reach, sealed}
+use Rattle.world_model.specs.Agents.{HssAgent, IsHssKept, HssKept, own_hss_key, own_reach, hss_sealed}
 use Rattle.world_model.specs.Keepers.{Keeper}
 use Rattle.world_model.specs.World.{World, Participant, participant}
-use Rattle.world_model.specs.Story.{Began, Knowing, Story, knowing_of, known_of}
+use Rattle.world_model.specs.GhostState.{Began, Knowing, GhostState, knowing_of, known_of}
 use Rattle.world_model.specs.Steps.{heads_by}
-use Rattle.world_laws.specs.Keeps.{IsSavedWell, IsSoundKept, IsSoundKeptIn, IsSoundSession, NamesOneOf, SignsOnce, sealed_with}
-use Rattle.world_laws.specs.Keeps.KeepsUp.{grown}
+use Rattle.world_laws.specs.Invariant.{IsSavedWell, IsSoundKept, IsSoundKeptIn, IsSoundSession, NamesOneOf, SignsOnce, sealed_with}
+use Rattle.world_laws.specs.Invariant.KeepsUp.{grown}
 use Rattle.world_laws.proofs.Bringing.{some_same}
 use Rattle.world_laws.proofs.KnownHeads.{heads_low}
 use Rattle.world_laws.proofs.MoreMet.{grows_before, more_snapshot, more_stand, more_verified, some_weaker}
@@ -45,7 +45,7 @@ use Rattle.world_laws.proofs.TurnsSigning.{turned_to}
 use Rattle.world_laws.proofs.TurnsWorld.{StaysSound}
 
 -- the agent with so many signatures made, that floor, and what it holds and has to publish
-abbrev pub after_of : Agent → ℕ → Vector → Holding → Option Key → List Post → Bool → Agent
+abbrev pub after_of : HssAgent → ℕ → Vector → Holding → Option Key → List Post → Bool → HssAgent
 after_of a made floor h to_load posts failed = record a { signer = record a.signer { made = made }; floor = floor; holding = h; to_load = to_load; pending = posts; has_failed = failed }
 
 -- ---- the owner's records
@@ -72,7 +72,7 @@ log_with_own owner s rs h = filter-append (is_of_log owner) s rs ∙ ap (λ (l :
 
 -- ---- the bytes that were there
 
-module _ (p : Participant) (k : Kept) (saved : IsSavedWell p k) (view : View) (in_view : p.agent.view ≡ Some view) (now : Knowing) (met : List (List ℕ)) where
+module _ (p : Participant) (k : HssKept) (saved : IsSavedWell p k) (view : View) (in_view : p.agent.view ≡ Some view) (now : Knowing) (met : List (List ℕ)) where
   -- a keeper whose agent is in a view has one
   pub kept_viewed : (P : Option View → Type 0) → IsSoundKeptIn met p now k k.view → ((v : View) → IsSoundKept met p now k v → P (Some v)) → P k.view
   kept_viewed P sound of_view = by k.view sound (saved.entered (ap is_some in_view))
@@ -83,7 +83,7 @@ module _ (p : Participant) (k : Kept) (saved : IsSavedWell p k) (view : View) (i
 
   -- they say what they said, of an agent that knows no more of its own log
   module _ (more : List (List ℕ)) (grows : (b : List ℕ) → Contains met b → Contains more b) (made : ℕ) (floor : Vector) (h : Holding) (to_load : Option Key) (posts : List Post) (failed : Bool) (keeper : Keeper) (work : ℕ)
-      (set : List Record) (same_log : log_of (own p.agent) set ≡ log_of (own p.agent) now.known) where
+      (set : List Record) (same_log : log_of (own_hss_key p.agent) set ≡ log_of (own_hss_key p.agent) now.known) where
     abbrev turned : Participant
     turned = turned_to p (after_of p.agent made floor h to_load posts failed) keeper work
 
@@ -100,59 +100,59 @@ module _ (p : Participant) (k : Kept) (saved : IsSavedWell p k) (view : View) (i
         by_floor = s.by_floor;
         closed = s.closed;
         stand = more_stand (met ++ blocks) (more ++ blocks) both s.known s.stand;
-        verified = more_verified (met ++ blocks) (more ++ blocks) both v (own p.agent) k.floor now.received s.known s.verified;
+        verified = more_verified (met ++ blocks) (more ++ blocks) both v (own_hss_key p.agent) k.floor now.received s.known s.verified;
         covers = s.covers;
         snapshot = some_weaker _ _ k.snapshot (λ root i. more_snapshot (met ++ blocks) (more ++ blocks) both v s.known root i) s.snapshot;
         goes_on = (s.goes_on.0, s.goes_on.1 ∙ ap (λ (l : List Record). l ++ s.goes_on.0) (sym same_log));
-        heads = each_from (NamesOneOf k.signer (log_of (own p.agent) s.known)) (turned.left ++ heads_by k.pending) (λ b c. each (NamesOneOf k.signer (log_of (own p.agent) s.known)) (p.left ++ heads_by k.pending) b s.heads (left b c));
+        heads = each_from (NamesOneOf k.signer (log_of (own_hss_key p.agent) s.known)) (turned.left ++ heads_by k.pending) (λ b c. each (NamesOneOf k.signer (log_of (own_hss_key p.agent) s.known)) (p.left ++ heads_by k.pending) b s.heads (left b c));
       }
 
       pub still_kept_in : IsSoundKeptIn met p now k k.view → IsSoundKeptIn more turned (record now { known = set }) k k.view
       still_kept_in sound = kept_viewed (λ (o : Option View). IsSoundKeptIn more turned (record now { known = set }) k o) sound still_kept
 
   -- the heads that left are over what is known
-  pub heads_known : SignsOnce p k → IsKept k → EndsAt (stamp_at p.agent.floor (head_key_of (own p.agent))) (log_of (own p.agent) now.known) → IsSoundKeptIn met p now k k.view → AllByRecursion (NamesOneOf p.agent.signer (log_of (own p.agent) now.known)) p.left
-  heads_known so whole ends sound = kept_viewed (λ (o : Option View). AllByRecursion (NamesOneOf p.agent.signer (log_of (own p.agent) now.known)) p.left) sound (λ v s.
-      each_from (NamesOneOf p.agent.signer (log_of (own p.agent) now.known)) p.left (λ b c. by_agent b (each (NamesOneOf k.signer (log_of (own p.agent) now.known)) p.left b (low v s) c)))
+  pub heads_known : SignsOnce p k → IsHssKept k → EndsAt (stamp_at p.agent.floor (head_key_of (own_hss_key p.agent))) (log_of (own_hss_key p.agent) now.known) → IsSoundKeptIn met p now k k.view → AllByRecursion (NamesOneOf p.agent.signer (log_of (own_hss_key p.agent) now.known)) p.left
+  heads_known so whole ends sound = kept_viewed (λ (o : Option View). AllByRecursion (NamesOneOf p.agent.signer (log_of (own_hss_key p.agent) now.known)) p.left) sound (λ v s.
+      each_from (NamesOneOf p.agent.signer (log_of (own_hss_key p.agent) now.known)) p.left (λ b c. by_agent b (each (NamesOneOf k.signer (log_of (own_hss_key p.agent) now.known)) p.left b (low v s) c)))
     where
-      by_agent : (b : List ℕ) → NamesOneOf k.signer (log_of (own p.agent) now.known) b → NamesOneOf p.agent.signer (log_of (own p.agent) now.known) b
-      by_agent b n = (n.0, n.1, n.2, n.3 ∙ (λ i. sealed (record { id = so.same.0 i; seed = so.same.1 i; sets = so.same.2 i; made = n.0 }) (own_entry n.1).1))
+      by_agent : (b : List ℕ) → NamesOneOf k.signer (log_of (own_hss_key p.agent) now.known) b → NamesOneOf p.agent.signer (log_of (own_hss_key p.agent) now.known) b
+      by_agent b n = (n.0, n.1, n.2, n.3 ∙ (λ i. hss_sealed (record { id = so.same.0 i; seed = so.same.1 i; sets = so.same.2 i; made = n.0 }) (own_entry n.1).1))
 
-      low : (v : View) → IsSoundKept met p now k v → AllByRecursion (NamesOneOf k.signer (log_of (own p.agent) now.known)) p.left
-      low v s = heads_low k.signer p.agent.signer.made (own_reach p.agent) p.left v (own p.agent) (stamp_at p.agent.floor (head_key_of (own p.agent))) (log_of (own p.agent) now.known) s.goes_on.0
+      low : (v : View) → IsSoundKept met p now k v → AllByRecursion (NamesOneOf k.signer (log_of (own_hss_key p.agent) now.known)) p.left
+      low v s = heads_low k.signer p.agent.signer.made (own_reach p.agent) p.left v (own_hss_key p.agent) (stamp_at p.agent.floor (head_key_of (own_hss_key p.agent))) (log_of (own_hss_key p.agent) now.known) s.goes_on.0
           (owner_is_key k.signer whole.signer).size (let few = saved.agent.few in omega (arith, few)) so.left
-          (subst (IsChain v (own p.agent)) s.goes_on.1 (s.closed.chains (own p.agent)))
-          (subst (AllByRecursion (λ (r : Record). r.seq < 2 ^ 32)) s.goes_on.1 (each_from (λ (r : Record). r.seq < 2 ^ 32) (log_of (own p.agent) s.known) (λ r c.
-          let few = (good_of v s.known r s.closed (from_filter (is_of_log (own p.agent)) s.known r c).0).spelled.few in omega (arith, few))))
+          (subst (IsChain v (own_hss_key p.agent)) s.goes_on.1 (s.closed.chains (own_hss_key p.agent)))
+          (subst (AllByRecursion (λ (r : Record). r.seq < 2 ^ 32)) s.goes_on.1 (each_from (λ (r : Record). r.seq < 2 ^ 32) (log_of (own_hss_key p.agent) s.known) (λ r c.
+          let few = (good_of v s.known r s.closed (from_filter (is_of_log (own_hss_key p.agent)) s.known r c).0).spelled.few in omega (arith, few))))
           ends (omega arith)
-          (subst (λ l. AllByRecursion (NamesOneOf k.signer l) p.left) s.goes_on.1 (each_left (NamesOneOf k.signer (log_of (own p.agent) s.known)) p.left (heads_by k.pending) s.heads))
+          (subst (λ l. AllByRecursion (NamesOneOf k.signer l) p.left) s.goes_on.1 (each_left (NamesOneOf k.signer (log_of (own_hss_key p.agent) s.known)) p.left (heads_by k.pending) s.heads))
 
 -- ---- bytes that are saved
 
 -- what was written is known by these
 module _ (p : Participant) (view : View) (now : Knowing) (met more : List (List ℕ)) (grows : (b : List ℕ) → Contains met b → Contains more b)
-    (snapshot : IfSome p.agent.snapshot (IsSnapshotOf met view now.known)) (heads : AllByRecursion (NamesOneOf p.agent.signer (log_of (own p.agent) now.known)) p.left)
+    (snapshot : IfSome p.agent.snapshot (IsSnapshotOf met view now.known)) (heads : AllByRecursion (NamesOneOf p.agent.signer (log_of (own_hss_key p.agent) now.known)) p.left)
     (made : ℕ) (h : Holding) (posts : List Post) (set written : List Record) (last : Record)
-    (is_last : Contains written last) (owned : last.owner ≡ own p.agent) (in_set : (r : Record) → Contains written r → Contains set r) where
+    (is_last : Contains written last) (owned : last.owner ≡ own_hss_key p.agent) (in_set : (r : Record) → Contains written r → Contains set r) where
   abbrev posted : List (List ℕ)
   posted = map (λ (post : Post). post.bytes) posts
 
-  abbrev k : Kept
+  abbrev k : HssKept
   k = kept_of (after_of p.agent made (join p.agent.floor (joined h)) h None posts p.agent.has_failed)
 
-  named : KnowsThen view (own p.agent) p.agent.floor now.received now.known (more ++ posted) h set → (b : List ℕ) → Contains (p.left ++ sealed_with p.agent.signer (p.agent.signer.made, (own_entry last).1) ∷ []) b
-      → NamesOneOf k.signer (log_of (own p.agent) set) b
+  named : KnowsThen view (own_hss_key p.agent) p.agent.floor now.received now.known (more ++ posted) h set → (b : List ℕ) → Contains (p.left ++ sealed_with p.agent.signer (p.agent.signer.made, (own_entry last).1) ∷ []) b
+      → NamesOneOf k.signer (log_of (own_hss_key p.agent) set) b
   named knows b c = ⊎_elim
-      (λ old. let n = each (NamesOneOf p.agent.signer (log_of (own p.agent) now.known)) p.left b heads old in (n.0, n.1, in_more_log (own p.agent) now.known set knows.more n.1 n.2, n.3))
+      (λ old. let n = each (NamesOneOf p.agent.signer (log_of (own_hss_key p.agent) now.known)) p.left b heads old in (n.0, n.1, in_more_log (own_hss_key p.agent) now.known set knows.more n.1 n.2, n.3))
       (λ new. ⊎_elim
-      (λ e. (p.agent.signer.made, last, in_own_log (own p.agent) set last (in_set last is_last) owned, sym e))
+      (λ e. (p.agent.signer.made, last, in_own_log (own_hss_key p.agent) set last (in_set last is_last) owned, sym e))
       (λ none. absurd (in_nothing b none))
       (in_cons (sealed_with p.agent.signer (p.agent.signer.made, (own_entry last).1)) [] b new))
       (Contains-append_cases p.left (sealed_with p.agent.signer (p.agent.signer.made, (own_entry last).1) ∷ []) b c)
 
-  pub new_kept_sound : (q : Participant) → own q.agent ≡ own p.agent → KnowsThen view (own p.agent) p.agent.floor now.received now.known (more ++ posted) h set
+  pub new_kept_sound : (q : Participant) → own_hss_key q.agent ≡ own_hss_key p.agent → KnowsThen view (own_hss_key p.agent) p.agent.floor now.received now.known (more ++ posted) h set
       → ((b : List ℕ) → Contains (q.left ++ heads_by posts) b → Contains (p.left ++ sealed_with p.agent.signer (p.agent.signer.made, (own_entry last).1) ∷ []) b)
-      → (known rest : List Record) → log_of (own p.agent) set ≡ log_of (own p.agent) known ++ rest → IsSoundKept more q (record now { known = known }) k view
+      → (known rest : List Record) → log_of (own_hss_key p.agent) set ≡ log_of (own_hss_key p.agent) known ++ rest → IsSoundKept more q (record now { known = known }) k view
   new_kept_sound q same_own knows left known rest goes_on = record {
     known = set;
     by_floor = knows.by_floor;
@@ -162,7 +162,7 @@ module _ (p : Participant) (view : View) (now : Knowing) (met more : List (List 
     covers = knows.covers;
     snapshot = some_weaker _ _ p.agent.snapshot (λ root i. within (more_snapshot met (more ++ posted) (λ b c. Contains-append_left more posted b (grows b c)) view now.known root i)) snapshot;
     goes_on = (rest, subst (λ (o : PubKey). log_of o set ≡ log_of o known ++ rest) (sym same_own) goes_on);
-    heads = each_from (NamesOneOf k.signer (log_of (own q.agent) set)) (q.left ++ heads_by posts) (λ b c. subst (λ (o : PubKey). NamesOneOf k.signer (log_of o set) b) (sym same_own) (named knows b (left b c)));
+    heads = each_from (NamesOneOf k.signer (log_of (own_hss_key q.agent) set)) (q.left ++ heads_by posts) (λ b c. subst (λ (o : PubKey). NamesOneOf k.signer (log_of o set) b) (sym same_own) (named knows b (left b c)));
   }
     where
       within : {root : Key} → IsSnapshotOf (more ++ posted) view now.known root → IsSnapshotOf (more ++ posted) view set root
@@ -180,11 +180,11 @@ each_dominates v w has log = ⊎_elim
     omega (arith, le, at, same))
     (found_stamp w log)
 
-module _ (w : World) (st : Story) (p : Participant) (is_p : participant w p.name ≡ Some p) (view : View) (in_view : p.agent.view ≡ Some view) (basis : Option Basis)
-    (met : List (List ℕ)) (h : Holding) (set : List Record) (knows : KnowsThen view (own p.agent) p.agent.floor (knowing_of st p.name).received (knowing_of st p.name).known met h set)
+module _ (w : World) (st : GhostState) (p : Participant) (is_p : participant w p.name ≡ Some p) (view : View) (in_view : p.agent.view ≡ Some view) (basis : Option Basis)
+    (met : List (List ℕ)) (h : Holding) (set : List Record) (knows : KnowsThen view (own_hss_key p.agent) p.agent.floor (knowing_of st p.name).received (knowing_of st p.name).known met h set)
     (basis_is : h.basis ≡ (going_on p.agent basis).basis) (made : ℕ) (posts : List Post) (failed : Bool) (s : Session) (b : Began) (its : IsSoundSession w st s b)
     (by_is : s.by ≡ p.name) (viewed : p.agent.view ≡ Some s.standing.view) where
-  abbrev now : Agent
+  abbrev now : HssAgent
   now = after_of p.agent made (join p.agent.floor (joined h)) h None posts failed
 
   one : its.by ≡ p

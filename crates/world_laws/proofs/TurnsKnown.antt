@@ -1,11 +1,11 @@
--- What an agent knows after a turn that was answered, where names tell the blocks apart: what it took, and what it wrote.
+-- What an agent knows after a turn that was answered, where no names collide: what it took, and what it wrote.
 use Rattle.std.proofs.Common.{◌≡◌, ◌≢◌, ◌⊎◌, inl, inr, ⊎_elim, ℕ, ◌≤◌, List, [], ◌∷◌, ◌++◌, filter, Option, Some, None, refl, sym, ap, ◌∙◌, subst, arith, Contains}
 use Rattle.std.specs.List.{AllByRecursion}
 use Rattle.std.specs.Prelude.{IfSome, IsTrue}
 use Rattle.std.proofs.lemmas.List.Elements.{Contains-append_left, Contains-append_cases}
 use Rattle.ivy_base.specs.declared.key.Key.{Key}
 use Rattle.ivy_base.specs.declared.key.PubKey.{PubKey}
-use Rattle.ivy_base.specs.Naming.{NamesTellApart, head_key_of}
+use Rattle.ivy_base.specs.Naming.{IsCollisionFree, head_key_of}
 use Rattle.tree_model.specs.Tree.{same_key}
 use Rattle.tree_model.proofs.Keys.{same_key_is}
 use Rattle.log_model.specs.Chain.{IsGood}
@@ -25,23 +25,23 @@ use Rattle.turn_laws.proofs.Starts.{ends_with, front_dominates}
 use Rattle.turn_laws.proofs.Turns.{turn_closed}
 use Rattle.turn_model.specs.Basis.{Holding, HoldsAll}
 use Rattle.turn_model.specs.Known.{EndsAt, IsBacked, IsKnown, IsUnderHead, IsVerified}
-use Rattle.turn_model.specs.Turn.{Asked, Candidate, IsAtHand, Turned, turn_on}
+use Rattle.turn_model.specs.Turn.{Asked, Candidate, IsAvailable, Turned, turn_on}
 use Rattle.agent_model.specs.Agent.{joined, kept_of}
 use Rattle.agent_model.specs.Candidates.{AreCandidatesOf, Grounds}
 use Rattle.agent_model.specs.Standing.{Refresh}
 use Rattle.agent_model.specs.Turning.{IsByDefinition, IsTurnOf, inputs_before, with_held}
 use Rattle.session_model.specs.Brought.{all_heads, brought_in, heads_at}
-use Rattle.session_model.specs.Courses.{grounds_of, HasRefreshed}
+use Rattle.session_model.specs.Executions.{grounds_of, HasRefreshed}
 use Rattle.session_model.specs.Refreshing.{Done, Note}
 use Rattle.session_model.specs.Replies.{Asks}
-use Rattle.session_laws.proofs.OneRefresh.{refresh_is_one}
+use Rattle.session_laws.proofs.OneRefresh.{refresh_is_deterministic}
 use Rattle.session_laws.proofs.Starting.{joined_front}
-use Rattle.world_model.specs.Agents.{Agent, IsKept, IsTurnIn, hss, inputs, own}
+use Rattle.world_model.specs.Agents.{HssAgent, IsHssKept, IsHssTurnIn, hss_signing, hss_inputs, own_hss_key as own}
 use Rattle.world_model.specs.Keepers.{fails_next}
 use Rattle.world_model.specs.World.{Participant, named_bytes, participant}
-use Rattle.world_model.specs.Story.{Knowing, knowing_of, known_of}
-use Rattle.world_model.specs.Steps.{Scene, turning_of}
-use Rattle.world_laws.specs.Keeps.{IsInHand, IsKeptSo, IsSavedWell, IsSound, IsSoundSession, Keeps}
+use Rattle.world_model.specs.GhostState.{Knowing, knowing_of, known_of}
+use Rattle.world_model.specs.Steps.{Configuration, turning_of}
+use Rattle.world_laws.specs.Invariant.{IsInHand, IsKeptSo, IsSavedWell, IsSound, IsSoundSession, Invariant}
 use Rattle.world_laws.proofs.Bringing.{agent_sound, found_named, in_a_view, its_key, its_view, knew_before, refresh_may_turn}
 use Rattle.world_laws.proofs.MoreMet.{more_stand, more_verified}
 use Rattle.world_laws.proofs.OneAsked.{caller_is_identity, one_asked}
@@ -122,17 +122,17 @@ ended_begun (Some t) log ends some none = nothing_there ends.0 ends.1 (sym ends.
 
 -- ---- a turn that was answered
 
-module _ (c : Scene) (r : ℕ) (p : Participant) (keeps : Keeps (c.world, c.story)) (hand : IsInHand c r) (is_p : participant c.world c.session.by ≡ Some p)
+module _ (c : Configuration) (r : ℕ) (p : Participant) (keeps : Invariant (c.world, c.ghost_state)) (hand : IsInHand c r) (is_p : participant c.world c.session.by ≡ Some p)
     (notes : List Note) (given : Refresh) (xid : ℕ) (asked : Asked) (reply : Reply) (done : HasRefreshed c.session notes given) (asks : Asks c.session.standing.view c.session.message xid asked)
-    (h : Holding) (written : List Record) (by_definition : IsByDefinition hss given (turning_of c.world p c.session.standing.view) asked h written reply) (turned : Turned) where
+    (h : Holding) (written : List Record) (by_definition : IsByDefinition hss_signing given (turning_of c.world p c.session.standing.view) asked h written reply) (turned : Turned) where
   abbrev view : View
   view = c.session.standing.view
 
-  abbrev a : Agent
+  abbrev a : HssAgent
   a = p.agent
 
   abbrev knowing : Knowing
-  knowing = knowing_of c.story p.name
+  knowing = knowing_of c.ghost_state p.name
 
   abbrev heads : Key → List Stamp
   heads = heads_at (brought_in c.session.parts)
@@ -140,9 +140,9 @@ module _ (c : Scene) (r : ℕ) (p : Participant) (keeps : Keeps (c.world, c.stor
   abbrev grounds : Grounds
   grounds = grounds_of (named_bytes c.world) c.session c.began.knew
 
-  module _ (apart : NamesTellApart (named_bytes c.world))
-      (is_turn : IsTurnIn (named_bytes c.world) (turning_of c.world p c.session.standing.view) c.session c.began.knew (known_of c.story p.name) turned) where
-    its : IsSoundSession c.world c.story c.session c.began
+  module _ (apart : IsCollisionFree (named_bytes c.world))
+      (is_turn : IsHssTurnIn (named_bytes c.world) (turning_of c.world p c.session.standing.view) c.session c.began.knew (known_of c.ghost_state p.name) turned) where
+    its : IsSoundSession c.world c.ghost_state c.session c.began
     its = hand.sound apart
 
     in_view : a.view ≡ Some view
@@ -151,11 +151,11 @@ module _ (c : Scene) (r : ℕ) (p : Participant) (keeps : Keeps (c.world, c.stor
     pub agent : IsSound c.world.met p knowing view
     agent = agent_sound c keeps apart its p is_p in_view
 
-    of : IsTurnOf hss (record { grounds = grounds; started = given.started }) (record { agent = a; view = view; now = c.world.now; fails = fails_next p.keeper }) knowing.known asked h written reply
+    of : IsTurnOf hss_signing (record { grounds = grounds; started = given.started }) (record { agent = a; view = view; now = c.world.now; fails = fails_next p.keeper }) knowing.known asked h written reply
     of = let may = refresh_may_turn c p r notes given keeps apart hand is_p done in by_definition grounds knowing.known apart may.0 may.1
 
     given_is : is_turn.given ≡ given
-    given_is = (refresh_is_one c.session.standing (brought_in c.session.parts) is_turn.notes notes is_turn.given given Done Done is_turn.refreshed.1 done.1).1
+    given_is = (refresh_is_deterministic c.session.standing (brought_in c.session.parts) is_turn.notes notes is_turn.given given Done Done is_turn.refreshed.1 done.1).1
 
     pub asked_is : is_turn.asked ≡ asked
     asked_is = one_asked view c.session.message is_turn.xid xid is_turn.asked asked is_turn.asks asks
@@ -171,19 +171,19 @@ module _ (c : Scene) (r : ℕ) (p : Participant) (keeps : Keeps (c.world, c.stor
     abbrev pub taken : List Record
     taken = is_turn.taken
 
-    pub largest : IsClosedPart view (IsAtHand knowing.known candidates) taken
+    pub largest : IsClosedPart view (IsAvailable knowing.known candidates) taken
     largest = is_turn.is_turn.largest
 
     taken_is : of.taken ≡ taken
     taken_is = one_taken view knowing.known candidates of.taken taken
-        (subst (λ (l : List Candidate). IsClosedPart view (IsAtHand knowing.known l) of.taken)
+        (subst (λ (l : List Candidate). IsClosedPart view (IsAvailable knowing.known l) of.taken)
         (one_candidates grounds view given.started apart of.is_turn.candidates candidates of.is_turn.of_heads are_candidates) of.is_turn.largest) largest
 
-    pub turned_is : turned ≡ turn_on (inputs a view (fails_next p.keeper)) taken asked c.world.now
-    turned_is = is_turn.is_turn.by_set ∙ ap (λ (x : Asked). turn_on (inputs a view (fails_next p.keeper)) taken x c.world.now) asked_is
+    pub turned_is : turned ≡ turn_on (hss_inputs a view (fails_next p.keeper)) taken asked c.world.now
+    turned_is = is_turn.is_turn.by_set ∙ ap (λ (x : Asked). turn_on (hss_inputs a view (fails_next p.keeper)) taken x c.world.now) asked_is
 
-    pub writes : taken ++ written ≡ (turn_on (inputs_before hss a view) taken asked c.world.now).set
-    writes = subst (λ (t : List Record). t ++ written ≡ (turn_on (inputs_before hss a view) t asked c.world.now).set) taken_is of.writes
+    pub writes : taken ++ written ≡ (turn_on (inputs_before hss_signing a view) taken asked c.world.now).set
+    writes = subst (λ (t : List Record). t ++ written ≡ (turn_on (inputs_before hss_signing a view) t asked c.world.now).set) taken_is of.writes
 
     holds : HoldsAll view taken h
     holds = subst (λ (t : List Record). HoldsAll view t h) taken_is of.holds
@@ -197,7 +197,7 @@ module _ (c : Scene) (r : ℕ) (p : Participant) (keeps : Keeps (c.world, c.stor
     pub well : IsView view
     well = in_a_view c keeps apart its p is_p in_view
 
-    pub kept : IsKept (kept_of a)
+    pub kept : IsHssKept (kept_of a)
     kept = (each (IsKeptSo IsSavedWell) c.world.participants p keeps.saved (found_named c.world.participants c.session.by p is_p).0).3.agent
 
     pub member : Contains view.members (own a)
@@ -209,16 +209,16 @@ module _ (c : Scene) (r : ℕ) (p : Participant) (keeps : Keeps (c.world, c.stor
         let found = from_map (λ (e : Entry). e.1) (filter (λ (e : Entry). same_key e.0 log) (all_heads (brought_in c.session.parts))) t among in
         let entry = from_filter (λ (e : Entry). same_key e.0 log) (all_heads (brought_in c.session.parts)) found.0 found.1 in
         let one : found.0 ≡ (log, t) = (λ i. (same_key_is found.0.0 log entry.1 i, sym found.2 i)) in
-        subst (λ (n : List ℕ). Contains (knowing_of c.story n).received (log, t)) (sym (found_named c.world.participants c.session.by p is_p).1)
-        (subst (Contains (knowing_of c.story c.session.by).received) one (its.received found.0 entry.0))
+        subst (λ (n : List ℕ). Contains (knowing_of c.ghost_state n).received (log, t)) (sym (found_named c.world.participants c.session.by p is_p).1)
+        (subst (Contains (knowing_of c.ghost_state c.session.by).received) one (its.received found.0 entry.0))
 
     brought : (q : Record) → IsBrought grounds view given.started knowing.known before candidates are_candidates q
         → (q.owner ≡ c.session.standing.own → ⊥) × IsUnderHead c.world.met knowing.received q × StandsAmong c.world.met q
     brought q b = brought_under grounds view given.started knowing.known before candidates are_candidates knowing.received were c.world.met
-        (λ chain owner is_chain stands. stand_met (c.world, c.story) keeps view owner chain is_chain stands) q b
+        (λ chain owner is_chain stands. stand_met (c.world, c.ghost_state) keeps view owner chain is_chain stands) q b
 
-    at_hand : (q : Record) → Contains taken q → IsOwnOrUnder c.world.met knowing.received (own a) q × StandsAmong c.world.met q
-    at_hand q among = ⊎_elim
+    available : (q : Record) → Contains taken q → IsOwnOrUnder c.world.met knowing.received (own a) q × StandsAmong c.world.met q
+    available q among = ⊎_elim
         (λ known. (of_backed (each (IsBacked c.world.met (own a) a.floor knowing.received) knowing.known q agent.verified.backed known), each (StandsAmong c.world.met) knowing.known q agent.stand known))
         (λ new. let b = brought q new in (inr (subst (λ (o : PubKey). q.owner ≡ o → ⊥) own_is b.0, b.1), b.2))
         (of_hand grounds view given.started knowing.known before candidates are_candidates q (largest.part q among))
@@ -232,7 +232,7 @@ module _ (c : Scene) (r : ℕ) (p : Participant) (keeps : Keeps (c.world, c.stor
 
     pub taken_known : KnowsThen view (own a) a.floor knowing.received knowing.known c.world.met h taken
     taken_known = knows_then view well (own a) member a.floor knowing.received knowing.known agent.knows.by_floor c.world.met h taken has_all largest.closed holds
-        (λ q among. (at_hand q among).0) (each_from (StandsAmong c.world.met) taken (λ q among. (at_hand q among).1))
+        (λ q among. (available q among).0) (each_from (StandsAmong c.world.met) taken (λ q among. (available q among).1))
 
     pub same_own_log : log_of (own a) taken ≡ log_of (own a) knowing.known
     same_own_log = subst (λ (o : PubKey). log_of o taken ≡ log_of o knowing.known) own_is
@@ -247,17 +247,17 @@ module _ (c : Scene) (r : ℕ) (p : Participant) (keeps : Keeps (c.world, c.stor
     written_closed : IsClosed view (taken ++ written)
     written_closed = let last = ends_with taken (own a) begun in
         subst (IsClosed view) (sym writes)
-        (turn_closed (inputs_before hss a view) taken asked c.world.now last.0 well member largest.closed last.1 (caller_is_identity asks.caller) asks.arguments.fit keeps.moment)
+        (turn_closed (inputs_before hss_signing a view) taken asked c.world.now last.0 well member largest.closed last.1 (caller_is_identity asks.caller) asks.arguments.fit keeps.moment)
 
     module _ (owned : AllByRecursion (λ q. q.owner ≡ own a) written) where
       has_more : (q : Record) → Contains knowing.known q → Contains (taken ++ written) q
       has_more q known = Contains-append_left taken written q (has_all q known)
 
       written_holds : HoldsAll view (taken ++ written) (with_held h written)
-      written_holds = holds_written view (own a) taken h holds (inputs_before hss a view) refl asked c.world.now written writes
+      written_holds = holds_written view (own a) taken h holds (inputs_before hss_signing a view) refl asked c.world.now written writes
 
       at_either : (q : Record) → Contains (taken ++ written) q → IsOwnOrUnder c.world.met knowing.received (own a) q
-      at_either q among = ⊎_elim (λ old. (at_hand q old).0) (λ new. inl (each (λ (x : Record). x.owner ≡ own a) written q owned new)) (Contains-append_cases taken written q among)
+      at_either q among = ⊎_elim (λ old. (available q old).0) (λ new. inl (each (λ (x : Record). x.owner ≡ own a) written q owned new)) (Contains-append_cases taken written q among)
 
       pub written_verified : IsVerified c.world.met view (own a) (join a.floor (joined (with_held h written))) knowing.received (taken ++ written)
       written_verified = verified_then view well (own a) member a.floor knowing.received knowing.known agent.knows.by_floor c.world.met (with_held h written) (taken ++ written) has_more written_closed written_holds at_either
@@ -270,7 +270,7 @@ module _ (c : Scene) (r : ℕ) (p : Participant) (keeps : Keeps (c.world, c.stor
             inr (other, record { head = u.head; received = u.received; log = u.log; linked = u.linked; stand = more_stand c.world.met more grows u.log u.stand; of_log = u.of_log; ends = u.ends; below = u.below })
 
         stands : (q : Record) → Contains (taken ++ written) q → StandsAmong more q
-        stands q among = ⊎_elim (λ old. stands_among_more c.world.met more q grows (at_hand q old).1) (λ new. each (StandsAmong more) written q stand new) (Contains-append_cases taken written q among)
+        stands q among = ⊎_elim (λ old. stands_among_more c.world.met more q grows (available q old).1) (λ new. each (StandsAmong more) written q stand new) (Contains-append_cases taken written q among)
 
         pub written_known : KnowsThen view (own a) a.floor knowing.received knowing.known more (with_held h written) (taken ++ written)
         written_known = knows_then view well (own a) member a.floor knowing.received knowing.known agent.knows.by_floor more (with_held h written) (taken ++ written) has_more written_closed written_holds

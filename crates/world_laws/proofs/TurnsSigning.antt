@@ -1,4 +1,4 @@
--- What an agent has signed and what its keeper holds after a turn, whether or not names tell the blocks apart.
+-- What an agent has signed and what its keeper holds after a turn, whether or not names collide.
 use Rattle.std.proofs.Common.{◌≡◌, ◌⊎◌, inl, inr, ⊎_elim, ℕ, ◌+◌, ◌≤◌, ◌<◌, Bool, true, false, not, List, [], ◌∷◌, ◌++◌, length, map, filter, fold, Option, Some, None, refl, sym, ap, ◌∙◌, subst, arith, Contains}
 use Rattle.std.specs.Prelude.{IfSome, IsTrue}
 use Rattle.std.specs.List.{AllByRecursion}
@@ -20,11 +20,11 @@ use Rattle.turn_model.specs.Basis.{Holding}
 use Rattle.agent_model.specs.Agent.{head_post, is_head, kept_of, record_post, with_posts}
 use Rattle.agent_model.specs.SavedBytes.{ArePostsSpelled}
 use Rattle.agent_model.specs.Turning.{AreNext}
-use Rattle.world_model.specs.Agents.{Agent, IsKept, Kept, hss, own, own_reach, sealed}
+use Rattle.world_model.specs.Agents.{HssAgent, IsHssKept, HssKept, hss_signing, own_hss_key, own_reach, hss_sealed}
 use Rattle.world_model.specs.Keepers.{Keeper}
 use Rattle.world_model.specs.World.{Participant, meets}
 use Rattle.world_model.specs.Steps.{having_made, heads_by}
-use Rattle.world_laws.specs.Keeps.{AreSignedOnce, SignsOnce, sealed_with}
+use Rattle.world_laws.specs.Invariant.{AreSignedOnce, SignsOnce, sealed_with}
 use Rattle.world_laws.proofs.SignedAmong.{fewer_signed_once, from_met, met_then}
 use Rattle.world_laws.proofs.SignedHeads.{from_map}
 use Rattle.agent_laws.proofs.Floors.{IsSpelledIn, joined_first, joined_no_more, joined_spelled}
@@ -47,12 +47,12 @@ next_each n (r ∷ rs) h = (
 pub other_signer : (s t : Signer) (made far : ℕ) (heads : List (List ℕ)) → s.id ≡ t.id → s.seed ≡ t.seed → s.sets ≡ t.sets → AreSignedOnce s made far heads → AreSignedOnce t made far heads
 other_signer s t made far heads id seed sets h = record {
   signed = h.signed;
-  spelled = h.spelled ∙ (λ i. map (λ (x : ℕ × Stamp). sealed (record { id = id i; seed = seed i; sets = sets i; made = x.0 }) x.1) h.signed);
+  spelled = h.spelled ∙ (λ i. map (λ (x : ℕ × Stamp). hss_sealed (record { id = id i; seed = seed i; sets = sets i; made = x.0 }) x.1) h.signed);
   below = h.below;
   one_each = h.one_each;
 }
 
--- one head more, under the next number, over a record behind all those
+-- one head more, under the next number, over a record after all those
 pub one_more_signed : (signer : Signer) (made far : ℕ) (heads : List (List ℕ)) → AreSignedOnce signer made far heads → (t : Stamp) → far < t.seq → AreSignedOnce signer (made + 1) t.seq (heads ++ sealed_with signer (made, t) ∷ [])
 one_more_signed signer made far heads h t ahead = record {
   signed = h.signed ++ (made, t) ∷ [];
@@ -112,11 +112,11 @@ only_head pending written head b c =
 -- ---- the participant then
 
 -- with another agent and keeper, and what its agent has to publish counted as made
-abbrev pub turned_to : Participant → Agent → Keeper → ℕ → Participant
+abbrev pub turned_to : Participant → HssAgent → Keeper → ℕ → Participant
 turned_to p after keeper work = record (having_made (record p { agent = after; keeper = keeper }) after.pending) { work = work }
 
-module _ (p : Participant) (k : Kept) (so : SignsOnce p k) where
-  abbrev a : Agent
+module _ (p : Participant) (k : HssKept) (so : SignsOnce p k) where
+  abbrev a : HssAgent
   a = p.agent
 
   -- the heads that left it then were among those that left it, where nothing new is to be published
@@ -131,8 +131,8 @@ module _ (p : Participant) (k : Kept) (so : SignsOnce p k) where
   left_once = other_signer k.signer a.signer a.signer.made (own_reach a) p.left so.same.0 so.same.1 so.same.2 so.left
 
   -- nothing was written
-  module _ (floor : Vector) (h : Holding) (to_load : Option Key) (failed : Bool) (keeper : Keeper) (work : ℕ) (same_reach : seq_of floor (head_key_of (own a)) ≡ own_reach a) where
-    abbrev pub still_agent : Agent
+  module _ (floor : Vector) (h : Holding) (to_load : Option Key) (failed : Bool) (keeper : Keeper) (work : ℕ) (same_reach : seq_of floor (head_key_of (own_hss_key a)) ≡ own_reach a) where
+    abbrev pub still_agent : HssAgent
     still_agent = record a { floor = floor; holding = h; to_load = to_load; has_failed = failed }
 
     abbrev q : Participant
@@ -147,14 +147,14 @@ module _ (p : Participant) (k : Kept) (so : SignsOnce p k) where
       saved = so.saved;
       reaches = let le = so.reaches in omega (arith, le, same_reach);
       left = at_reach k.signer a.signer.made q.left (fewer_signed_once k.signer a.signer.made (own_reach a) p.left so.left q.left same_left);
-      kept = fewer_signed_once k.signer k.signer.made (seq_of k.floor (head_key_of (own a))) (p.left ++ heads_by k.pending) so.kept (q.left ++ heads_by k.pending) left_before;
+      kept = fewer_signed_once k.signer k.signer.made (seq_of k.floor (head_key_of (own_hss_key a))) (p.left ++ heads_by k.pending) so.kept (q.left ++ heads_by k.pending) left_before;
       pending = each_from (Contains q.left) (heads_by a.pending) (λ b c. met_then p.left (heads_by a.pending) b c);
     }
 
   -- records were written, and are saved so
-  module _ (floor : Vector) (h : Holding) (before : List Record) (last : Record) (ahead : own_reach a < last.seq) (reached : seq_of floor (head_key_of (own a)) ≡ last.seq) where
+  module _ (floor : Vector) (h : Holding) (before : List Record) (last : Record) (ahead : own_reach a < last.seq) (reached : seq_of floor (head_key_of (own_hss_key a)) ≡ last.seq) where
     abbrev head : Post
-    head = head_post hss a.signer (own_entry last).1
+    head = head_post hss_signing a.signer (own_entry last).1
 
     abbrev posts : List Post
     posts = with_posts a.pending (before ++ last ∷ []) head
@@ -162,14 +162,14 @@ module _ (p : Participant) (k : Kept) (so : SignsOnce p k) where
     abbrev pub next_signer : Signer
     next_signer = record a.signer { made = a.signer.made + 1 }
 
-    abbrev pub wrote_agent : Agent
+    abbrev pub wrote_agent : HssAgent
     wrote_agent = record a { signer = next_signer; floor = floor; holding = h; to_load = None; pending = posts }
 
     all_once : AreSignedOnce next_signer (a.signer.made + 1) last.seq (p.left ++ head.bytes ∷ [])
     all_once = other_signer a.signer next_signer (a.signer.made + 1) last.seq (p.left ++ head.bytes ∷ []) refl refl refl
         (one_more_signed a.signer a.signer.made (own_reach a) p.left left_once (own_entry last).1 ahead)
 
-    once : (less : List (List ℕ)) → ((b : List ℕ) → Contains less b → Contains (p.left ++ head.bytes ∷ []) b) → AreSignedOnce next_signer (a.signer.made + 1) (seq_of floor (head_key_of (own a))) less
+    once : (less : List (List ℕ)) → ((b : List ℕ) → Contains less b → Contains (p.left ++ head.bytes ∷ []) b) → AreSignedOnce next_signer (a.signer.made + 1) (seq_of floor (head_key_of (own_hss_key a))) less
     once less all = subst (λ n. AreSignedOnce next_signer (a.signer.made + 1) n less) (sym reached)
         (fewer_signed_once next_signer (a.signer.made + 1) last.seq (p.left ++ head.bytes ∷ []) all_once less all)
 
@@ -199,7 +199,7 @@ module _ (p : Participant) (k : Kept) (so : SignsOnce p k) where
     }
 
     -- or were lost, and the keeper has them
-    pub lost_signs : (floor_then : Vector) (h_then : Holding) (keeper : Keeper) (work : ℕ) → seq_of floor_then (head_key_of (own a)) ≡ own_reach a
+    pub lost_signs : (floor_then : Vector) (h_then : Holding) (keeper : Keeper) (work : ℕ) → seq_of floor_then (head_key_of (own_hss_key a)) ≡ own_reach a
         → SignsOnce (turned_to p (record a { floor = floor_then; holding = h_then; to_load = None; has_failed = true }) keeper work) (kept_of wrote_agent)
     lost_signs floor_then h_then keeper work same_reach = record {
       same = (refl, refl, refl);
@@ -214,25 +214,25 @@ module _ (p : Participant) (k : Kept) (so : SignsOnce p k) where
 -- ---- what may be saved
 
 -- with that joined into its floor, and so many signatures made
-module _ (a : Agent) (view : View) (in_view : a.view ≡ Some view) (kept : IsKept (kept_of a)) (f : Vector) (spelled : IsSpelledIn view f) (few : seq_of f (head_key_of (own a)) ≤ most_records) where
-  its_view : IsView view × HasKeys view × Contains view.members (own a) × AllByRecursion (λ e. IsTrue (is_named view e.0)) a.floor
-  its_view = subst (λ (o : Option View). IfSome o (λ v. IsView v × HasKeys v × Contains v.members (own a) × AllByRecursion (λ e. IsTrue (is_named v e.0)) a.floor)) in_view kept.view
+module _ (a : HssAgent) (view : View) (in_view : a.view ≡ Some view) (kept : IsHssKept (kept_of a)) (f : Vector) (spelled : IsSpelledIn view f) (few : seq_of f (head_key_of (own_hss_key a)) ≤ most_records) where
+  its_view : IsView view × HasKeys view × Contains view.members (own_hss_key a) × AllByRecursion (λ e. IsTrue (is_named view e.0)) a.floor
+  its_view = subst (λ (o : Option View). IfSome o (λ v. IsView v × HasKeys v × Contains v.members (own_hss_key a) × AllByRecursion (λ e. IsTrue (is_named v e.0)) a.floor)) in_view kept.view
 
   both : IsSpelledIn view (join a.floor f)
   both = joined_spelled view its_view.0 a.floor f (record { spelled = kept.floor; named = its_view.3 }) spelled
 
-  pub kept_then : (made : ℕ) → made ≤ capacity a.signer.sets → (posts : List Post) → ArePostsSpelled posts → IsKept (record { signer = record a.signer { made = made }; view = a.view; floor = join a.floor f; pending = posts; snapshot = a.snapshot })
+  pub kept_then : (made : ℕ) → made ≤ capacity a.signer.sets → (posts : List Post) → ArePostsSpelled posts → IsHssKept (record { signer = record a.signer { made = made }; view = a.view; floor = join a.floor f; pending = posts; snapshot = a.snapshot })
   kept_then made fits posts posts_spelled = record {
     signer = record { id = kept.signer.id; seed = kept.signer.seed; sets = kept.signer.sets; made = fits };
-    some = let first = joined_first (head_key_of (own a)) a.floor f spelled.spelled.in_order in let some = kept.some in omega (arith, first, some);
-    few = joined_no_more (head_key_of (own a)) a.floor f spelled.spelled.in_order most_records kept.few few;
+    some = let first = joined_first (head_key_of (own_hss_key a)) a.floor f spelled.spelled.in_order in let some = kept.some in omega (arith, first, some);
+    few = joined_no_more (head_key_of (own_hss_key a)) a.floor f spelled.spelled.in_order most_records kept.few few;
     floor = both.spelled;
-    view = subst (λ (o : Option View). IfSome o (λ v. IsView v × HasKeys v × Contains v.members (own a) × AllByRecursion (λ e. IsTrue (is_named v e.0)) (join a.floor f))) (sym in_view)
+    view = subst (λ (o : Option View). IfSome o (λ v. IsView v × HasKeys v × Contains v.members (own_hss_key a) × AllByRecursion (λ e. IsTrue (is_named v e.0)) (join a.floor f))) (sym in_view)
         (its_view.0, its_view.1, its_view.2, both.named);
     posts = posts_spelled;
     snapshot = kept.snapshot;
   }
 
   -- and without a signature more
-  pub kept_still : IsKept (record { signer = a.signer; view = a.view; floor = join a.floor f; pending = a.pending; snapshot = a.snapshot })
+  pub kept_still : IsHssKept (record { signer = a.signer; view = a.view; floor = join a.floor f; pending = a.pending; snapshot = a.snapshot })
   kept_still = kept_then a.signer.made kept.signer.made a.pending kept.posts

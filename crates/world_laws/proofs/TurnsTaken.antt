@@ -7,7 +7,7 @@ use Rattle.std.specs.declared.cmp.Ordering.{Ordering}
 use Rattle.std.specs.declared.cmp.Ordering.TheVariants.{Less, Equal, Greater}
 use Rattle.ivy_base.specs.declared.key.Key.{Key}
 use Rattle.ivy_base.specs.declared.key.PubKey.{PubKey}
-use Rattle.ivy_base.specs.Naming.{NamesTellApart, head_key_of, key_cmp, owner_cmp}
+use Rattle.ivy_base.specs.Naming.{IsCollisionFree, head_key_of, key_cmp, owner_cmp}
 use Rattle.tree_model.proofs.Keys.{exact_keys, keys_total}
 use Rattle.turn_laws.proofs.OneCandidate.{IsNewest, IsOne, cases_of}
 use Rattle.turn_laws.proofs.OneChain.{one_chain}
@@ -25,7 +25,7 @@ use Rattle.log_model.proofs.Part.{chain_good}
 use Rattle.log_model.proofs.Sets.{chain_ascends, same_list}
 use Rattle.turn_model.specs.Candidates.{IsTriedBefore, MakeChain}
 use Rattle.turn_model.specs.Known.{IsUnderHead}
-use Rattle.turn_model.specs.Turn.{Candidate, IsAtHand}
+use Rattle.turn_model.specs.Turn.{Candidate, IsAvailable}
 use Rattle.agent_model.specs.Candidates.{AreCandidatesOf, Grounds, IsCandidateOf, evidence_in, reading_in}
 use Rattle.agent_model.specs.Candidates.IsCandidateOf.{misled as is_misled, by_heads}
 use Rattle.turn_laws.proofs.LinkedLogs.{chain_linked}
@@ -63,10 +63,10 @@ module _ (grounds : Grounds) (view : View) (started : Vector) where
 
   -- ---- there is one list of them
 
-  module _ (apart : NamesTellApart grounds.met) where
+  module _ (apart : IsCollisionFree grounds.met) where
     one_newest : (owner : PubKey) (chain other : List Record) (n : IsNewest (evidence_in grounds view) owner chain) (m : IsNewest (evidence_in grounds view) owner other) → AreOrdered n.0 m.0 → chain ≡ other
     one_newest owner chain other n m (inl before) = absurd (m.3 n.0 n.1 before chain n.2)
-    one_newest owner chain other n m (inr (inl behind)) = absurd (n.3 m.0 m.1 behind other m.2)
+    one_newest owner chain other n m (inr (inl after)) = absurd (n.3 m.0 m.1 after other m.2)
     one_newest owner chain other n m (inr (inr same)) =
         one_chain (reading_in grounds view) apart owner m.0 chain other (subst (λ (t : Stamp). MakeChain (reading_in grounds view) owner t chain) same n.2) m.2
 
@@ -108,7 +108,7 @@ module _ (grounds : Grounds) (view : View) (started : Vector) where
     abbrev pub IsBrought : Record → Type 0
     IsBrought r = (owner : PubKey) × (chain : List Record) × Contains chain r × (r.owner ≡ owner) × IsNewHead owner chain
 
-    pub of_hand : (r : Record) → IsAtHand known candidates r → Contains known r ⊎ IsBrought r
+    pub of_hand : (r : Record) → IsAvailable known candidates r → Contains known r ⊎ IsBrought r
     of_hand r (inl c) = inl c
     of_hand r (inr (c, stands, goes_on, among)) = ⊎_elim
         (λ old. inl (before r (from_filter (λ (x : Record). eq_by_cmp owner_cmp c.owner x.owner) grounds.knew r (subst (λ (l : List Record). Contains l r) old among)).0))
@@ -116,8 +116,8 @@ module _ (grounds : Grounds) (view : View) (started : Vector) where
         (of_one c.owner c.chain (each (λ (d : Candidate). IsCandidateOf grounds view started d.owner d.chain) candidates c are.each stands))
 
     -- an own record is known
-    pub own_known : (r : Record) → r.owner ≡ grounds.standing.own → IsAtHand known candidates r → Contains known r
-    own_known r mine at_hand = ⊎_elim (λ c. c) (λ b. absurd (b.4.0 (sym b.3 ∙ mine))) (of_hand r at_hand)
+    pub own_known : (r : Record) → r.owner ≡ grounds.standing.own → IsAvailable known candidates r → Contains known r
+    own_known r mine available = ⊎_elim (λ c. c) (λ b. absurd (b.4.0 (sym b.3 ∙ mine))) (of_hand r available)
 
     -- one that is brought stands among the blocks, under a head that was received
     module _ (received : List Entry) (were : (log : Key) (t : Stamp) → Contains (grounds.heads log) t → Contains received (log, t)) where
@@ -140,7 +140,7 @@ module _ (grounds : Grounds) (view : View) (started : Vector) where
 
     -- ---- the set that is taken
 
-    module _ (closed : IsClosed view known) (taken : List Record) (largest : IsClosedPart view (IsAtHand known candidates) taken) where
+    module _ (closed : IsClosed view known) (taken : List Record) (largest : IsClosedPart view (IsAvailable known candidates) taken) where
       pub has_known : (r : Record) → Contains known r → Contains taken r
       has_known r c = largest.largest known (λ q d. inl d) closed r c
 
@@ -154,7 +154,7 @@ module _ (grounds : Grounds) (view : View) (started : Vector) where
           mine r = eq_by_cmp owner_cmp grounds.standing.own r.owner
 
 -- one set is the largest closed part
-pub one_taken : (view : View) (known : List Record) (candidates : List Candidate) (taken other : List Record) → IsClosedPart view (IsAtHand known candidates) taken → IsClosedPart view (IsAtHand known candidates) other
+pub one_taken : (view : View) (known : List Record) (candidates : List Candidate) (taken other : List Record) → IsClosedPart view (IsAvailable known candidates) taken → IsClosedPart view (IsAvailable known candidates) other
     → taken ≡ other
 one_taken view known candidates taken other f g = same_list taken other f.closed.ascending g.closed.ascending
-    (same_part view (IsAtHand known candidates) taken other f g) (same_part view (IsAtHand known candidates) other taken g f)
+    (same_part view (IsAvailable known candidates) taken other f g) (same_part view (IsAvailable known candidates) other taken g f)

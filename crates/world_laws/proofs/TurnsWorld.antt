@@ -6,7 +6,7 @@ use Rattle.std.specs.Option.{option_map_or}
 use Rattle.std.specs.Str.{bytes_eq}
 use Rattle.std.proofs.lemmas.List.Elements.{Contains-append_left}
 use Rattle.ring_model.proofs.Lists.{all_weaker}
-use Rattle.ivy_base.specs.Naming.{NamesTellApart}
+use Rattle.ivy_base.specs.Naming.{IsCollisionFree}
 use Rattle.log_model.proofs.Lists.{each, each_append, each_from, in_nothing}
 use Rattle.log_model.specs.Record.{Record}
 use Rattle.log_model.specs.Vector.{Dominates}
@@ -15,13 +15,13 @@ use Rattle.turn_model.specs.Basis.{Holding, fresh_basis, nothing_held}
 use Rattle.block_cache.specs.Blocks.{IsCache}
 use Rattle.session_laws.specs.Loading.{IsSnapshotOf}
 use Rattle.session_model.specs.Sessions.{Said, Session}
-use Rattle.world_model.specs.Agents.{Agent, own}
+use Rattle.world_model.specs.Agents.{HssAgent, own_hss_key}
 use Rattle.world_model.specs.World.{World, NamedSession, Participant, named_bytes, participant, with_participant}
-use Rattle.world_model.specs.Story.{Began, HadTurn, Knowing, Story, began_nothing, began_of, knowing_nothing, knowing_of, knowing_now, known_of}
+use Rattle.world_model.specs.GhostState.{Began, HadTurn, Knowing, GhostState, began_nothing, began_of, knowing_nothing, knowing_of, knowing_now, known_of}
 use Rattle.world_model.specs.Logs.{Played}
 use Rattle.world_laws.specs.Causes.{HasCause, said_at}
 use Rattle.world_laws.specs.Causes.HasCause.{alone, missed, turned, no_memory}
-use Rattle.world_laws.specs.Keeps.{AreApart, AreNumbered, AreParticipants, AreSound, BeganFresh, EntersOwned, GoesOn, HasRing, HasSaid, IsKeptSo, IsMetHead, IsMetPost, IsSavedWell, IsSoundIn, IsSoundKeptIn, IsSoundSession, Keeps, KeepsUp, SignsOnce}
+use Rattle.world_laws.specs.Invariant.{AreApart, AreNumbered, AreParticipants, AreSound, BeganFresh, EntersOwned, GoesOn, HasRing, HasSaid, IsKeptSo, IsMetHead, IsMetPost, IsSavedWell, IsSoundIn, IsSoundKeptIn, IsSoundSession, Invariant, KeepsUp, SignsOnce}
 use Rattle.world_laws.specs.Frames.{unchanged}
 use Rattle.world_laws.proofs.Afresh.{session_told}
 use Rattle.world_laws.proofs.Bringing.{found_named, some_same}
@@ -38,7 +38,7 @@ told_name k = k.name
 -- ---- what is told then
 
 -- the participant knows that set, and more turns were answered
-pub record ToldThen (w : Played) (p : Participant) (set : List Record) (more : List HadTurn) (su : Story) : Type 0 where
+pub record ToldThen (w : Played) (p : Participant) (set : List Record) (more : List HadTurn) (su : GhostState) : Type 0 where
   pub names : map told_name su.participants ≡ map told_name w.1.participants
   pub its : knowing_of su p.name ≡ record (knowing_of w.1 p.name) { known = set }
   pub others : (name : List ℕ) → bytes_eq name p.name ≡ false → knowing_of su name ≡ knowing_of w.1 name
@@ -47,7 +47,7 @@ pub record ToldThen (w : Played) (p : Participant) (set : List Record) (more : L
   pub begun : su.begun ≡ w.1.begun
   pub turns : su.turns ≡ w.1.turns ++ more
 
-module _ (w : Played) (keeps : Keeps w) (p : Participant) (is_p : participant w.0 p.name ≡ Some p) where
+module _ (w : Played) (keeps : Invariant w) (p : Participant) (is_p : participant w.0 p.name ≡ Some p) where
   its_name : Contains (map told_name w.1.participants) p.name
   its_name = subst (λ ns. Contains ns p.name) (sym keeps.fits.participants) (into_map by_name w.0.participants p (found_named w.0.participants p.name p is_p).0)
 
@@ -64,7 +64,7 @@ module _ (w : Played) (keeps : Keeps w) (p : Participant) (is_p : participant w.
     abbrev its_then : Knowing
     its_then = record (knowing_of w.1 p.name) { known = set }
 
-    abbrev su : Story
+    abbrev su : GhostState
     su = record (knowing_now w.1 p.name set) { turns = w.1.turns ++ turns }
 
     pub told_now : ToldThen w p set turns su
@@ -91,7 +91,7 @@ module _ (w : Played) (keeps : Keeps w) (p : Participant) (is_p : participant w.
 -- ---- what has to hold of the participant then
 
 -- a session of it that was sound is sound then
-pub record StaysSound (s : Session) (b : Began) (of : Holding) (a : Agent) (set : List Record) : Type 0 where
+pub record StaysSound (s : Session) (b : Began) (of : Holding) (a : HssAgent) (set : List Record) : Type 0 where
   pub known : (r : Record) → Contains b.knew r → Contains set r
   pub floor : Dominates a.floor s.standing.floor
   pub keeps_up : KeepsUp s of a set
@@ -104,25 +104,25 @@ knowing_then w p set = record (knowing_of w.1 p.name) { known = set }
 
 pub record FitsTurn (w : Played) (p q : Participant) (met : List (List ℕ)) (set : List Record) : Type 0 where
   pub named : q.name ≡ p.name
-  pub owned : own q.agent ≡ own p.agent
+  pub owned : own_hss_key q.agent ≡ own_hss_key p.agent
   pub in_view : q.agent.view ≡ p.agent.view
   pub pending : AllByRecursion (IsMetPost met) q.agent.pending
   pub cached : q.cache ≡ p.cache
   pub signs : IsKeptSo SignsOnce q
   pub saved : IsKeptSo IsSavedWell q
   pub entered : EntersOwned w.0 q
-  pub agent : NamesTellApart (named_bytes w.0) → IsSoundIn met q (knowing_then w p set) q.agent.view
-  pub keeper : NamesTellApart (named_bytes w.0) → IsKeptSo (λ o k. IsSoundKeptIn met o (knowing_then w p set) k k.view) q
-  pub to_load : NamesTellApart (named_bytes w.0) → IfSome q.agent.view (λ view. IfSome q.agent.to_load (λ root. (q.agent.holding ≡ nothing_held) × IsSnapshotOf met view set root))
-  pub snapshots : NamesTellApart (named_bytes w.0) → IfSome q.agent.view (λ view. IfSome q.agent.snapshot (IsSnapshotOf met view set))
-  pub sessions : NamesTellApart (named_bytes w.0) → (s : Session) (b : Began) (h : IsSoundSession w.0 w.1 s b) → s.by ≡ p.name → p.agent.view ≡ Some s.standing.view → StaysSound s b h.of q.agent set
+  pub agent : IsCollisionFree (named_bytes w.0) → IsSoundIn met q (knowing_then w p set) q.agent.view
+  pub keeper : IsCollisionFree (named_bytes w.0) → IsKeptSo (λ o k. IsSoundKeptIn met o (knowing_then w p set) k k.view) q
+  pub to_load : IsCollisionFree (named_bytes w.0) → IfSome q.agent.view (λ view. IfSome q.agent.to_load (λ root. (q.agent.holding ≡ nothing_held) × IsSnapshotOf met view set root))
+  pub snapshots : IsCollisionFree (named_bytes w.0) → IfSome q.agent.view (λ view. IfSome q.agent.snapshot (IsSnapshotOf met view set))
+  pub sessions : IsCollisionFree (named_bytes w.0) → (s : Session) (b : Began) (h : IsSoundSession w.0 w.1 s b) → s.by ≡ p.name → p.agent.view ≡ Some s.standing.view → StaysSound s b h.of q.agent set
 
 -- the world in which q stands in p's place, and more is met
 abbrev pub world_then : World → Participant → List (List ℕ) → World
 world_then w q met = record (with_participant w q) { met = met }
 
-module _ (w : Played) (keeps : Keeps w) (p : Participant) (is_p : participant w.0 p.name ≡ Some p) (q : Participant) (met : List (List ℕ)) (grows : (b : List ℕ) → Contains w.0.met b → Contains met b)
-    (set : List Record) (fit : FitsTurn w p q met set) (more : List HadTurn) (numbered : (h : HadTurn) → Contains more h → h.began.number < w.1.begun) (su : Story) (tells : ToldThen w p set more su) where
+module _ (w : Played) (keeps : Invariant w) (p : Participant) (is_p : participant w.0 p.name ≡ Some p) (q : Participant) (met : List (List ℕ)) (grows : (b : List ℕ) → Contains w.0.met b → Contains met b)
+    (set : List Record) (fit : FitsTurn w p q met set) (more : List HadTurn) (numbered : (h : HadTurn) → Contains more h → h.began.number < w.1.begun) (su : GhostState) (tells : ToldThen w p set more su) where
   abbrev v : World
   v = world_then w.0 q met
 
@@ -168,7 +168,7 @@ module _ (w : Played) (keeps : Keeps w) (p : Participant) (is_p : participant w.
         by = q;
         is_by = found_its s.by is;
         in_view = fit.in_view ∙ ap (λ (o : Participant). o.agent.view) (sym one) ∙ g.in_view;
-        own_key = g.own_key ∙ ap (λ (o : Participant). own o.agent) one ∙ sym fit.owned;
+        own_key = g.own_key ∙ ap (λ (o : Participant). own_hss_key o.agent) one ∙ sym fit.owned;
         some_entry = g.some_entry;
         entries = g.entries;
         heard = all_weaker _ _ s.current (λ a i. answer_stays w.0 v grows (λ o j. j) a.got i) g.heard;
@@ -209,13 +209,13 @@ module _ (w : Played) (keeps : Keeps w) (p : Participant) (is_p : participant w.
 
   -- ---- views
 
-  owners : map (λ (o : Participant). own o.agent) v.participants ≡ map (λ (o : Participant). own o.agent) w.0.participants
-  owners = same_map (λ (o : Participant). own o.agent) put w.0.participants (λ o o_in. by o o_in (bytes_eq o.name q.name) refl)
+  owners : map (λ (o : Participant). own_hss_key o.agent) v.participants ≡ map (λ (o : Participant). own_hss_key o.agent) w.0.participants
+  owners = same_map (λ (o : Participant). own_hss_key o.agent) put w.0.participants (λ o o_in. by o o_in (bytes_eq o.name q.name) refl)
     where
-      by : (o : Participant) → Contains w.0.participants o → (b : Bool) → bytes_eq o.name q.name ≡ b → own (cond b q o).agent ≡ own o.agent
+      by : (o : Participant) → Contains w.0.participants o → (b : Bool) → bytes_eq o.name q.name ≡ b → own_hss_key (cond b q o).agent ≡ own_hss_key o.agent
       by o o_in true is =
           let one : p ≡ o = one_named by_name w.0.participants p o keeps.apart among o_in (sym (same_name o.name q.name is ∙ fit.named)) in
-          fit.owned ∙ ap (λ (x : Participant). own x.agent) one
+          fit.owned ∙ ap (λ (x : Participant). own_hss_key x.agent) one
       by o o_in false is = refl
 
   owned_then : (view : View) → AreParticipants w.0 view → AreParticipants v view
@@ -227,16 +227,16 @@ module _ (w : Played) (keeps : Keeps w) (p : Participant) (is_p : participant w.
     keeper = (h.keeper.0, h.keeper.1, h.keeper.2, some_weaker _ _ h.keeper.0.view owned_then h.keeper.3);
   }
 
-  -- ---- where names tell apart
+  -- ---- where no names collide
 
-  keys : map (λ (o : Participant). (own o.agent).0) v.participants ≡ map (λ (o : Participant). (own o.agent).0) w.0.participants
+  keys : map (λ (o : Participant). (own_hss_key o.agent).0) v.participants ≡ map (λ (o : Participant). (own_hss_key o.agent).0) w.0.participants
   keys = same_keys w.0 keeps.apart p.name p is_p q fit.named fit.owned
 
-  pub apart_before : NamesTellApart (named_bytes v) → NamesTellApart (named_bytes w.0)
+  pub apart_before : IsCollisionFree (named_bytes v) → IsCollisionFree (named_bytes w.0)
   apart_before apart a b in_a in_b same = apart a b (more_named a in_a) (more_named b in_b) same
     where
       more_named : (b : List ℕ) → Contains (named_bytes w.0) b → Contains (named_bytes v) b
-      more_named b h = subst (λ ks. Contains (met ++ ks) b) (sym keys) (grows_before w.0.met met grows (map (λ (o : Participant). (own o.agent).0) w.0.participants) b h)
+      more_named b h = subst (λ ks. Contains (met ++ ks) b) (sym keys) (grows_before w.0.met met grows (map (λ (o : Participant). (own_hss_key o.agent).0) w.0.participants) b h)
 
   told_of_q : knowing_of su q.name ≡ knowing_then w p set
   told_of_q = ap (knowing_of su) fit.named ∙ tells.its
@@ -247,7 +247,7 @@ module _ (w : Played) (keeps : Keeps w) (p : Participant) (is_p : participant w.
   its_told : (name : List ℕ) → bytes_eq name p.name ≡ true → knowing_of su name ≡ knowing_then w p set
   its_told name is = ap (knowing_of su) (same_name name p.name is) ∙ tells.its
 
-  pub sound_session : NamesTellApart (named_bytes w.0) → (r : ℕ) (s : Session) (b : Began) → GoesOn w.0 r s → IsSoundSession w.0 w.1 s b → IsSoundSession v su s b
+  pub sound_session : IsCollisionFree (named_bytes w.0) → (r : ℕ) (s : Session) (b : Began) → GoesOn w.0 r s → IsSoundSession w.0 w.1 s b → IsSoundSession v su s b
   sound_session apart r s b g h = by (bytes_eq s.by p.name) refl
     where
       by : (t : Bool) → bytes_eq s.by p.name ≡ t → IsSoundSession v su s b
@@ -275,7 +275,7 @@ module _ (w : Played) (keeps : Keeps w) (p : Participant) (is_p : participant w.
   sessions_go None h s c = absurd (in_nothing s (subst (λ ss. Contains ss s) h.2 c))
   sessions_go (Some r) h s c = (r, each (λ (t : NamedSession). GoesOn w.0 r t.session) w.0.sessions s h.3 c)
 
-  sound : NamesTellApart (named_bytes w.0) → AreSound v su
+  sound : IsCollisionFree (named_bytes w.0) → AreSound v su
   sound apart = record {
     agents = all_put (λ o. IsSoundIn met o (knowing_of su o.name) o.agent.view) (subst (λ k. IsSoundIn met q k q.agent.view) (sym told_of_q) (fit.agent apart))
         (λ o o_in other. subst (λ k. IsSoundIn met o k o.agent.view) (sym (told_of o other)) (more_sound w.0.met met grows o (unchanged o) (knowing_of w.1 o.name) o.agent.view (each (λ (x : Participant). IsSoundIn w.0.met x (knowing_of w.1 x.name) x.agent.view) w.0.participants o old.agents o_in)));
@@ -302,7 +302,7 @@ module _ (w : Played) (keeps : Keeps w) (p : Participant) (is_p : participant w.
       old : AreSound w.0 w.1
       old = keeps.sound apart
 
-  pub keeps_then : Keeps (v, su)
+  pub keeps_then : Invariant (v, su)
   keeps_then = record {
     fits = record { participants = tells.names ∙ keeps.fits.participants ∙ sym names; sessions = ap (map (λ (b : List ℕ × Began). b.0)) tells.sessions ∙ keeps.fits.sessions };
     ring = ring w.0.replicas keeps.ring;

@@ -1,4 +1,4 @@
--- A participant that enters a view, or tries to, leaves a world that keeps what it should.
+-- A participant that enters a view, or tries to, leaves a world in which the invariant holds.
 use Rattle.std.proofs.Common.{◌≡◌, inl, ⊎_elim, ℕ, ◌<◌, ◌≤◌, ◌^◌, Bool, true, false, cond, ◌&&◌, ◌||◌, not, List, [], ◌∷◌, ◌++◌, length, map, Option, Some, None, refl, sym, ap, ◌∙◌, subst, arith, Contains}
 use Rattle.std.specs.Prelude.{IfSome, IsTrue, is_some, option_map}
 use Rattle.std.specs.List.{AllByRecursion, find}
@@ -8,7 +8,7 @@ use Rattle.std.proofs.lemmas.List.{append-nil}
 use Rattle.std.proofs.lemmas.List.Elements.{Contains-append_left, Contains-append_cases}
 use Rattle.ivy_base.specs.declared.key.Key.{Key}
 use Rattle.ivy_base.specs.declared.key.PubKey.{PubKey}
-use Rattle.ivy_base.specs.Naming.{NamesTellApart, head_key_of, owner_cmp}
+use Rattle.ivy_base.specs.Naming.{IsCollisionFree, head_key_of, owner_cmp}
 use Rattle.ivy_io.specs.Keepers as memory
 use Rattle.block_cache.proofs.Pairs.{empty_valid}
 use Rattle.round_laws.proofs.Nodes.{ties}
@@ -32,13 +32,13 @@ use Rattle.agent_model.specs.Agent.{entered, failed, kept_of, own_key}
 use Rattle.agent_model.specs.Views.{Entered, NotMember, KeeperFailed, entering_with, is_own_member, is_refused_in, not_named, was_former}
 use Rattle.session_model.specs.Sessions.{Cache}
 use Rattle.script_driver.specs.Run.{Outcome}
-use Rattle.world_model.specs.Agents.{Agent, Entering, IsKept, Kept, hss, kept_bytes, own, own_reach, sealed}
+use Rattle.world_model.specs.Agents.{HssAgent, HssEntering, IsHssKept, HssKept, hss_signing, hss_kept_bytes, own_hss_key as own, own_reach, hss_sealed}
 use Rattle.world_model.specs.Keepers.{Keeper, asked_to_save, fails_next}
 use Rattle.world_model.specs.World.{NamedView, World, Participant, named_bytes, participant, view_named, with_participant}
-use Rattle.world_model.specs.Story.{Knowing, knowing_of, known_of}
+use Rattle.world_model.specs.GhostState.{Knowing, knowing_of, known_of}
 use Rattle.world_model.specs.Steps.{heads_by}
 use Rattle.world_model.specs.Logs.{Played, afresh_told, after_entering, of_members, use_by}
-use Rattle.world_laws.specs.Keeps.{AreParticipants, AreSignedOnce, AreSound, EntersOwned, IsKeptSo, IsSavedWell, IsSoundIn, IsSoundKeptIn, Keeps, NamesOneOf, SignsOnce}
+use Rattle.world_laws.specs.Invariant.{AreParticipants, AreSignedOnce, AreSound, EntersOwned, IsKeptSo, IsSavedWell, IsSoundIn, IsSoundKeptIn, Invariant, NamesOneOf, SignsOnce}
 use Rattle.world_laws.specs.Frames.{UseLinesKeep, unchanged}
 use Rattle.world_laws.proofs.Afresh.{IsFit, afresh_world, apart_before, keeps_afresh, knowing_afresh}
 use Rattle.world_laws.proofs.Bringing.{found_named}
@@ -132,7 +132,7 @@ one_of : (a b : Bool) → (a || b) ≡ true → b ≡ false → a ≡ true
 one_of true b e none = refl
 one_of false b e none = cc (sym e ∙ none)
 
-module _ (w : Played) (keeps : Keeps w) (apart : NamesTellApart (named_bytes w.0)) (old view : View) (theirs : AreParticipants w.0 old) (ours : AreParticipants w.0 view) where
+module _ (w : Played) (keeps : Invariant w) (apart : IsCollisionFree (named_bytes w.0)) (old view : View) (theirs : AreParticipants w.0 old) (ours : AreParticipants w.0 view) where
   whose : (v : View) → AreParticipants w.0 v → (a : PubKey) → Contains v.members a → (p : Participant) × Contains w.0.participants p × (a ≡ own p.agent)
   whose v h a c = from_map (λ (p : Participant). own p.agent) w.0.participants a (each (Contains (map (λ (p : Participant). own p.agent) w.0.participants)) v.members a h c)
 
@@ -144,13 +144,13 @@ module _ (w : Played) (keeps : Keeps w) (apart : NamesTellApart (named_bytes w.0
 
 -- ---- a participant with another agent
 
-module _ (w : Played) (keeps : Keeps w) (p : Participant) (is_p : participant w.0 p.name ≡ Some p) (view : View) (legal : IsView view) (keys : HasKeys view) (ours : AreParticipants w.0 view)
-    (member : is_own_member hss p.agent view ≡ true) (accepted : not_named p.agent view ≡ None) where
-  abbrev a : Agent
+module _ (w : Played) (keeps : Invariant w) (p : Participant) (is_p : participant w.0 p.name ≡ Some p) (view : View) (legal : IsView view) (keys : HasKeys view) (ours : AreParticipants w.0 view)
+    (member : is_own_member hss_signing p.agent view ≡ true) (accepted : not_named p.agent view ≡ None) where
+  abbrev a : HssAgent
   a = p.agent
 
   -- what is to be saved
-  abbrev l : Kept
+  abbrev l : HssKept
   l = kept_of (entered a view)
 
   abbrev q : Option View → Holding → Option Key → Option Key → Bool → Keeper → Cache → Participant
@@ -177,13 +177,13 @@ module _ (w : Played) (keeps : Keeps w) (p : Participant) (is_p : participant w.
   so : IsKeptSo SignsOnce p
   so = each (IsKeptSo SignsOnce) w.0.participants p keeps.signs among
 
-  abbrev k : Kept
+  abbrev k : HssKept
   k = so.0
 
   saved : IsSavedWell p k
   saved = so_of IsSavedWell p k (each (IsKeptSo IsSavedWell) w.0.participants p keeps.saved among) so.1 so.2
 
-  pub whole : IsKept l
+  pub whole : IsHssKept l
   whole = record {
     signer = saved.agent.signer;
     some = saved.agent.some;
@@ -199,7 +199,7 @@ module _ (w : Played) (keeps : Keeps w) (p : Participant) (is_p : participant w.
   left_once : AreSignedOnce a.signer a.signer.made (own_reach a) p.left
   left_once = record {
     signed = so.3.left.signed;
-    spelled = so.3.left.spelled ∙ (λ i. map (λ (h : ℕ × Stamp). sealed (record { id = so.3.same.0 i; seed = so.3.same.1 i; sets = so.3.same.2 i; made = h.0 }) h.1) so.3.left.signed);
+    spelled = so.3.left.spelled ∙ (λ i. map (λ (h : ℕ × Stamp). hss_sealed (record { id = so.3.same.0 i; seed = so.3.same.1 i; sets = so.3.same.2 i; made = h.0 }) h.1) so.3.left.signed);
     below = so.3.left.below;
     one_each = so.3.left.one_each;
   }
@@ -227,7 +227,7 @@ module _ (w : Played) (keeps : Keeps w) (p : Participant) (is_p : participant w.
     same_log : log_of (own a) left ≡ log_of (own a) known
     heads : AllByRecursion (NamesOneOf a.signer (log_of (own a) left)) (p.left ++ heads_by a.pending)
 
-  module _ (apart : NamesTellApart (named_bytes w.0)) where
+  module _ (apart : IsCollisionFree (named_bytes w.0)) where
     old : AreSound w.0 w.1
     old = keeps.sound apart
 
@@ -301,9 +301,9 @@ module _ (w : Played) (keeps : Keeps w) (p : Participant) (is_p : participant w.
     kept_sound = so_of (λ x y. IsSoundKeptIn w.0.met x (knowing_of w.1 x.name) y y.view) p k (each (IsKeptSo (λ x y. IsSoundKeptIn w.0.met x (knowing_of w.1 x.name) y y.view)) w.0.participants p old.keepers among) so.1 so.2
 
     signer_then : (log : List Record) (b : List ℕ) → NamesOneOf k.signer log b → NamesOneOf a.signer log b
-    signer_then log b h = (h.0, h.1, h.2, h.3 ∙ (λ i. sealed (record { id = so.3.same.0 i; seed = so.3.same.1 i; sets = so.3.same.2 i; made = h.0 }) (own_entry h.1).1))
+    signer_then log b h = (h.0, h.1, h.2, h.3 ∙ (λ i. hss_sealed (record { id = so.3.same.0 i; seed = so.3.same.1 i; sets = so.3.same.2 i; made = h.0 }) (own_entry h.1).1))
 
-    own_size : length (own_key hss k.signer).0 ≡ 60
+    own_size : length (own_key hss_signing k.signer).0 ≡ 60
     own_size = (owner_is_key k.signer so.1.signer).size
 
     heads_of : (o : Option View) → IsSoundKeptIn w.0.met p (knowing_of w.1 p.name) k o → AllByRecursion (NamesOneOf k.signer (log_of (own a) known)) p.left
@@ -352,8 +352,8 @@ module _ (w : Played) (keeps : Keeps w) (p : Participant) (is_p : participant w.
   abbrev entering_it : Keeper → Participant
   entering_it y = q (Some view) nothing_held None None a.has_failed y []
 
-  module _ (y : Keeper) (held : y.kept ≡ Some (kept_bytes l)) where
-    before : NamesTellApart (named_bytes (afresh_world w.0 p (entering_it y) w.0.met)) → NamesTellApart (named_bytes w.0)
+  module _ (y : Keeper) (held : y.kept ≡ Some (hss_kept_bytes l)) where
+    before : IsCollisionFree (named_bytes (afresh_world w.0 p (entering_it y) w.0.met)) → IsCollisionFree (named_bytes w.0)
     before apart = apart_before w keeps p is_p (entering_it y) refl refl w.0.met (λ b h. h) left apart
 
     fit : IsFit w p (entering_it y) w.0.met left
@@ -371,7 +371,7 @@ module _ (w : Played) (keeps : Keeps w) (p : Participant) (is_p : participant w.
       snapshots = λ apart. tt;
     }
 
-    entered_keeps : Keeps (afresh_world w.0 p (entering_it y) w.0.met, afresh_told w p.name left)
+    entered_keeps : Invariant (afresh_world w.0 p (entering_it y) w.0.met, afresh_told w p.name left)
     entered_keeps = keeps_afresh w keeps p is_p (entering_it y) refl refl w.0.met (λ b h. h) left fit
 
   -- ---- its save fails
@@ -381,7 +381,7 @@ module _ (w : Played) (keeps : Keeps w) (p : Participant) (is_p : participant w.
   failing_it y = q a.view a.holding a.to_load a.snapshot true y p.cache
 
   -- and the old bytes are kept
-  old_bytes_keep : (y : Keeper) → y.kept ≡ p.keeper.kept → Keeps (with_participant w.0 (failing_it y), w.1)
+  old_bytes_keep : (y : Keeper) → y.kept ≡ p.keeper.kept → Invariant (with_participant w.0 (failing_it y), w.1)
   old_bytes_keep y held = participant_keeps w p.name p (record (unchanged p) { has_failed = true; keeper = y }) keeps is_p (record {
     kept = held;
     pending = λ post c. c;
@@ -390,7 +390,7 @@ module _ (w : Played) (keeps : Keeps w) (p : Participant) (is_p : participant w.
   })
 
   -- or the new bytes are
-  new_bytes_keep : (y : Keeper) → y.kept ≡ Some (kept_bytes l) → Keeps (with_participant w.0 (failing_it y), w.1)
+  new_bytes_keep : (y : Keeper) → y.kept ≡ Some (hss_kept_bytes l) → Invariant (with_participant w.0 (failing_it y), w.1)
   new_bytes_keep y held = other_bytes_keep w keeps p is_p (record (unchanged p) { has_failed = true; keeper = y }) refl (record {
     cached = each _ w.0.participants p keeps.met.cached among;
     signs = (l, whole, held, signs_then a.view a.holding a.to_load a.snapshot true y p.cache);
@@ -401,17 +401,17 @@ module _ (w : Played) (keeps : Keeps w) (p : Participant) (is_p : participant w.
 
   -- ---- what comes of it
 
-  saved_now : (o : Option Bool) → memory.planned_next p.keeper ≡ o → (asked_to_save p.keeper (Some l)).kept ≡ (memory.after_planned o p.keeper (kept_bytes l)).kept
-  saved_now o planned = ap (λ x. (memory.after_planned x p.keeper (kept_bytes l)).kept) planned
+  saved_now : (o : Option Bool) → memory.planned_next p.keeper ≡ o → (asked_to_save p.keeper (Some l)).kept ≡ (memory.after_planned o p.keeper (hss_kept_bytes l)).kept
+  saved_now o planned = ap (λ x. (memory.after_planned x p.keeper (hss_kept_bytes l)).kept) planned
 
   by_plan : (o : Option Bool) → memory.planned_next p.keeper ≡ o
-      → ToSuch Keeps (after_entering w p view (cond (is_some o) (KeeperFailed (failed a)) (Entered (entered a view))) (Some l))
+      → ToSuch Invariant (after_entering w p view (cond (is_some o) (KeeperFailed (failed a)) (Entered (entered a view))) (Some l))
   by_plan None planned = entered_keeps (asked_to_save p.keeper (Some l)) (saved_now None planned)
   by_plan (Some true) planned = new_bytes_keep (asked_to_save p.keeper (Some l)) (saved_now (Some true) planned)
   by_plan (Some false) planned = old_bytes_keep (asked_to_save p.keeper (Some l)) (saved_now (Some false) planned)
 
-  by_failure : (b : Bool) → ToSuch Keeps (let came = cond {A = Entering × Option Kept} b (KeeperFailed a, None) (cond (fails_next p.keeper) (KeeperFailed (failed a)) (Entered (entered a view)), Some l) in after_entering w p view came.0 came.1)
-  by_failure true = subst (λ (v : World). Keeps (v, w.1)) (sym (placed_itself w.0 keeps.apart p.name p is_p)) keeps
+  by_failure : (b : Bool) → ToSuch Invariant (let came = cond {A = HssEntering × Option HssKept} b (KeeperFailed a, None) (cond (fails_next p.keeper) (KeeperFailed (failed a)) (Entered (entered a view)), Some l) in after_entering w p view came.0 came.1)
+  by_failure true = subst (λ (v : World). Invariant (v, w.1)) (sym (placed_itself w.0 keeps.apart p.name p is_p)) keeps
   by_failure false = by_plan (memory.planned_next p.keeper) refl
 
 -- ---- the line
@@ -426,16 +426,16 @@ view_in vs name view is = by (find (λ (v : NamedView). bytes_eq v.name name) vs
     by None found e = cc e
     by (Some v) found e = (v, (found_among (λ (x : NamedView). x.name) vs name v found).0, same v.view view e)
 
-use_so : (w : Played) → Keeps w → (p : Participant) → participant w.0 p.name ≡ Some p → (view : View) → IsView view × HasKeys view × AreParticipants w.0 view → ToSuch Keeps (use_by w (Some p) (Some view))
-use_so w keeps p is_p view fits = by (is_own_member hss p.agent view) refl (not_named p.agent view) refl
+use_so : (w : Played) → Invariant w → (p : Participant) → participant w.0 p.name ≡ Some p → (view : View) → IsView view × HasKeys view × AreParticipants w.0 view → ToSuch Invariant (use_by w (Some p) (Some view))
+use_so w keeps p is_p view fits = by (is_own_member hss_signing p.agent view) refl (not_named p.agent view) refl
   where
-    by : (m : Bool) → is_own_member hss p.agent view ≡ m → (n : Option Key) → not_named p.agent view ≡ n
-        → ToSuch Keeps (let came = cond {A = Entering × Option Kept} m (entering_with p.agent view (fails_next p.keeper) n) (NotMember, None) in after_entering w p view came.0 came.1)
+    by : (m : Bool) → is_own_member hss_signing p.agent view ≡ m → (n : Option Key) → not_named p.agent view ≡ n
+        → ToSuch Invariant (let came = cond {A = HssEntering × Option HssKept} m (entering_with p.agent view (fails_next p.keeper) n) (NotMember, None) in after_entering w p view came.0 came.1)
     by false stranger n names = tt
     by true member (Some log) names = tt
     by true member None names = by_failure w keeps p is_p view fits.0 fits.1 fits.2 member names p.agent.has_failed
 
-use_keeps : (w : Played) → Keeps w → (log name : List ℕ) (o : Option Participant) → participant w.0 log ≡ o → (v : Option View) → view_named w.0 name ≡ v → ToSuch Keeps (use_by w o v)
+use_keeps : (w : Played) → Invariant w → (log name : List ℕ) (o : Option Participant) → participant w.0 log ≡ o → (v : Option View) → view_named w.0 name ≡ v → ToSuch Invariant (use_by w o v)
 use_keeps w keeps log name None is v named = tt
 use_keeps w keeps log name (Some p) is None named = tt
 use_keeps w keeps log name (Some p) is (Some view) named =
@@ -444,4 +444,4 @@ use_keeps w keeps log name (Some p) is (Some view) named =
     subst (λ x. IsView x × HasKeys x × AreParticipants w.0 x) found.2 (each (λ (x : NamedView). IsView x.view × HasKeys x.view × AreParticipants w.0 x.view) w.0.views found.0 keeps.met.views found.1))
 
 pub use_lines_keep : UseLinesKeep
-use_lines_keep log name w next output keeps does = subst (λ (o : Outcome Played). ToSuch Keeps o) (sym does) (use_keeps w keeps log name (participant w.0 log) refl (view_named w.0 name) refl)
+use_lines_keep log name w next output keeps does = subst (λ (o : Outcome Played). ToSuch Invariant o) (sym does) (use_keeps w keeps log name (participant w.0 log) refl (view_named w.0 name) refl)

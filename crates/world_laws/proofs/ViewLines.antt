@@ -1,4 +1,4 @@
--- Lines that make views leave a world that keeps what it should.
+-- Lines that make views leave a world in which the invariant holds.
 use Rattle.std.proofs.Common.{map, ◌≡◌, ◌≢◌, ℕ, suc, ◌≤◌, Bool, true, false, ◌||◌, List, [], ◌∷◌, ◌++◌, length, Option, Some, None, refl, sym, ap, ◌∙◌, subst, arith, Contains, nat_lt}
 use Rattle.std.specs.List.{AllByRecursion}
 use Rattle.std.proofs.lemmas.Bool.{ltb-false}
@@ -13,20 +13,20 @@ use Rattle.dht_ids.specs.declared.ask.Ask.{Ask}
 use Rattle.dht_ids.specs.declared.ask.Ask.TheVariants as ask
 use Rattle.dht_ids.specs.declared.peer.Peer.{Peer}
 use Rattle.dht_ids.specs.declared.post.Post.{Post}
-use Rattle.dhash_model.specs.Course.{Told}
+use Rattle.dhash_model.specs.Execution.{Told}
 use Rattle.script_driver.specs.Run.{Outcome, Goes}
 use Rattle.script_model.specs.Words.{◌>>=◌}
-use Rattle.world_model.specs.Agents.{own}
+use Rattle.world_model.specs.Agents.{own_hss_key as own}
 use Rattle.world_model.specs.World.{World, NamedView, Participant, meets, participant}
-use Rattle.world_model.specs.Story.{Story}
+use Rattle.world_model.specs.GhostState.{GhostState}
 use Rattle.world_model.specs.Fates.{Fates, asking}
 use Rattle.world_model.specs.Fates.Fates.{none as fates_none, more as fates_more}
 use Rattle.world_model.specs.Logs.{Played, ViewLine, acked_view, in_key_order, is_too_large, keys_of, with_view}
 use Rattle.world_model.specs.Logs.ViewLine.{known as view_known, no_members as view_no_members, no_former as view_no_former, one_head_key as view_one_head_key, exceeds as view_exceeds, makes as view_makes}
-use Rattle.world_laws.specs.Keeps.{AreParticipants, IsKeptSo, IsSavedWell, Keeps}
+use Rattle.world_laws.specs.Invariant.{AreParticipants, IsKeptSo, IsSavedWell, Invariant}
 use Rattle.world_laws.specs.Frames.{ViewLinesKeep}
 use Rattle.world_laws.proofs.Bringing.{found_named}
-use Rattle.world_laws.proofs.Frames.{held_more, into_map, no_changes, of_ring, unchanged_mild, world_changes}
+use Rattle.world_laws.proofs.Frames.{held_more, into_map, no_changes, of_ring, unchanged_within_frame, world_changes}
 use Rattle.world_laws.proofs.Lines.{ToSuch, meets_it, meets_more}
 use Rattle.world_laws.proofs.MadeViews.{each_in_order, made_view_is_view}
 use Rattle.world_laws.proofs.NodeFates.{PutsMet}
@@ -36,8 +36,8 @@ use Rattle.world_laws.proofs.Publishing.{ask_keeps, leaves}
 -- ---- asks one after the other
 
 -- asks for data by which only what was met is put
-pub fates_keep : (met : List (List ℕ)) (r : ℕ) (st : Story) {w next : World} {asks : List (Peer × (Ask × Answer))} → Fates hss_judged w asks next → Keeps (w, st) → w.replicas ≡ Some r → met ≡ w.met
-    → AllByRecursion (λ s. IsForData s.1.0 × PutsMet met s.1.0) asks → Keeps (next, st)
+pub fates_keep : (met : List (List ℕ)) (r : ℕ) (st : GhostState) {w next : World} {asks : List (Peer × (Ask × Answer))} → Fates hss_judged w asks next → Invariant (w, st) → w.replicas ≡ Some r → met ≡ w.met
+    → AllByRecursion (λ s. IsForData s.1.0 × PutsMet met s.1.0) asks → Invariant (next, st)
 fates_keep met r st fates_none keeps ringed same fit = keeps
 fates_keep met r st (fates_more {w} {mid} {next} {rest} to question answer fate others) keeps ringed same fit =
     let new : PutsMet w.met question = subst (λ m. PutsMet m question) same fit.0.1 in
@@ -49,7 +49,7 @@ asked_fit met question h [] = tt
 asked_fit met question h (s ∷ told) = (h, asked_fit met question h told)
 
 -- other acknowledgements
-pub acked_keep : (w : World) (st : Story) (acked : List Post) → Keeps (w, st) → Keeps (w, record st { acked = acked })
+pub acked_keep : (w : World) (st : GhostState) (acked : List Post) → Invariant (w, st) → Invariant (w, record st { acked = acked })
 acked_keep w st acked keeps = world_changes (w, st) (record (no_changes (w, st)) { acked = acked }) keeps (record {
   peers = λ p h. h;
   made = keeps.peers;
@@ -58,12 +58,12 @@ acked_keep w st acked keeps = world_changes (w, st) (record (no_changes (w, st))
   views = keeps.met.views;
   moment = keeps.moment;
   grows = λ b h. h;
-  each = unchanged_mild (w, st) keeps w.met (λ b h. h);
+  each = unchanged_within_frame (w, st) keeps w.met (λ b h. h);
 })
 
 -- ---- keys of participants
 
-pub own_is_key : (w : Played) → Keeps w → (p : Participant) → Contains w.0.participants p → IsPubKey (own p.agent)
+pub own_is_key : (w : Played) → Invariant w → (p : Participant) → Contains w.0.participants p → IsPubKey (own p.agent)
 own_is_key w keeps p among = owner_is_key p.agent.signer (each (IsKeptSo IsSavedWell) w.0.participants p keeps.saved among).3.agent.signer
 
 record AreOwn (w : World) (names : List (List ℕ)) (keys : List PubKey) : Type 0 where
@@ -71,7 +71,7 @@ record AreOwn (w : World) (names : List (List ℕ)) (keys : List PubKey) : Type 
   as_many : length keys ≡ length names
   owned : AllByRecursion (Contains (map (λ (p : Participant). own p.agent) w.participants)) keys
 
-own_keys : (w : Played) → Keeps w → (names : List (List ℕ)) (keys : List PubKey) → keys_of w.0 names ≡ Some keys → AreOwn w.0 names keys
+own_keys : (w : Played) → Invariant w → (names : List (List ℕ)) (keys : List PubKey) → keys_of w.0 names ≡ Some keys → AreOwn w.0 names keys
 own_keys w keeps [] keys is = subst (AreOwn w.0 []) (same [] keys is) (record { each_is_key = tt; as_many = refl; owned = tt })
   where
     same : (a b : List PubKey) → Some a ≡ Some b → a ≡ b
@@ -101,7 +101,7 @@ few_enough members former h = let p = neither (nat_lt most_members (length membe
     neither false b e = (refl, e)
 
 -- a view more, whose block is met
-with_view_keeps : (w : Played) (name : List ℕ) (view : View) → Keeps w → IsView view → HasKeys view → AreParticipants w.0 view → Keeps (with_view w.0 name view, w.1)
+with_view_keeps : (w : Played) (name : List ℕ) (view : View) → Invariant w → IsView view → HasKeys view → AreParticipants w.0 view → Invariant (with_view w.0 name view, w.1)
 with_view_keeps w name view keeps legal keys owned = world_changes w (record (no_changes w) { views = w.0.views ++ record { name = name; view = view } ∷ []; met = meets w.0.met (view_block view) }) keeps (record {
   peers = λ p h. h;
   made = keeps.peers;
@@ -110,14 +110,14 @@ with_view_keeps w name view keeps legal keys owned = world_changes w (record (no
   views = each_append (λ (v : NamedView). IsView v.view × HasKeys v.view × AreParticipants w.0 v.view) w.0.views (record { name = name; view = view } ∷ []) keeps.met.views ((legal, keys, owned), tt);
   moment = keeps.moment;
   grows = meets_more w.0.met (view_block view);
-  each = unchanged_mild w keeps (meets w.0.met (view_block view)) (meets_more w.0.met (view_block view));
+  each = unchanged_within_frame w keeps (meets w.0.met (view_block view)) (meets_more w.0.met (view_block view));
 })
 
 some_of : (names : List (List ℕ)) → names ≢ [] → 1 ≤ length names
 some_of [] some = absurd (some refl)
 some_of (n ∷ names) some = omega arith
 
-view_keeps : (w : Played) → Keeps w → (name : List ℕ) (names others : List (List ℕ)) → names ≢ [] → (m f : Option (List PubKey)) → keys_of w.0 names ≡ m → keys_of w.0 others ≡ f → (o : Outcome Played) → ViewLine hss_judged w name m f o → ToSuch Keeps o
+view_keeps : (w : Played) → Invariant w → (name : List ℕ) (names others : List (List ℕ)) → names ≢ [] → (m f : Option (List PubKey)) → keys_of w.0 names ≡ m → keys_of w.0 others ≡ f → (o : Outcome Played) → ViewLine hss_judged w name m f o → ToSuch Invariant o
 view_keeps w keeps name names others some _ _ is_m is_f _ (view_known known) = tt
 view_keeps w keeps name names others some _ _ is_m is_f _ view_no_members = tt
 view_keeps w keeps name names others some _ _ is_m is_f _ view_no_former = tt

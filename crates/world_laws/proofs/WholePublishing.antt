@@ -15,27 +15,27 @@ use Rattle.dht_ids.specs.declared.post.Post.{Post}
 use Rattle.agent_model.specs.Agent.{is_head}
 use Rattle.agent_model.specs.Others.{is_block}
 use Rattle.agent_model.specs.Turning.{TurnEnd}
-use Rattle.session_model.specs.Courses.{Fails, LacksMemory, Settles, TakesTurn}
-use Rattle.session_model.specs.Courses.Fails.{fails, goes_on}
-use Rattle.session_model.specs.Courses.LacksMemory.{lacks}
-use Rattle.session_model.specs.Courses.Settles.{settles as settles_all}
-use Rattle.session_model.specs.Courses.TakesTurn.{answers as turn_answers, begins_anew, gives_up}
+use Rattle.session_model.specs.Executions.{Fails, LacksMemory, Settles, TakesTurn}
+use Rattle.session_model.specs.Executions.Fails.{fails, goes_on}
+use Rattle.session_model.specs.Executions.LacksMemory.{lacks}
+use Rattle.session_model.specs.Executions.Settles.{settles as settles_all}
+use Rattle.session_model.specs.Executions.TakesTurn.{answers as turn_answers, begins_again, gives_up}
 use Rattle.session_model.specs.Sessions.{Cache, Hears, Session, Takes, TakesAll, TakesSome, in_publishing_order, is_log}
 use Rattle.session_model.specs.Sessions.Hears.{gets_on, got, puts_on, puts}
 use Rattle.session_model.specs.Sessions.Takes.{posted, cached}
 use Rattle.session_model.specs.Sessions.TakesAll.{none as takes_none, more as takes_more}
 use Rattle.session_model.specs.Sessions.TakesSome.{none as some_none, more as some_more}
-use Rattle.world_model.specs.Agents.{Agent, Kept, hss}
+use Rattle.world_model.specs.Agents.{HssAgent, HssKept, hss_signing}
 use Rattle.world_model.specs.Fates.{FateOf}
 use Rattle.world_model.specs.Fates.FateOf.{lost, stopped, answers}
 use Rattle.world_model.specs.Nodes.{Node}
 use Rattle.world_model.specs.World.{World, Participant, entries, participant, peer_of, with_numbered}
-use Rattle.world_model.specs.Steps.{Acts, RunsOut, Scene, Steps, with_cache}
+use Rattle.world_model.specs.Steps.{Acts, RunsOut, Configuration, Steps, with_cache}
 use Rattle.world_model.specs.Steps.Acts.{asks, asks_in_vain, turns, is_refused, settles}
 use Rattle.world_model.specs.Steps.Steps.{acts, lacks_memory}
 use Rattle.world_model.specs.Steps.RunsOut.{is_over as runs_over, more as runs_more}
 use Rattle.world_model.specs.Logs.{Played, to_publish}
-use Rattle.world_laws.specs.Keeps.{IsMetPost, Keeps, OnlyPublishes}
+use Rattle.world_laws.specs.Invariant.{IsMetPost, Invariant, OnlyPublishes}
 use Rattle.world_laws.specs.Laws.{WholePublishingKeeps}
 use Rattle.world_laws.proofs.Bringing.{found_named}
 use Rattle.world_laws.proofs.Frames.{ring_of}
@@ -74,19 +74,19 @@ fails_by s _ (goes_on none) = refl
 lacks_by : (s t : Session) → LacksMemory s t → t.by ≡ s.by
 lacks_by s _ (lacks notes shown given end xid asked at refreshed asks_it rest front) = refl
 
-settles_by : (a : Agent) (s : Session) (after : Agent) (t : Session) → Settles a s after t → t.by ≡ s.by
+settles_by : (a : HssAgent) (s : Session) (after : HssAgent) (t : Session) → Settles a s after t → t.by ≡ s.by
 settles_by a s _ _ (settles_all said acks at) = refl
 
-turn_by : (now : Moment) (a : Agent) (view : View) (failing : Bool) (s : Session) (end : TurnEnd) (after : Agent) (saving : Option Kept) (t : Session) → TakesTurn hss (record { agent = a; view = view; now = now; fails = failing }) s end after saving t → t.by ≡ s.by
+turn_by : (now : Moment) (a : HssAgent) (view : View) (failing : Bool) (s : Session) (end : TurnEnd) (after : HssAgent) (saving : Option HssKept) (t : Session) → TakesTurn hss_signing (record { agent = a; view = view; now = now; fails = failing }) s end after saving t → t.by ≡ s.by
 turn_by now a view failing s _ _ _ _ (turn_answers notes given xid asked reply applied after saving done asks_it turned) = refl
-turn_by now a view failing s _ _ _ _ (begins_anew notes given xid asked end after saving done asks_it turned refused few) = refl
+turn_by now a view failing s _ _ _ _ (begins_again notes given xid asked end after saving done asks_it turned refused few) = refl
 turn_by now a view failing s _ _ _ _ (gives_up notes given xid asked end after saving done asks_it turned refused many) = refl
 
-abbrev IsSameIn : Scene → Scene → Type 0
+abbrev IsSameIn : Configuration → Configuration → Type 0
 IsSameIn c next = (next.session.by ≡ c.session.by) × (next.world.replicas ≡ c.world.replicas)
 
 module _ (r : ℕ) where
-  acts_same : (c next : Scene) (p : Participant) → Acts hss_judged r p c next → IsSameIn c next
+  acts_same : (c next : Configuration) (p : Participant) → Acts hss_judged r p c next → IsSameIn c next
   acts_same c _ p (asks node question answer next heard t cache fate hears goes) =
       (fails_by heard t goes ∙ hears_by c.session p.cache node question answer heard cache hears, fate_replicas fate)
   acts_same c _ p (asks_in_vain node question answer next heard t cache fate hears lacking) = (lacks_by c.session t lacking, fate_replicas fate)
@@ -94,7 +94,7 @@ module _ (r : ℕ) where
   acts_same c _ p (is_refused view end after saving t in_view refusal takes) = (turn_by c.world.now p.agent view _ c.session end after saving t takes, refl)
   acts_same c _ p (settles after t is) = (settles_by p.agent c.session after t is, refl)
 
-  pub step_same : (name : List ℕ) (c next : Scene) → Steps hss_judged r name c next → IsSameIn c next
+  pub step_same : (name : List ℕ) (c next : Configuration) → Steps hss_judged r name c next → IsSameIn c next
   step_same name c _ (acts p taken cache next is_p takes act) =
       let same = acts_same (with_cache hss_judged r c p taken cache) next (record p { cache = cache }) act in
       (same.0 ∙ takes_all_by takes, same.1)
@@ -102,10 +102,10 @@ module _ (r : ℕ) where
 
 -- ---- all steps
 
-abbrev Published : Scene → Scene → Type 0
-Published c end = Keeps (end.world, end.story) × (end.story.turns ≡ c.story.turns)
+abbrev Published : Configuration → Configuration → Type 0
+Published c end = Invariant (end.world, end.ghost_state) × (end.ghost_state.turns ≡ c.ghost_state.turns)
 
-runs_keep : (r : ℕ) (name : List ℕ) {c end : Scene} → RunsOut hss_judged r name c end → c.session.by ≡ name → Keeps (c.world, c.story) → OnlyPublishes c.world r c.session → c.world.replicas ≡ Some r → Published c end
+runs_keep : (r : ℕ) (name : List ℕ) {c end : Configuration} → RunsOut hss_judged r name c end → c.session.by ≡ name → Invariant (c.world, c.ghost_state) → OnlyPublishes c.world r c.session → c.world.replicas ≡ Some r → Published c end
 runs_keep r name (runs_over said over) named keeps only ringed = (keeps, refl)
 runs_keep r name (runs_more {c} {between} {next} step rest) named keeps only ringed =
     let one = publishing_keeps c between r keeps only ringed (subst (λ n. Steps hss_judged r n c between) (sym named) step) in
@@ -157,7 +157,7 @@ each_published P posts h = each_append P (filter (λ p. is_log p.kind) posts ++ 
     kept : (test : Post → Bool) → AllByRecursion P (filter test posts)
     kept test = each_from P (filter test posts) (λ p among. each P posts p h (from_filter test posts p among).0)
 
-begins_so : (w : Played) (r : ℕ) (p : Participant) → Keeps w → w.0.replicas ≡ Some r → participant w.0 p.name ≡ Some p → OnlyPublishes w.0 r (to_publish w.0 p)
+begins_so : (w : Played) (r : ℕ) (p : Participant) → Invariant w → w.0.replicas ≡ Some r → participant w.0 p.name ≡ Some p → OnlyPublishes w.0 r (to_publish w.0 p)
 begins_so w r p keeps ringed is = record {
   by = p;
   is_by = is;
@@ -174,4 +174,4 @@ begins_so w r p keeps ringed is = record {
 pub whole_publishing_keeps : WholePublishingKeeps
 whole_publishing_keeps w r p next keeps ringed is published =
     let end = runs_keep r p.name published.1 refl keeps (begins_so w r p keeps ringed is) ringed in
-    (subst Keeps (sym published.2) end.0, ap (λ (v : Played). v.1.turns) published.2 ∙ end.1)
+    (subst Invariant (sym published.2) end.0, ap (λ (v : Played). v.1.turns) published.2 ∙ end.1)

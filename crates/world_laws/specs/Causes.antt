@@ -7,7 +7,7 @@ use Rattle.session_model.specs.Brought.{brought_in}
 use Rattle.session_model.specs.Refreshing.{Refreshes, FailsBy, Done}
 use Rattle.session_model.specs.Replies.{Asks, IsByMessage, missed_reply, said_bare, said_no_memory, said_of}
 use Rattle.session_model.specs.Sessions.{Said, Session, Stage, Refreshing, Publishing, Over}
-use Rattle.world_model.specs.Story.{Story, HadTurn}
+use Rattle.world_model.specs.GhostState.{GhostState, HadTurn}
 
 -- The reply of a session, once that is decided.
 abbrev pub said_at : Stage → Option Said
@@ -25,7 +25,7 @@ pub record IsOf (h : HadTurn) (number : ℕ) (s : Session) : Type 0 where
   pub parts : h.session.parts ≡ s.parts
 
 -- JUKEBOX (10008) and IO (5) of a failed refresh come only with what it needed and couldn't have. SYSTEM_ERR has no cause but memory.
-pub data HasCause (st : Story) (number : ℕ) (s : Session) : Said → Type 0 where
+pub data HasCause (st : GhostState) (number : ℕ) (s : Session) : Said → Type 0 where
   alone : (given : Option (List ℕ)) → IsByMessage s.standing.view s.message given → HasCause st number s (said_bare given)
   missed : (xid : ℕ) (asked : Asked) (given : Refresh) (miss : Miss) → Asks s.standing.view s.message xid asked
       → Refreshes s.standing (brought_in s.parts) s.notes given (FailsBy miss)

@@ -1,5 +1,5 @@
--- The effects of a line that goes on: what its command leaves of a world with its story. Of most commands that is one effect; of some there
--- is a later one.
+-- The effects of a line that goes on: what its command leaves of a world with its ghost state. Of most commands that is one effect; of some
+-- there is a later one.
 use Rattle.std.specs.Prelude.{◌≡◌, ℕ, ◌+◌, Bool, true, false, List, [], ◌∷◌, ◌++◌, Contains, codes, Option, Some, None, is_some}
 use Rattle.ivy_base.specs.declared.key.Key.{Key}
 use Rattle.ivy_base.specs.declared.key.PubKey.{PubKey}
@@ -21,17 +21,18 @@ use Rattle.script_model.specs.declared.command.Command.{Command}
 use Rattle.script_model.specs.declared.command.Command.TheVariants as command
 use Rattle.script_model.specs.declared.command.Piece.{Piece}
 use Rattle.script_model.specs.declared.command.Shown.{Shown}
-use Rattle.world_model.specs.Agents.{Agent, IsKept, Kept, hss, kept_bytes, opened}
-use Rattle.world_model.specs.Calls.{BeginsWith, Sending, replied, scene_of, sending_of}
+use Rattle.world_model.specs.Agents.{HssAgent, IsHssKept, HssKept, hss_signing, hss_kept_bytes, hss_opened}
+use Rattle.world_model.specs.Calls.{BeginsWith, Sending, replied, configuration_of, sending_of}
 use Rattle.world_model.specs.Fates.{Puts}
 use Rattle.world_model.specs.Keepers.{asked_to_save, fails_next, with_fault}
 use Rattle.world_model.specs.Logs.{IsKnownAgain, Played, acked_view, afresh, afresh_told, fresh_signer, in_key_order, is_too_large, keys_of}
-use Rattle.world_model.specs.Logs.{failed_text, newcomer, of_members, restarted, snap_text, to_publish, with_newcomer, with_view}
+use Rattle.world_model.specs.Logs.{failed_text, new_participant, of_members, restarted, snap_text, to_publish, with_new_participant}
+use Rattle.world_model.specs.Logs.{with_view}
 use Rattle.world_model.specs.Step.{Does}
 use Rattle.world_model.specs.Ring.{failed_join_text}
 use Rattle.world_model.specs.Shows.{word_of}
-use Rattle.world_model.specs.Steps.{RunsOut, Scene, StepsOn, having_made, met_by}
-use Rattle.world_model.specs.Story.{began_nothing, began_of, beginning, having_begun, known_of, with_began, without_began}
+use Rattle.world_model.specs.Steps.{RunsOut, Configuration, StepsOn, having_made, met_by}
+use Rattle.world_model.specs.GhostState.{began_nothing, began_of, beginning, having_begun, known_of, with_began, without_began}
 use Rattle.world_model.specs.World.{Participant, World, participant, session_named, view_named, with_participant, with_session}
 use Rattle.world_model.specs.World.{without_session}
 
@@ -94,12 +95,12 @@ pub data ShowsText : Command → List ℕ → Type 0 where
 -- ---- participants
 
 -- the snapshot that it makes
-abbrev pub snapped_in : Participant → View → Agent
+abbrev pub snapped_in : Participant → View → HssAgent
 snapped_in p view = snapped p.agent (root_name view (basis_of p.agent.holding)) (snapshot_blocks view (basis_of p.agent.holding))
 
 -- what it would save as it enters a view, or makes a snapshot
-pub data IsAttempt (w : World) (p : Participant) (name : List ℕ) : Command → Kept → Type 0 where
-  to_enter : (called : List ℕ) (view : View) → view_named w called ≡ Some view → is_own_member hss p.agent view ≡ true
+pub data IsAttempt (w : World) (p : Participant) (name : List ℕ) : Command → HssKept → Type 0 where
+  to_enter : (called : List ℕ) (view : View) → view_named w called ≡ Some view → is_own_member hss_signing p.agent view ≡ true
       → not_named p.agent view ≡ None
       → IsAttempt w p name (command.Use name called) (kept_of (entered p.agent view))
   to_snap : (view : View) → p.agent.view ≡ Some view → ArePostsSpelled (snapped_in p view).pending
@@ -109,7 +110,7 @@ pub data IsAttempt (w : World) (p : Participant) (name : List ℕ) : Command →
 pub data Touches (w : World) (p : Participant) (name : List ℕ) : Command → Participant → List Post → Type 0 where
   plans : (count : ℕ) (new : Bool) → Touches w p name (command.Keep name count new) (record p { keeper = with_fault p.keeper count new }) []
   unable : (k : Command) → SavesFor name k → p.agent.has_failed ≡ true → Touches w p name k p []
-  fails : (k : Command) (saving : Kept) → p.agent.has_failed ≡ false → fails_next p.keeper ≡ true → IsAttempt w p name k saving
+  fails : (k : Command) (saving : HssKept) → p.agent.has_failed ≡ false → fails_next p.keeper ≡ true → IsAttempt w p name k saving
       → Touches w p name k (record p { agent = failed p.agent; keeper = asked_to_save p.keeper (Some saving) }) []
   snaps : (view : View) → p.agent.has_failed ≡ false → fails_next p.keeper ≡ false → p.agent.view ≡ Some view
       → ArePostsSpelled (snapped_in p view).pending
@@ -122,12 +123,13 @@ pub data Touches (w : World) (p : Participant) (name : List ℕ) : Command → P
 
 -- One that enters a view or starts again, what is met by it, and what it knows then.
 pub data Renews (w : Played) (p : Participant) (name : List ℕ) : Command → Participant → List Post → List Record → Type 0 where
-  enters : (called : List ℕ) (view : View) → view_named w.0 called ≡ Some view → is_own_member hss p.agent view ≡ true
+  enters : (called : List ℕ) (view : View) → view_named w.0 called ≡ Some view → is_own_member hss_signing p.agent view ≡ true
       → not_named p.agent view ≡ None → p.agent.has_failed ≡ false → fails_next p.keeper ≡ false
       → Renews w p name (command.Use name called)
       (record p { agent = entered p.agent view; keeper = asked_to_save p.keeper (Some (kept_of (entered p.agent view))) }) []
       (of_members view (known_of w.1 p.name))
-  starts_again : (view : View) (k : Kept) (set : List Record) → p.agent.view ≡ Some view → IsKept k → p.keeper.kept ≡ Some (kept_bytes k)
+  starts_again : (view : View) (k : HssKept) (set : List Record) → p.agent.view ≡ Some view → IsHssKept k
+      → p.keeper.kept ≡ Some (hss_kept_bytes k)
       → IsKnownAgain (restarted w.0 p k) k set
       → Renews w p name (command.Restart name) (having_made (record p { agent = restored k }) k.pending) k.pending set
 
@@ -141,28 +143,28 @@ pub record NodesChange (w next : World) : Type 0 where
 
 -- ---- changes
 
-abbrev pub SceneIsOver : Scene → Type 0
-SceneIsOver c = (said : Option Said) × (c.session.stage ≡ Over said)
+abbrev pub ConfigurationIsOver : Configuration → Type 0
+ConfigurationIsOver c = (said : Option Said) × (c.session.stage ≡ Over said)
 
 -- a whole call, as it begins
-abbrev pub begun_scene : Played → Sending → Session → Scene
-begun_scene w s t = record { world = w.0; story = having_begun w.1; session = t; began = beginning w.1 s.by.name }
+abbrev pub begun_configuration : Played → Sending → Session → Configuration
+begun_configuration w s t = record { world = w.0; ghost_state = having_begun w.1; session = t; began = beginning w.1 s.by.name }
 
 module _ (judged : Key → List ℕ → Option Judged) where
   -- A session that goes on in a line: whose it is, how it begins and ends, and what is left.
-  pub data Plays (w : Played) (r : ℕ) : Command → List ℕ → Scene → Scene → Played → Type 0 where
-    calls : (log : List ℕ) (pieces : List Piece) (s : Sending) (t : Session) (end : Scene) → sending_of w.0 log pieces ≡ Some s
+  pub data Plays (w : Played) (r : ℕ) : Command → List ℕ → Configuration → Configuration → Played → Type 0 where
+    calls : (log : List ℕ) (pieces : List Piece) (s : Sending) (t : Session) (end : Configuration) → sending_of w.0 log pieces ≡ Some s
         → BeginsWith w.0 s t
-        → RunsOut judged r s.by.name (begun_scene w s t) end → SceneIsOver end
-        → Plays w r (command.As log pieces) s.by.name (begun_scene w s t) end (end.world, end.story)
-    steps : (name : List ℕ) (count : ℕ) (s : Session) (end : Scene) → session_named w.0 name ≡ Some s
-        → StepsOn judged r s.by count (scene_of w s (began_of w.1 name)) end
-        → Plays w r (command.Step name count) s.by (scene_of w s (began_of w.1 name)) end
-        (with_session end.world name end.session, with_began end.story name end.began)
-    ends : (name : List ℕ) (s : Session) (end : Scene) → session_named w.0 name ≡ Some s
-        → RunsOut judged r s.by (scene_of w s (began_of w.1 name)) end → SceneIsOver end
-        → Plays w r (command.Finish name) s.by (scene_of w s (began_of w.1 name)) end
-        (without_session end.world name, without_began end.story name)
+        → RunsOut judged r s.by.name (begun_configuration w s t) end → ConfigurationIsOver end
+        → Plays w r (command.As log pieces) s.by.name (begun_configuration w s t) end (end.world, end.ghost_state)
+    steps : (name : List ℕ) (count : ℕ) (s : Session) (end : Configuration) → session_named w.0 name ≡ Some s
+        → StepsOn judged r s.by count (configuration_of w s (began_of w.1 name)) end
+        → Plays w r (command.Step name count) s.by (configuration_of w s (began_of w.1 name)) end
+        (with_session end.world name end.session, with_began end.ghost_state name end.began)
+    ends : (name : List ℕ) (s : Session) (end : Configuration) → session_named w.0 name ≡ Some s
+        → RunsOut judged r s.by (configuration_of w s (began_of w.1 name)) end → ConfigurationIsOver end
+        → Plays w r (command.Finish name) s.by (configuration_of w s (began_of w.1 name)) end
+        (without_session end.world name, without_began end.ghost_state name)
 
   -- What a command does first; of most commands that is all.
   pub data Effect (w : Played) : Command → Played → Type 0 where
@@ -178,7 +180,8 @@ module _ (judged : Key → List ℕ → Option Judged) where
         → (put : Puts judged (with_view w.0 name view) r (view_name view) (ask.PutBlock (view_name view) (view_block view)) next)
         → Effect w (command.View name names others) (next, record w.1 { acked = w.1.acked ++ acked_view view put.came })
     comes : (name id seed : List ℕ) (sets : List Set) → is_some (participant w.0 name) ≡ false
-        → Effect w (command.Log name id seed sets) (with_newcomer w (newcomer name (opened (fresh_signer id seed sets) w.0.now)))
+        → Effect w (command.Log name id seed sets)
+        (with_new_participant w (new_participant name (hss_opened (fresh_signer id seed sets) w.0.now)))
     touches : (k : Command) (name : List ℕ) (p q : Participant) (posts : List Post) → participant w.0 name ≡ Some p
         → Touches w.0 p name k q posts
         → Effect w k (record (with_participant w.0 q) { met = met_by w.0.met posts }, w.1)
@@ -192,15 +195,16 @@ module _ (judged : Key → List ℕ → Option Judged) where
           record
               (having_begun w.1) { sessions = w.1.sessions ++ (name, beginning w.1 s.by.name) ∷ [] },
         )
-    plays : (k : Command) (r : ℕ) (name : List ℕ) (c end : Scene) (next : Played) → w.0.replicas ≡ Some r → Plays w r k name c end next
+    plays : (k : Command) (r : ℕ) (name : List ℕ) (c end : Configuration) (next : Played) → w.0.replicas ≡ Some r
+        → Plays w r k name c end next
         → Effect w k next
 
   -- What some commands do then: all that a participant has is published, or a reply counts for later lines.
   pub data LaterEffect (w : Played) : Command → Played → Type 0 where
-    publishes : (k : Command) → PublishesAlone k → (r : ℕ) (p : Participant) (end : Scene) → w.0.replicas ≡ Some r
-        → participant w.0 p.name ≡ Some p → SceneIsOver end
-        → RunsOut judged r p.name (record { world = w.0; story = w.1; session = to_publish w.0 p; began = began_nothing }) end
-        → LaterEffect w k (end.world, end.story)
+    publishes : (k : Command) → PublishesAlone k → (r : ℕ) (p : Participant) (end : Configuration) → w.0.replicas ≡ Some r
+        → participant w.0 p.name ≡ Some p → ConfigurationIsOver end
+        → RunsOut judged r p.name (record { world = w.0; ghost_state = w.1; session = to_publish w.0 p; began = began_nothing }) end
+        → LaterEffect w k (end.world, end.ghost_state)
     replies : (k : Command) → EndsSession k → (said : Said) → LaterEffect w k (replied w.0 said, w.1)
 
   pub data Effects (w : Played) : Command → Played → Type 0 where

@@ -1,4 +1,4 @@
--- What may change of a world that keeps what it should, so that it goes on to: the lines and the asks that touch no more.
+-- What may change of a world in which the invariant holds, so that it still does: the lines and the asks that touch no more.
 use Rattle.std.specs.Prelude.{◌≡◌, ◌≢◌, ℕ, ◌≤◌, Bool, List, [], length, map, Contains, Option, Some, None}
 use Rattle.std.specs.List.{AllByRecursion}
 use Rattle.ivy_base.specs.declared.key.Key.{Key}
@@ -23,10 +23,10 @@ use Rattle.script_model.specs.Messages.{Given}
 use Rattle.world_model.specs.Keepers.{Keeper}
 use Rattle.world_model.specs.Nodes.{Node}
 use Rattle.world_model.specs.World.{World, NamedView, Participant, peer_of}
-use Rattle.world_model.specs.Story.{Story}
+use Rattle.world_model.specs.GhostState.{GhostState}
 use Rattle.world_model.specs.Logs.{Played, fresh_signer}
 use Rattle.world_model.specs.Step.{Does}
-use Rattle.world_laws.specs.Keeps.{AreParticipants, Keeps, PeersAreMade}
+use Rattle.world_laws.specs.Invariant.{AreParticipants, Invariant, PeersAreMade}
 use Rattle.world_laws.specs.Laws.{IsStill}
 
 -- ---- participants
@@ -64,7 +64,7 @@ unchanged p = record {
 }
 
 -- its keeper holds the same bytes, nothing more is to be published, and its cache has blocks that were met
-pub record IsMildChange (met : List (List ℕ)) (p : Participant) (d : Change) : Type 0 where
+pub record IsChangeWithinFrame (met : List (List ℕ)) (p : Participant) (d : Change) : Type 0 where
   pub kept : d.keeper.kept ≡ p.keeper.kept
   pub pending : (post : Post) → Contains d.pending post → Contains p.agent.pending post
   pub fewer : length d.pending ≤ length p.agent.pending
@@ -72,7 +72,8 @@ pub record IsMildChange (met : List (List ℕ)) (p : Participant) (d : Change) :
 
 -- ---- worlds
 
--- what stands in place of the world's nodes, participants, views, replies, moment, losses and blocks, and of the story's acknowledgements
+-- what stands in place of the world's nodes, participants, views, replies, moment, losses and blocks, and of the ghost state's
+-- acknowledgements
 pub record Changes : Type 0 where
   pub nodes : List Node
   pub change : Participant → Change
@@ -105,7 +106,7 @@ AreOfRing None nodes = nodes ≡ []
 AreOfRing (Some r) nodes = (nodes ≢ []) × AllByRecursion (λ n. n.ring.replicas ≡ r) nodes
 
 -- Who was made is a node still, and nodes know of these alone; what nodes hold was met, and no block that was met is forgotten.
-pub record IsMild (w : World) (c : Changes) : Type 0 where
+pub record IsWithinFrame (w : World) (c : Changes) : Type 0 where
   pub peers : (p : Peer) → Contains (map peer_of w.nodes) p → Contains (map peer_of c.nodes) p
   pub made : PeersAreMade (record w { nodes = c.nodes })
   pub ring : AreOfRing w.replicas c.nodes
@@ -113,29 +114,30 @@ pub record IsMild (w : World) (c : Changes) : Type 0 where
   pub views : AllByRecursion (λ v. IsView v.view × HasKeys v.view × AreParticipants w v.view) c.views
   pub moment : IsMoment c.now
   pub grows : (b : List ℕ) → Contains w.met b → Contains c.met b
-  pub each : (p : Participant) → Contains w.participants p → IsMildChange c.met p (c.change p)
+  pub each : (p : Participant) → Contains w.participants p → IsChangeWithinFrame c.met p (c.change p)
 
 -- ---- laws
 
--- Such changes leave a world that keeps what it should.
-abbrev pub MildChangesKeep : Type 0
-MildChangesKeep = (w : Played) (c : Changes) → Keeps w → IsMild w.0 c → Keeps (changed_by c w)
+-- Such changes leave a world in which the invariant holds.
+abbrev pub FrameRule : Type 0
+FrameRule = (w : Played) (c : Changes) → Invariant w → IsWithinFrame w.0 c → Invariant (changed_by c w)
 
 -- So do more blocks that are met: whatever holds over what was met holds over more.
 abbrev pub MoreBlocksKeep : Type 0
-MoreBlocksKeep = (w : World) (st : Story) (met : List (List ℕ)) → Keeps (w, st) → ((b : List ℕ) → Contains w.met b → Contains met b)
-    → Keeps (record w { met = met }, st)
+MoreBlocksKeep = (w : World) (st : GhostState) (met : List (List ℕ)) → Invariant (w, st)
+    → ((b : List ℕ) → Contains w.met b → Contains met b)
+    → Invariant (record w { met = met }, st)
 
 -- ---- lines without sessions
 
 -- what the command does leaves such a world
 abbrev pub LineKeeps : Command → Type 0
-LineKeeps c = (w next : Played) (output : List ℕ) → Keeps w → Does hss_judged w c (Goes next output) → Keeps next
+LineKeeps c = (w next : Played) (output : List ℕ) → Invariant w → Does hss_judged w c (Goes next output) → Invariant next
 
 abbrev pub StillLinesKeep : Type 0
 StillLinesKeep = (c : Command) → IsStill c → LineKeeps c
 
--- a node that stops, a block that is spoilt, a save that is to fail
+-- a node that stops, a block that is corrupted, a save that is to fail
 abbrev pub StopLinesKeep : Type 0
 StopLinesKeep = (node : NodeWord) → LineKeeps (command.Stop node)
 

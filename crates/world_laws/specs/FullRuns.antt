@@ -1,9 +1,9 @@
--- Runs in which memory is never wanting: that there is one from each world that a script reaches, or names clash.
+-- Runs in which memory never runs out: that there is one from each world that a script reaches, or names clash.
 use Rattle.std.specs.Prelude.{◌≡◌, ◌≢◌, ◌<◌, ◌≤◌, ◌^◌, ◌⊎◌, ℕ, Bool, true, false, List, ◌∷◌, ◌++◌, Contains, filter, length, map, sum_by}
 use Rattle.std.specs.Prelude.{IfSome}
 use Rattle.std.specs.Prelude.{Option, Some}
 use Rattle.std.specs.List.{AllByRecursion}
-use Rattle.ivy_base.specs.Naming.{HasClash, NamesTellApart, head_key_of}
+use Rattle.ivy_base.specs.Naming.{HasClash, IsCollisionFree, head_key_of}
 use Rattle.wire_model.specs.Rpc.{SystemError, reply}
 use Rattle.log_model.specs.Vector.{seq_of}
 use Rattle.log_model.specs.View.{View}
@@ -19,15 +19,15 @@ use Rattle.script_model.specs.declared.command.Command.TheVariants as command
 use Rattle.script_model.specs.declared.command.Piece.{Piece}
 use Rattle.script_model.specs.Lines.{command_of}
 use Rattle.script_model.specs.Messages.{Given}
-use Rattle.world_model.specs.Agents.{Kept, hss}
+use Rattle.world_model.specs.Agents.{HssKept, hss_signing}
 use Rattle.world_model.specs.Calls.{Sending, reply_line, sending_of}
 use Rattle.world_model.specs.Logs.{Played}
 use Rattle.world_model.specs.Step.{IvyStep, most_bytes}
-use Rattle.world_model.specs.Story.{empty_story}
+use Rattle.world_model.specs.GhostState.{empty_ghost_state}
 use Rattle.world_model.specs.World.{Participant, World, empty_world, named_bytes, session_named}
 use Rattle.world_laws.specs.Effects.{snapped_in}
 use Rattle.world_laws.specs.FullTurns.{AreBytes}
-use Rattle.world_laws.specs.Keeps.{AreApart, IsKeptSo, Keeps}
+use Rattle.world_laws.specs.Invariant.{AreApart, IsKeptSo, Invariant}
 use Rattle.world_laws.specs.Laws.{HadMemory}
 
 -- ---- room
@@ -38,8 +38,8 @@ is_record kind.Log = true
 is_record kind.Head = false
 
 -- What is to be published is one head at most, no more records than the own log has, and blocks of snapshots, of which no two are equal.
-pub record HasFewPosts (k : Kept) : Type 0 where
-  pub records : length (filter (λ p. is_record p.kind) k.pending) ≤ seq_of k.floor (head_key_of (own_key hss k.signer))
+pub record HasFewPosts (k : HssKept) : Type 0 where
+  pub records : length (filter (λ p. is_record p.kind) k.pending) ≤ seq_of k.floor (head_key_of (own_key hss_signing k.signer))
   pub heads : length (filter (λ p. is_head p.kind) k.pending) ≤ 1
   pub blocks : AreApart (map (λ p. p.bytes) (filter (λ p. is_block p.kind) k.pending))
 
@@ -53,7 +53,8 @@ EmptyPublishesFew = PublishFew empty_world
 
 -- A line leaves it so.
 abbrev pub FewPostsCome : Type 0
-FewPostsCome = (w next : Played) (line output : List ℕ) → Keeps w → PublishFew w.0 → IvyStep w line (Goes next output) → PublishFew next.0
+FewPostsCome = (w next : Played) (line output : List ℕ) → Invariant w → PublishFew w.0 → IvyStep w line (Goes next output)
+    → PublishFew next.0
 
 -- each agent has room
 abbrev pub HaveRoom : World → Type 0
@@ -65,13 +66,13 @@ MetLittle w = sum_by (λ b. length b) w.met ≤ most_bytes
 
 -- So they have there: the blocks are met.
 abbrev pub ThereIsRoom : Type 0
-ThereIsRoom = (w : Played) → Keeps w → PublishFew w.0 → MetLittle w.0 → HaveRoom w.0
+ThereIsRoom = (w : Played) → Invariant w → PublishFew w.0 → MetLittle w.0 → HaveRoom w.0
 
--- Where names tell apart, and no more was met than a line may go on with, what would be saved of a snapshot has fewer posts than a word
+-- Where no names collide, and no more was met than a line may go on with, what would be saved of a snapshot has fewer posts than a word
 -- counts: it has so many blocks for each record of what it is made of, and each record has so many bytes.
 abbrev pub SnapshotsAreFew : Type 0
-SnapshotsAreFew = (w : Played) (p : Participant) (view : View) → Keeps w → PublishFew w.0 → MetLittle w.0
-    → NamesTellApart (named_bytes w.0) → Contains w.0.participants p → p.agent.view ≡ Some view
+SnapshotsAreFew = (w : Played) (p : Participant) (view : View) → Invariant w → PublishFew w.0 → MetLittle w.0
+    → IsCollisionFree (named_bytes w.0) → Contains w.0.participants p → p.agent.view ≡ Some view
     → length (snapped_in p view).pending < 2 ^ 32
 
 -- ---- bytes
@@ -83,7 +84,7 @@ GivesBytes g = IfSome g.handle AreBytes × IfSome g.verifier AreBytes
 abbrev pub given_of : Said → Given
 given_of said = record { handle = said.handle; verifier = said.verifier }
 
--- So is what a session will give; and while it publishes for a call, it doesn't say that memory was wanting.
+-- So is what a session will give; and while it publishes for a call, it doesn't say that memory ran out.
 abbrev pub IsSaidWell : Stage → Type 0
 IsSaidWell Refreshing = Unit {0}
 IsSaidWell (Publishing said posts acks) = IfSome said (λ m. GivesBytes (given_of m) × ((xid : ℕ) → m ≢ said_no_memory xid))
@@ -111,9 +112,9 @@ abbrev pub MessagesAreBytes : Type 0
 MessagesAreBytes = (w : World) (line log : List ℕ) (pieces : List Piece) (s : Sending) → HasBytes w → Sends line log pieces
     → sending_of w log pieces ≡ Some s → AreBytes s.message
 
--- Where names tell apart the blocks met, a line leaves it so.
+-- Where no names of the blocks met collide, a line leaves it so.
 abbrev pub BytesCome : Type 0
-BytesCome = (w next : Played) (line output : List ℕ) → Keeps w → HasBytes w.0 → NamesTellApart (named_bytes next.0)
+BytesCome = (w next : Played) (line output : List ℕ) → Invariant w → HasBytes w.0 → IsCollisionFree (named_bytes next.0)
     → IvyStep w line (Goes next output) → HasBytes next.0
 
 -- ---- lines
@@ -125,19 +126,19 @@ Clashes Ends = ⊥
 Clashes Refuses = ⊥
 Clashes Exceeds = ⊥
 
--- In such a world, where agents have room unless too much was met, each line has an outcome in which memory was there and names tell apart,
+-- In such a world, where agents have room unless too much was met, each line has an outcome in which memory was there and no names collide,
 -- or one in which names clash.
 abbrev pub FullLines : Type 0
-FullLines = (w : Played) (line : List ℕ) → Keeps w → (MetLittle w.0 → HaveRoom w.0) → HasBytes w.0
+FullLines = (w : Played) (line : List ℕ) → Invariant w → (MetLittle w.0 → HaveRoom w.0) → HasBytes w.0
     → (outcome : Outcome Played) × IvyStep w line outcome × (HadMemory w line outcome ⊎ Clashes outcome)
 
--- ---- want of memory
+-- ---- running out of memory
 
--- what is shown begins with the reply for want of memory
+-- what is shown begins with the reply when out of memory
 abbrev pub ShowsLack : List ℕ → Type 0
 ShowsLack output = (xid : ℕ) × (rest : List ℕ) × (output ≡ reply_line (reply xid SystemError) ++ rest)
 
--- an open session, which wasn't over, is over for want of memory
+-- an open session, which wasn't over, is over because memory ran out
 pub record EndsForMemory (w next : World) : Type 0 where
   pub name : List ℕ
   pub before : Session
@@ -148,22 +149,22 @@ pub record EndsForMemory (w next : World) : Type 0 where
   pub stands : Contains next.sessions (record { name = name; session = after })
   pub over : after.stage ≡ Over (Some (said_no_memory xid))
 
--- memory was wanting for a call, which the line's output or an open session tells
+-- memory ran out for a call, which the line's output or an open session tells
 abbrev pub LackedMemory : Played → List ℕ → Outcome Played → Type 0
 LackedMemory w line (Goes next output) = ShowsLack output ⊎ EndsForMemory w.0 next.0
 LackedMemory w line Ends = ⊥
 LackedMemory w line Refuses = ⊥
 LackedMemory w line Exceeds = ⊥
 
--- Of each outcome of a line in such a world memory was there and names tell apart, or memory was wanting, or names clash.
+-- Of each outcome of a line in such a world memory was there and no names collide, or memory ran out, or names clash.
 abbrev pub MemoryIsDecided : Type 0
-MemoryIsDecided = (w : Played) (line : List ℕ) (outcome : Outcome Played) → Keeps w → IvyStep w line outcome
+MemoryIsDecided = (w : Played) (line : List ℕ) (outcome : Outcome Played) → Invariant w → IvyStep w line outcome
     → HadMemory w line outcome ⊎ (LackedMemory w line outcome ⊎ Clashes outcome)
 
 -- ---- scripts
 
--- The first lines go on with memory there, and names tell apart; and the line behind them leads to a world that met blocks among which
--- names clash.
+-- The first lines go on with memory there, and no names collide; and the line after them leads to a world that met blocks among which names
+-- clash.
 pub record ClashesOn (w : Played) (lines : List (List ℕ)) : Type 0 where
   pub front : List (List ℕ)
   pub line : List ℕ
@@ -177,17 +178,17 @@ pub record ClashesOn (w : Played) (lines : List (List ℕ)) : Type 0 where
   pub step : IvyStep mid (shown line) (Goes last output)
   pub clash : HasClash (named_bytes last.0)
 
--- the one run in which memory is never wanting and names tell apart
+-- the one run in which memory never runs out and no names collide
 abbrev pub IsFullRun : Played → ℕ → List (List ℕ) → Ran → Type 0
 IsFullRun w number lines ran = Runs (WithLaw IvyStep HadMemory) w number lines ran
     × ((other : Ran) → Runs (WithLaw IvyStep HadMemory) w number lines other → other ≡ ran)
 
 -- From such a world there is that run of each script, or names clash on the way.
 abbrev pub FullScripts : Type 0
-FullScripts = (w : Played) (number : ℕ) (lines : List (List ℕ)) → Keeps w → PublishFew w.0 → HasBytes w.0
+FullScripts = (w : Played) (number : ℕ) (lines : List (List ℕ)) → Invariant w → PublishFew w.0 → HasBytes w.0
     → ((ran : Ran) × IsFullRun w number lines ran) ⊎ ClashesOn w lines
 
 -- So it is of each script from its beginning.
 abbrev pub FullStarts : Type 0
 FullStarts = (number : ℕ) (lines : List (List ℕ))
-    → ((ran : Ran) × IsFullRun (empty_world, empty_story) number lines ran) ⊎ ClashesOn (empty_world, empty_story) lines
+    → ((ran : Ran) × IsFullRun (empty_world, empty_ghost_state) number lines ran) ⊎ ClashesOn (empty_world, empty_ghost_state) lines

@@ -1,18 +1,18 @@
 -- What holds of each reply. It is the file system's answer on one tree, or it has another cause.
 -- The tree is the replay, from nothing, of one causally closed set of verified records, of members of the caller's view alone.
 use Rattle.std.specs.Prelude.{◌≡◌, ◌⊎◌, ℕ, ◌++◌, List, Contains, IfSome, Some}
-use Rattle.ivy_base.specs.Naming.{NamesTellApart}
+use Rattle.ivy_base.specs.Naming.{IsCollisionFree}
 use Rattle.log_model.specs.Closed.{IsClosed, IsClosedPart, log_of}
 use Rattle.log_model.specs.Record.{Record}
 use Rattle.log_model.specs.Replay.{replay}
 use Rattle.turn_model.specs.Basis.{HoldsAll, kept_tree}
 use Rattle.turn_model.specs.Known.{IsVerified}
-use Rattle.turn_model.specs.Turn.{Asked, Candidate, IsAtHand, turn_on}
-use Rattle.world_model.specs.Agents.{inputs, own}
+use Rattle.turn_model.specs.Turn.{Asked, Candidate, IsAvailable, turn_on}
+use Rattle.world_model.specs.Agents.{hss_inputs, own_hss_key}
 use Rattle.agent_model.specs.Candidates.{AreCandidatesOf, StandsWithin}
 use Rattle.agent_model.specs.Standing.{Refresh}
 use Rattle.session_model.specs.Brought.{asks_in, brought_in}
-use Rattle.session_model.specs.Courses.{grounds_of}
+use Rattle.session_model.specs.Executions.{grounds_of}
 use Rattle.session_model.specs.Refreshing.{Note, Refreshes, Done}
 use Rattle.session_model.specs.Replies.{Asks}
 use Rattle.session_model.specs.Sessions.{Over, Said, Session}
@@ -27,11 +27,11 @@ use Rattle.dht_ids.specs.declared.ask.Ask.{Ask}
 use Rattle.dht_ids.specs.declared.ask.Heard.{Heard}
 use Rattle.world_model.specs.Fates.{FateOf}
 use Rattle.world_model.specs.World.{World, session_named, without_session}
-use Rattle.world_model.specs.Story.{Story, HadTurn, began_of, beginning, having_begun, without_began}
+use Rattle.world_model.specs.GhostState.{GhostState, HadTurn, began_of, beginning, having_begun, without_began}
 use Rattle.world_model.specs.Keepers.{fails_next}
 use Rattle.world_model.specs.Logs.{Played}
-use Rattle.world_model.specs.Calls.{BeginsWith, Sending, replied, scene_of, sending_of, shown_end}
-use Rattle.world_model.specs.Steps.{RunsOut, Scene, StepsOn}
+use Rattle.world_model.specs.Calls.{BeginsWith, Sending, replied, configuration_of, sending_of, shown_end}
+use Rattle.world_model.specs.Steps.{RunsOut, Configuration, StepsOn}
 use Rattle.world_laws.specs.Causes.{HasCause}
 
 -- ---- a turn
@@ -42,7 +42,7 @@ pub record IsOnReplay (h : HadTurn) : Type 0 where
   -- The turn is one of its participant's agent, in the view that the agent entered, and of its session.
   pub in_view : h.by.agent.view ≡ Some h.view
   pub of_view : h.session.standing.view ≡ h.view
-  pub of_own : (h.session.by ≡ h.by.name) × (h.knowing.name ≡ h.by.name) × (h.session.standing.own ≡ own h.by.agent)
+  pub of_own : (h.session.by ≡ h.by.name) × (h.knowing.name ≡ h.by.name) × (h.session.standing.own ≡ own_hss_key h.by.agent)
   -- What the call asks, and the refresh that its session was brought.
   pub xid : ℕ
   pub asked : Asked
@@ -57,14 +57,14 @@ pub record IsOnReplay (h : HadTurn) : Type 0 where
   pub candidates : List Candidate
   pub of_heads : AreCandidatesOf (grounds_of h.met h.session h.began.knew) h.view given.started candidates
   pub taken : List Record
-  pub taken_is_largest : IsClosedPart h.view (IsAtHand h.knowing.known candidates) taken
+  pub taken_is_largest : IsClosedPart h.view (IsAvailable h.knowing.known candidates) taken
   -- The reply, and the set afterwards, are those of the turn on that set. It is told whether the save fails, and the moment.
-  pub is_answer : h.turned ≡ turn_on (inputs h.by.agent h.view (fails_next h.by.keeper)) taken asked h.now
+  pub is_answer : h.turned ≡ turn_on (hss_inputs h.by.agent h.view (fails_next h.by.keeper)) taken asked h.now
   -- The set afterwards has all that was known before. Before anything was written, it had of the own log just what was known.
   -- It is verified: its part of each log is the beginning of a chain, and another's record stands at or below a head that was received.
   pub keeps_what_was_known : (r : Record) → Contains h.knowing.known r → Contains h.turned.set r
-  pub own_log_is_known : log_of (own h.by.agent) taken ≡ log_of (own h.by.agent) h.knowing.known
-  pub is_verified : IsVerified h.met h.view (own h.by.agent) h.after.floor h.knowing.received h.turned.set
+  pub own_log_is_known : log_of (own_hss_key h.by.agent) taken ≡ log_of (own_hss_key h.by.agent) h.knowing.known
+  pub is_verified : IsVerified h.met h.view (own_hss_key h.by.agent) h.after.floor h.knowing.received h.turned.set
   -- The set afterwards is causally closed. The tree that the agent keeps is its replay.
   -- The agent's basis stands for a closed part of it.
   pub set_is_closed : IsClosed h.view h.turned.set
@@ -73,10 +73,10 @@ pub record IsOnReplay (h : HadTurn) : Type 0 where
 
 -- So it is if no two different blocks that were met before the turn have one name.
 abbrev pub TurnHolds : HadTurn → Type 0
-TurnHolds h = NamesTellApart h.met → IsOnReplay h
+TurnHolds h = IsCollisionFree h.met → IsOnReplay h
 
 -- The turns that were answered between two ghost states.
-abbrev pub NewTurns : Story → Story → List HadTurn → Type 0
+abbrev pub NewTurns : GhostState → GhostState → List HadTurn → Type 0
 NewTurns st next more = next.turns ≡ st.turns ++ more
 
 -- ---- what is shown
@@ -97,41 +97,42 @@ IsAskedBy w (command.Finish name) number s =
     × (s.message ≡ before.message)
 IsAskedBy w _ number s = ⊥
 
--- Where the steps of the line's call begin: in the world and the story of the line.
+-- Where the steps of the line's call begin: in the world and the ghost state of the line.
 -- Of `as` the session begins with what the line sends. Of `end S` it is the open session of that name, as the lines before left it.
-abbrev pub StepsBeginAt : Played → Command → Scene → Type 0
+abbrev pub StepsBeginAt : Played → Command → Configuration → Type 0
 StepsBeginAt w (command.As log pieces) start = (s : Sending) × (t : Session) × (sending_of w.0 log pieces ≡ Some s) × BeginsWith w.0 s t
-    × (start ≡ record { world = w.0; story = having_begun w.1; session = t; began = beginning w.1 s.by.name })
-StepsBeginAt w (command.Finish name) start = (s : Session) × (session_named w.0 name ≡ Some s) × (start ≡ scene_of w s (began_of w.1 name))
+    × (start ≡ record { world = w.0; ghost_state = having_begun w.1; session = t; began = beginning w.1 s.by.name })
+StepsBeginAt w (command.Finish name) start =
+    (s : Session) × (session_named w.0 name ≡ Some s) × (start ≡ configuration_of w s (began_of w.1 name))
 StepsBeginAt w _ start = ⊥
 
--- What is left behind their end: the reply counts for later lines, and the session is open no longer.
-abbrev pub left_behind : Command → Scene → Said → Played
-left_behind (command.Finish name) end said = (replied (without_session end.world name) said, without_began end.story name)
-left_behind _ end said = (replied end.world said, end.story)
+-- What is left after their end: the reply counts for later lines, and the session is open no longer.
+abbrev pub left_behind : Command → Configuration → Said → Played
+left_behind (command.Finish name) end said = (replied (without_session end.world name) said, without_began end.ghost_state name)
+left_behind _ end said = (replied end.world said, end.ghost_state)
 
 -- The trail of a session: the asks by which it was brought something since it last began, and those of its get or put on its way.
 abbrev pub trail_of : Session → List Heard
 trail_of s = asks_in s.parts ++ s.current
 
--- On the way from one scene to another the session asked a node, and heard the fate of that ask in the world there:
+-- On the way from one configuration to another the session asked a node, and heard the fate of that ask in the world there:
 -- what the node answers by what it holds, or silence, exactly if it is stopped or the ask is lost.
-pub record IsHeard (replicas : ℕ) (name : List ℕ) (start end : Scene) (h : Heard) : Type 0 where
+pub record IsHeard (replicas : ℕ) (name : List ℕ) (start end : Configuration) (h : Heard) : Type 0 where
   pub count : ℕ
-  pub scene : Scene
-  pub leads : StepsOn hss_judged replicas name count start scene
-  pub goes_on : RunsOut hss_judged replicas name scene end
+  pub configuration : Configuration
+  pub leads : StepsOn hss_judged replicas name count start configuration
+  pub goes_on : RunsOut hss_judged replicas name configuration end
   pub question : Ask
   pub next : World
-  pub fate : FateOf hss_judged scene.world h.node question h.got next
+  pub fate : FateOf hss_judged configuration.world h.node question h.got next
   pub tells : Contains (told h.node question h.got) h
 
 -- The steps that the line made, all up to the end of its session, which says this.
 -- What the session has in its trail it had at their beginning, or heard in them.
-pub record StepsEndAt (w : Played) (command : Command) (next : Played) (end : Scene) (said : Said) : Type 0 where
+pub record StepsEndAt (w : Played) (command : Command) (next : Played) (end : Configuration) (said : Said) : Type 0 where
   pub replicas : ℕ
   pub ringed : w.0.replicas ≡ Some replicas
-  pub start : Scene
+  pub start : Configuration
   pub begins : StepsBeginAt w command start
   pub runs : RunsOut hss_judged replicas start.session.by start end
   pub over : end.session.stage ≡ Over (Some said)
@@ -141,7 +142,7 @@ pub record StepsEndAt (w : Played) (command : Command) (next : Played) (end : Sc
 
 -- What the line shows is the reply of the session at the end of the steps that it made, and that reply has its cause.
 pub record IsCaused (w : Played) (command : Command) (next : Played) (output : List ℕ) : Type 0 where
-  pub end : Scene
+  pub end : Configuration
   pub said : Said
   pub ends : StepsEndAt w command next end said
   pub asked_by : IsAskedBy w command end.began.number end.session

@@ -1,4 +1,4 @@
--- Which lines go on, end the run, are refused or meet a limit: it is told by the world and the line alone.
+-- Which lines go on, end the run, are refused or meet a limit: it is determined by the world and the line alone.
 use Rattle.std.specs.Prelude.{◌≡◌, ℕ, nat_lt, nat_le, Bool, true, List, ◌++◌, map, length, sum_by, Option, Some, None, is_some}
 use Rattle.std.specs.Prelude.{if◌then◌else◌}
 use Rattle.ivy_base.specs.declared.key.PubKey.{PubKey}

@@ -1,6 +1,6 @@
 pub mod Causes
 pub mod Headline
-pub mod Keeps
+pub mod Invariant
 pub mod Kinds
 pub mod Laws
 pub mod LeavingOut

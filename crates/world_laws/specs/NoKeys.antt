@@ -8,10 +8,10 @@ use Rattle.log_model.specs.Spelling.{head_block, record_block}
 use Rattle.log_model.specs.Vector.{Stamp}
 use Rattle.log_model.specs.View.{View, view_block}
 use Rattle.snapshot_model.specs.Blocks.{InodeBlock, RootBlock, entries_block, inode_block, list_block, root_block}
-use Rattle.world_model.specs.Agents.{own}
+use Rattle.world_model.specs.Agents.{own_hss_key}
 use Rattle.world_model.specs.Logs.{Played}
 use Rattle.world_model.specs.World.{Participant}
-use Rattle.world_laws.specs.Keeps.{Keeps}
+use Rattle.world_laws.specs.Invariant.{Invariant}
 
 -- the block begins with the letters IV
 abbrev pub HasTag : List ℕ → Type 0
@@ -31,5 +31,5 @@ SnapshotsHaveTags = ((level : ℕ) (keys : List Key) → HasTag (list_block leve
 
 -- A public key begins with a zero byte. So where all blocks that were met have tags, none is the public key of a participant's log.
 abbrev pub TaggedAreNoKeys : Type 0
-TaggedAreNoKeys = (w : Played) (p : Participant) → Keeps w → AllByRecursion HasTag w.0.met → Contains w.0.participants p
-    → Contains w.0.met (own p.agent).0 → ⊥
+TaggedAreNoKeys = (w : Played) (p : Participant) → Invariant w → AllByRecursion HasTag w.0.met → Contains w.0.participants p
+    → Contains w.0.met (own_hss_key p.agent).0 → ⊥

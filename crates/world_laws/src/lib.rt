@@ -6,7 +6,7 @@
 //! Statements, in reading order:
 //! - `specs/Headline.antt`: each reply;
 //! - `specs/Causes.antt`: why a session gives its reply;
-//! - `specs/Keeps.antt`: the invariant of each world (`Keeps`);
+//! - `specs/Invariant.antt`: the invariant of each world (`Invariant`);
 //! - `specs/Kinds.antt`: which lines are refused;
 //! - `specs/Laws.antt`: steps and runs; `specs/LeavingOut.antt`: logs that a view leaves out;
 //! - `specs/Messages.antt`: each message is one thing, and one thing becomes of it;
@@ -22,7 +22,7 @@
 //! session began with no snapshot to load and no basis.
 //!
 //! Lemmas to cite:
-//! - `proofs/Bringing.antt`: what `Keeps` says of a session and its agent;
+//! - `proofs/Bringing.antt`: what `Invariant` says of a session and its agent;
 //! - `proofs/NotRefused.antt`: an agent that holds all that it knows isn't behind, and one without a basis
 //!   isn't below the tide; also `proofs/SecondTurns.antt`, `proofs/DoneSteps.antt`;
 //! - `proofs/NotMisled.antt`: one without a basis knows the vector of each record from which it fetches;
@@ -35,8 +35,8 @@
 //! - `proofs/Receiving.antt`: what more heads leave as it was;
 //! - `proofs/TakingOn.antt` and `proofs/GetsBring.antt`: a session that is brought something goes on;
 //! - `proofs/Beginning.antt`: a session that begins;
-//! - `proofs/Afresh.antt`: a participant that changes, whose open sessions are gone;
-//!   `proofs/OtherBytes.antt`: one whose keeper holds other bytes; `proofs/Newcomer.antt`: one more;
+//! - `proofs/Afresh.antt`: a participant that changes, whose open sessions are gone; `proofs/OtherBytes.antt`:
+//!   one whose keeper holds other bytes; `proofs/NewParticipant.antt`: one more;
 //! - `proofs/EnteredViews.antt`: what is known of another view's members is closed;
 //! - `proofs/KnownHeads.antt`: the heads that left are over what is known;
 //! - `proofs/SignatureBytes.antt`: signatures are bytes, and few;
@@ -79,11 +79,12 @@
 //! - `proofs/ShownReplies.antt`: which replies show that memory ran out; `proofs/MemoryDecided.antt`: whether
 //!   it did is decided;
 //! - `proofs/QuietLines.antt`: lines without sessions;
-//! - `proofs/CallScenes.antt` and `proofs/FullScenes.antt`: a session at any stage goes on with memory there;
+//! - `proofs/CallConfigurations.antt` and `proofs/FullConfigurations.antt`: a session at any stage goes on
+//!   with memory there;
 //! - `proofs/FullLines.antt` and `proofs/FullScripts.antt`.
 //!
 //! That the result is unique (determinism):
-//! - `proofs/OneCourse.antt`: a trail determines what comes of a get or a put;
+//! - `proofs/OneExecution.antt`: a trail determines what comes of a get or a put;
 //! - `proofs/OneHeard.antt`: an ask has one fate, and one thing is heard of it;
 //! - `proofs/OneTurns.antt`: turns; `proofs/OneSteps.antt`: steps of sessions; `proofs/OneMessages.antt`:
 //!   what becomes of a message;
@@ -93,13 +94,13 @@
 
 ghost use Rattle.world_laws.specs.Messages.{EachMessageBecomesOne, EachMessageIsOne};
 ghost use Rattle.world_laws.specs.Effects.{LinesHaveEffects, LinesShowTexts};
-ghost use Rattle.world_laws.specs.Frames.{DamageLinesKeep, JoinLinesKeep, KeeperLinesKeep, LogLinesKeep, MildChangesKeep, MoreBlocksKeep, RestartLinesKeep, RingLinesKeep, RoundLinesKeep, StillLinesKeep, StopLinesKeep, UseLinesKeep, ViewLinesKeep};
+ghost use Rattle.world_laws.specs.Frames.{DamageLinesKeep, JoinLinesKeep, KeeperLinesKeep, LogLinesKeep, FrameRule, MoreBlocksKeep, RestartLinesKeep, RingLinesKeep, RoundLinesKeep, StillLinesKeep, StopLinesKeep, UseLinesKeep, ViewLinesKeep};
 ghost use Rattle.world_laws.specs.FullRuns.{BytesCome, EmptyHasBytes, EmptyPublishesFew, FewPostsCome, FullLines, FullScripts, FullStarts, MemoryIsDecided, MessagesAreBytes, SnapshotsAreFew, ThereIsRoom};
 ghost use Rattle.world_laws.specs.FullTurns.{SessionsEndOrClash, SessionsGoToTheirEnds, TurnsExist};
 ghost use Rattle.world_laws.specs.Kinds.{LineHasOneKind};
 ghost use Rattle.world_laws.specs.LeavingOut.{OtherLogsChangeNoTurn};
 ghost use Rattle.world_laws.specs.NoKeys.{LogsHaveTags, SnapshotsHaveTags, TaggedAreNoKeys};
-ghost use Rattle.world_laws.specs.Laws.{AlikeTurnsAnswerAlike, AllStepsKeep, AnsweredTurnsKeep, CallLinesKeep, CallsBegin, ClashIsDecided, DoneRefreshesStep, EachLineDoesSomething, EachReplyIsOnReplay, EachScriptHasARun, EachSessionEnds, EmptyKeeps, FewerStayApart, FreshCandidatesAreByHeads, FreshStandingsDontMislead, FreshTurnsAreAnswered, FrontIsOfOne, FullRunsAreOne, GetsBringKeep, GetsGoOnKeep, HeadlineHolds, HeadsAreSavedFirst, HeldIsSpelled, KeptOnce, KnownIsOne, LackingKeeps, LackingStepsKeep, LeafSignsOnce, LinesKeep, ManyStepsAreOne, ManyStepsKeep, MetGrows, NoSnapshotComes, OneTruth, OpenLineKeeps, OtherLogsDontCount, OthersHaveNoTurn, PublishingIsOne, PublishingKeeps, PutsKeep, ReceivingKeeps, RefreshBrings, RefreshEndsInTurn, RefreshMayTurn, RefreshesEnd, RefreshesRunOut, RefusedTurnsKeep, SecondTurnIsAnswered, SessionsEndOnce, SessionsGoFully, SessionsStepOnce, SettlingKeeps, SnapLinesKeep, SnapshotsKeep, StepsAreOne, StepsKeep, StillLinesChangeNothing, TakingKeeps, TurnsAreSaved, UpperLeavesSignOnce, VainAsksKeep, WholePublishingKeeps};
+ghost use Rattle.world_laws.specs.Laws.{AlikeTurnsAnswerAlike, AllStepsKeep, AnsweredTurnsKeep, CallLinesKeep, CallsBegin, ClashIsDecided, DoneRefreshesStep, EachLineIsTotal, EachReplyIsOnReplay, EachScriptHasARun, EachSessionEnds, EmptyKeeps, FewerStayApart, FreshCandidatesAreByHeads, FreshStandingsDontMislead, FreshTurnsAreAnswered, FrontIsOfOne, FullRunsAreUnique, GetsBringKeep, GetsGoOnKeep, HeadlineHolds, HeadsAreSavedFirst, HeldIsSpelled, KeptOnce, KnownIsUnique, LackingKeeps, LackingStepsKeep, LeafSignsOnce, LinesKeep, ManyStepsAreDeterministic, ManyStepsKeep, MetGrows, NoSnapshotComes, OneTruth, OpenLineKeeps, OtherLogsDontInterfere, OthersHaveNoTurn, PublishingIsDeterministic, PublishingKeeps, PutsKeep, ReceivingKeeps, RefreshBrings, RefreshEndsInTurn, RefreshMayTurn, RefreshesEnd, RefreshesRunOut, RefusedTurnsKeep, SecondTurnIsAnswered, SessionEndsAreDeterministic, SessionsGoFully, SessionStepsAreDeterministic, SettlingKeeps, SnapLinesKeep, SnapshotsKeep, StepsAreDeterministic, StepsKeep, StillLinesChangeNothing, TakingKeeps, TurnsAreSaved, UpperLeavesSignOnce, VainAsksKeep, WholePublishingKeeps};
 
 /// Law: of any blocks, either no two different ones have one name, or two of them clash.
 pub fn clashes_are_decided()
@@ -152,7 +153,8 @@ pub fn done_refreshes_have_turns()
 {}
 
 /// Laws: without a snapshot nothing misleads. A session that began with no basis, and loads none, knows the
-/// vector of each held record from which it fetches a log. So its candidates are told by its heads alone.
+/// vector of each held record from which it fetches a log. So its candidates are determined by its heads
+/// alone.
 pub fn nothing_misleads_without_a_snapshot()
     ensures standings { FreshStandingsDontMislead }
     ensures candidates { FreshCandidatesAreByHeads }
@@ -165,8 +167,8 @@ pub fn scripts_begin_well()
 
 /// Law (noninterference): say that two worlds have the same heads and the same records' blocks of a view's
 /// members. Then a turn in that view has the same candidates in both, whatever other logs there are.
-pub fn other_logs_dont_count()
-    ensures { OtherLogsDontCount }
+pub fn other_logs_dont_interfere()
+    ensures { OtherLogsDontInterfere }
 {}
 
 /// Law: two turns of equal views, agents, sets, calls and moments give equal replies.
@@ -207,11 +209,11 @@ pub fn leaves_sign_once()
     ensures { LeafSignsOnce }
 {}
 
-/// Law: mild changes preserve the invariant. They leave nodes of the same peers that hold only what was met,
-/// and participants whose agents sign, know and hold the same. Blocks may be met; views, replies, moments and
-/// losses may change.
-pub fn mild_changes_keep()
-    ensures { MildChangesKeep }
+/// Law (frame rule): changes within the frame condition preserve the invariant. They leave nodes of the same
+/// peers that hold only what was met, and participants whose agents sign, know and hold the same. Blocks may
+/// be met; views, replies, moments and losses may change.
+pub fn frame_rule()
+    ensures { FrameRule }
 {}
 
 /// Law: meeting more blocks preserves the invariant.
@@ -269,7 +271,7 @@ pub fn some_steps_keep()
 
 /// Law: without a hash collision among the blocks, a floor names one set of records among them.
 pub fn floors_name_one_set()
-    ensures { KnownIsOne }
+    ensures { KnownIsUnique }
 {}
 
 /// Law: a front names one closed part of a closed set. So the basis of a refresh stands for one part of what
@@ -323,9 +325,9 @@ pub fn other_lines_have_no_turn()
 /// Laws (the step is total): in a world that some ghost state fits, each open session can be brought to its
 /// end, and each line has an outcome. The outcome is one and the same whichever ghost state fits. So each
 /// script has a run.
-pub fn each_line_does_something()
+pub fn each_line_is_total()
     ensures sessions { EachSessionEnds }
-    ensures lines { EachLineDoesSomething }
+    ensures lines { EachLineIsTotal }
     ensures scripts { EachScriptHasARun }
 {}
 
@@ -361,18 +363,18 @@ pub fn headline_holds()
 /// Laws (determinism): if memory doesn't run out and there is no hash collision, a step of a session in
 /// progress leads to one world, ghost state and session. So do many steps, and all up to the end. What a
 /// participant publishes alone leads to one world in any case.
-pub fn sessions_step_once()
-    ensures step { SessionsStepOnce }
-    ensures many { ManyStepsAreOne }
-    ensures all { SessionsEndOnce }
-    ensures publishing { PublishingIsOne }
+pub fn session_steps_are_deterministic()
+    ensures step { SessionStepsAreDeterministic }
+    ensures many { ManyStepsAreDeterministic }
+    ensures all { SessionEndsAreDeterministic }
+    ensures publishing { PublishingIsDeterministic }
 {}
 
 /// Laws (determinism): if memory didn't run out and nothing met collides, a line leads to one world with one
 /// ghost state and shows one thing. So each script has at most one run in which that is so.
-pub fn lines_are_one()
-    ensures lines { StepsAreOne }
-    ensures runs { FullRunsAreOne }
+pub fn lines_are_deterministic()
+    ensures lines { StepsAreDeterministic }
+    ensures runs { FullRunsAreUnique }
 {}
 
 /// Laws: a refresh wants something finitely often, whatever comes of it, also with hash collisions. A
@@ -445,7 +447,7 @@ pub fn memory_is_decided()
 
 /// Laws: each message is a call of one meaning, a call of another version of RPC, or no call. In each view it
 /// has one reply by itself, which may be none, or it asks one thing of a turn.
-pub fn messages_are_one()
+pub fn messages_are_unambiguous()
     ensures is { EachMessageIsOne }
     ensures becomes { EachMessageBecomesOne }
 {}

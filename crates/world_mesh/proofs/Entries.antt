@@ -5,7 +5,7 @@ use Rattle.std.specs.List.{AllByRecursion}
 use Rattle.std.specs.List.Sorted.{IsStrictlyIncreasing}
 use Rattle.std.specs.Prelude.{◌≢◌, nat_lt, slice_index, ⊤}
 use Rattle.std.proofs.lemmas.Bool.{ltb-true, ltb-false}
-use Rattle.ring_model.specs.Members.{IsAscending}
+use Rattle.ring_model.specs.Members.{HasAscendingPlaces}
 use Rattle.ring_model.proofs.Lists.{all_weaker}
 use Rattle.dht_ids.specs.NodeIds.{node_id_of}
 use Rattle.dht_ids.specs.Peers.{place}
@@ -21,14 +21,14 @@ number_of p = p.number
 
 -- ---- numbers that ascend, place by place
 
-step_ascends : (ps : List Peer) → IsAscending number_of ps → (k : ℕ) → suc k < length (map number_of ps)
+step_ascends : (ps : List Peer) → HasAscendingPlaces number_of ps → (k : ℕ) → suc k < length (map number_of ps)
     → slice_index (map number_of ps) k < slice_index (map number_of ps) (suc k)
 step_ascends [] a k l = absurd (omega (arith, l))
 step_ascends (p ∷ []) a k l = absurd (omega (arith, l))
 step_ascends (p ∷ q ∷ ps) a zero l = a.0.0
 step_ascends (p ∷ q ∷ ps) a (suc k) l = step_ascends (q ∷ ps) a.1 k (omega (arith, l))
 
-numbers_ascend : (ps : List Peer) → IsAscending number_of ps → IsStrictlyIncreasing (map number_of ps)
+numbers_ascend : (ps : List Peer) → HasAscendingPlaces number_of ps → IsStrictlyIncreasing (map number_of ps)
 numbers_ascend ps a k l =
     let one : k + 1 ≡ suc k = omega arith in
     subst (λ m. slice_index (map number_of ps) k < slice_index (map number_of ps) m) (sym one)
@@ -51,12 +51,12 @@ above m n l d = omega (arith, l, d)
 abbrev IsNew : List Peer → Peer → Type 0
 IsNew ps p = AllByRecursion (λ q. q.number ≡ p.number → ⊥) ps
 
-numbered_ascends : (ps : List Peer) (p : Peer) → IsAscending number_of ps → IsNew ps p → IsAscending number_of (with_numbered ps p)
+numbered_ascends : (ps : List Peer) (p : Peer) → HasAscendingPlaces number_of ps → IsNew ps p → HasAscendingPlaces number_of (with_numbered ps p)
 numbered_ascends [] p a d = (tt, tt)
 numbered_ascends (q ∷ ps) p a d = by (nat_lt p.number q.number) refl (numbered_ascends ps p a.1 d.1)
   where
-    by : (t : Bool) → nat_lt p.number q.number ≡ t → IsAscending number_of (with_numbered ps p)
-        → IsAscending number_of (cond t (p ∷ q ∷ ps) (q ∷ with_numbered ps p))
+    by : (t : Bool) → nat_lt p.number q.number ≡ t → HasAscendingPlaces number_of (with_numbered ps p)
+        → HasAscendingPlaces number_of (cond t (p ∷ q ∷ ps) (q ∷ with_numbered ps p))
     by true t rest =
         let less : p.number < q.number = ltb-true p.number q.number t in
         ((less, all_weaker (λ y. q.number < y.number) (λ y. p.number < y.number) ps (λ y l. omega (arith, less, l)) a.0), a)
@@ -76,7 +76,7 @@ new_behind : (acc ps : List Peer) (p : Peer) → AllByRecursion (IsNew acc) ps �
 new_behind acc [] p new differ = tt
 new_behind acc (q ∷ ps) p new differ = (numbered_all (λ x. x.number ≡ q.number → ⊥) acc p new.0 differ.0, new_behind acc ps p new.1 differ.1)
 
-all_ascend : (acc ps : List Peer) → IsAscending number_of acc → AllByRecursion (IsNew acc) ps → AreDistinct ps → IsAscending number_of (fold with_numbered acc ps)
+all_ascend : (acc ps : List Peer) → HasAscendingPlaces number_of acc → AllByRecursion (IsNew acc) ps → AreDistinct ps → HasAscendingPlaces number_of (fold with_numbered acc ps)
 all_ascend acc [] a new distinct = a
 all_ascend acc (p ∷ ps) a new distinct =
     all_ascend (with_numbered acc p) ps (numbered_ascends acc p a new.0) (new_behind acc ps p new.1 distinct.0) distinct.1

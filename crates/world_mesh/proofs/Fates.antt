@@ -19,7 +19,7 @@ use Rattle.dht_ids.specs.declared.ask.StoreFault.{StoreFault}
 use Rattle.dht_ids.specs.declared.judge.Judged.{Judged}
 use Rattle.dht_ids.specs.declared.peer.Peer.{Peer}
 use Rattle.dhash_model.specs.Stores.{Block, bytes_at, content, content_fault, head, head_fault}
-use Rattle.world_model.specs.Fates.{FateOf, counted}
+use Rattle.world_model.specs.Fates.{FateOf, ask_counted as counted}
 use Rattle.world_model.specs.Fates.FateOf.{lost, stopped, answers}
 use Rattle.world_model.specs.Nodes.{Node, answered, stored}
 use Rattle.world_model.specs.World.{World, empty_world, peer_of, with_node}

@@ -37,7 +37,7 @@ module _ (judged : Key → List ℕ → Option Judged) where
         → Becomes here node question given there
     nobody : (IsAmong node (made_peers here) → ⊥) → Becomes here node question answer.Silent here
 
-  -- The asks of a trail, one after the other, lead from the nodes at the start to those behind them. Where there is no memory to tell of a
+  -- The asks of a trail, one after the other, lead from the nodes at the start to those after them. Where there is no memory to tell of a
   -- Route or a Get, that ask is counted, and nobody hears of it.
   pub data LeadsTo (start : NodesState) : List Heard → NodesState → Type 0 where
     none : LeadsTo start [] start

@@ -93,8 +93,8 @@ impl<B: Begun> WorldMesh<B> {
     }
 }
 
-/// What becomes of an ask for data: silence where the peer was never made, and else its fate among the nodes. The error is want of
-/// memory, or 2^64 asks, and all is as before then.
+/// What becomes of an ask for data: silence where the peer was never made, and else its fate among the nodes. The error is: out
+/// of memory, or 2^64 asks, and all is as before then.
 fn given_by(nodes: &mut RingNodes, alloc: Global, node: &Peer, ask: &Ask) -> Result<Answer, Memory>
     requires { IsForData ask.now }
     ensures becomes { IfOk result (λ given. Becomes hss_judged nodes.old node.now ask.now given nodes.new) }

@@ -8,7 +8,7 @@ use dht_ids::{Answer, Ask, AskKind, Heard, Peer};
 use ivy_base::{Memory, name_of};
 use std::alloc::Global;
 
-/// A copy of an answer. The error is want of memory, and it comes only where the answer is none to a put, nor silence.
+/// A copy of an answer. The error is: out of memory, and it comes only where the answer is none to a put, nor silence.
 pub(crate) fn copy_of(alloc: Global, answer: &Answer) -> Result<Answer, Memory>
     ensures copy { IfOk result (λ copy. copy ≡ answer.now) }
     ensures reads { OnErr result (IsOfRead answer.now) }

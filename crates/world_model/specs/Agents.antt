@@ -14,57 +14,57 @@ use Rattle.agent_model.specs.SavedBytes as bytes
 use Rattle.agent_model.specs.Standing as stand
 use Rattle.agent_model.specs.Turning as turn
 use Rattle.agent_model.specs.Views as view
-use Rattle.session_model.specs.Courses as course
+use Rattle.session_model.specs.Executions as execution
 use Rattle.session_model.specs.Sessions.{Session}
 
-abbrev pub hss : Signing Signer
-hss = signing
+abbrev pub hss_signing : Signing Signer
+hss_signing = signing
 
-abbrev pub Agent : Type 0
-Agent = any.Agent Signer
+abbrev pub HssAgent : Type 0
+HssAgent = any.Agent Signer
 
-abbrev pub Kept : Type 0
-Kept = any.Kept Signer
+abbrev pub HssKept : Type 0
+HssKept = any.Kept Signer
 
 -- its public key, and how far its floor goes in its own log
-abbrev pub own : Agent → PubKey
-own a = any.own hss a
+abbrev pub own_hss_key : HssAgent → PubKey
+own_hss_key a = any.own hss_signing a
 
-abbrev pub own_reach : Agent → ℕ
-own_reach a = any.own_reach hss a
+abbrev pub own_reach : HssAgent → ℕ
+own_reach a = any.own_reach hss_signing a
 
 -- the head over a log's newest record
-abbrev pub sealed : Signer → Stamp → List ℕ
-sealed signer newest = any.sealed hss signer newest
+abbrev pub hss_sealed : Signer → Stamp → List ℕ
+hss_sealed signer newest = any.sealed hss_signing signer newest
 
 -- what may be saved, and its bytes
-abbrev pub IsKept : Kept → Type 0
-IsKept k = bytes.IsKept hss IsSigner k
+abbrev pub IsHssKept : HssKept → Type 0
+IsHssKept k = bytes.IsKept hss_signing IsSigner k
 
-abbrev pub kept_bytes : Kept → List ℕ
-kept_bytes k = bytes.kept_bytes hss k
+abbrev pub hss_kept_bytes : HssKept → List ℕ
+hss_kept_bytes k = bytes.kept_bytes hss_signing k
 
-abbrev pub opened : Signer → Moment → Agent
-opened signer now = any.opened hss signer now
+abbrev pub hss_opened : Signer → Moment → HssAgent
+hss_opened signer now = any.opened hss_signing signer now
 
-abbrev pub Entering : Type 0
-Entering = view.Entering Signer
+abbrev pub HssEntering : Type 0
+HssEntering = view.Entering Signer
 
-abbrev pub entering : Agent → View → Bool → Entering × Option Kept
-entering a v fails = view.entering hss a v fails
+abbrev pub hss_entering : HssAgent → View → Bool → HssEntering × Option HssKept
+hss_entering a v fails = view.entering hss_signing a v fails
 
-abbrev pub standing_in : Agent → View → stand.Standing
-standing_in a v = stand.standing_in hss a v
+abbrev pub hss_standing_in : HssAgent → View → stand.Standing
+hss_standing_in a v = stand.standing_in hss_signing a v
 
 -- what a turn goes by
-abbrev pub inputs : Agent → View → Bool → Inputs
-inputs a v fails = turn.inputs hss a v fails
+abbrev pub hss_inputs : HssAgent → View → Bool → Inputs
+hss_inputs a v fails = turn.inputs hss_signing a v fails
 
-abbrev pub Turning : Type 0
-Turning = turn.Turning Signer
+abbrev pub HssTurning : Type 0
+HssTurning = turn.Turning Signer
 
-abbrev pub TakesTurn : Turning → Session → turn.TurnEnd → Agent → Option Kept → Session → Type 0
-TakesTurn turning s end after saving t = course.TakesTurn hss turning s end after saving t
+abbrev pub TakesHssTurn : HssTurning → Session → turn.TurnEnd → HssAgent → Option HssKept → Session → Type 0
+TakesHssTurn turning s end after saving t = execution.TakesTurn hss_signing turning s end after saving t
 
-abbrev pub IsTurnIn : List (List ℕ) → Turning → Session → List Record → List Record → Turned → Type 0
-IsTurnIn met turning s knew known turned = course.IsTurnIn hss met turning s knew known turned
+abbrev pub IsHssTurnIn : List (List ℕ) → HssTurning → Session → List Record → List Record → Turned → Type 0
+IsHssTurnIn met turning s knew known turned = execution.IsTurnIn hss_signing met turning s knew known turned

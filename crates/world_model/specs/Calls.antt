@@ -10,15 +10,15 @@ use Rattle.dhash_model.specs.declared.miss.Miss.TheVariants as miss
 use Rattle.dhash_model.specs.declared.miss.Miss.{Miss}
 use Rattle.session_model.specs.Refreshing.{Note}
 use Rattle.session_model.specs.Sessions.{Session, Said, Over}
-use Rattle.session_model.specs.Courses.{Begins}
+use Rattle.session_model.specs.Executions.{Begins}
 use Rattle.script_driver.specs.Run.{Outcome, Goes, Refuses}
 use Rattle.script_model.specs.declared.command.Piece.{Piece}
 use Rattle.script_model.specs.Messages.{message_of}
 use Rattle.script_model.specs.Words.{◌>>=◌}
-use Rattle.world_model.specs.Agents.{standing_in}
+use Rattle.world_model.specs.Agents.{hss_standing_in}
 use Rattle.world_model.specs.World.{World, Participant, participant, session_named, with_session, without_session, entries}
-use Rattle.world_model.specs.Story.{Began, began_of, beginning, having_begun, with_began, without_began}
-use Rattle.world_model.specs.Steps.{Scene, StepsOn, RunsOut}
+use Rattle.world_model.specs.GhostState.{Began, began_of, beginning, having_begun, with_began, without_began}
+use Rattle.world_model.specs.Steps.{Configuration, StepsOn, RunsOut}
 use Rattle.world_model.specs.Logs.{Played}
 
 -- ---- what is sent
@@ -39,7 +39,7 @@ sending_of w name pieces = do
 
 -- a session begins with what is sent
 abbrev pub BeginsWith : World → Sending → Session → Type 0
-BeginsWith w s t = Begins s.by.name s.message (entries w) (standing_in s.by.agent s.view) t
+BeginsWith w s t = Begins s.by.name s.message (entries w) (hss_standing_in s.by.agent s.view) t
 
 -- ---- what is shown
 
@@ -76,9 +76,9 @@ replied w said = if is_some said.message then record w {
 
 -- ---- lines
 
--- a session that is open goes on in a world with its story, by its name in the script
-abbrev pub scene_of : Played → Session → Began → Scene
-scene_of w s b = record { world = w.0; story = w.1; session = s; began = b }
+-- a session that is open goes on in a world with its ghost state, by its name in the script
+abbrev pub configuration_of : Played → Session → Began → Configuration
+configuration_of w s b = record { world = w.0; ghost_state = w.1; session = s; began = b }
 
 abbrev pub is_step_count : ℕ → Bool
 is_step_count count = nat_lt 0 count && nat_le count 1000000
@@ -87,10 +87,11 @@ module _ (judged : Key → List ℕ → Option Judged) (w : Played) where
   -- one whole call
   pub data AsLine : Option Sending → Outcome Played → Type 0 where
     sends_nothing : AsLine None Refuses
-    calls : (s : Sending) (r : ℕ) (t : Session) (end : Scene) (said : Said) → w.0.replicas ≡ Some r → BeginsWith w.0 s t
-        → RunsOut judged r s.by.name (record { world = w.0; story = having_begun w.1; session = t; began = beginning w.1 s.by.name }) end
+    calls : (s : Sending) (r : ℕ) (t : Session) (end : Configuration) (said : Said) → w.0.replicas ≡ Some r → BeginsWith w.0 s t
+        → RunsOut judged r s.by.name (record { world = w.0; ghost_state = having_begun w.1; session = t; began = beginning w.1 s.by.name })
+        end
         → end.session.stage ≡ Over (Some said)
-        → AsLine (Some s) (Goes (replied end.world said, end.story) (shown_end end.session said))
+        → AsLine (Some s) (Goes (replied end.world said, end.ghost_state) (shown_end end.session said))
 
   pub data OpenLine (name : List ℕ) : Option Sending → Outcome Played → Type 0 where
     sends_nothing : OpenLine name None Refuses
@@ -106,13 +107,13 @@ module _ (judged : Key → List ℕ → Option Judged) (w : Played) where
   pub data StepLine (name : List ℕ) (count : ℕ) : Option Session → Outcome Played → Type 0 where
     not_open : StepLine name count None Refuses
     out_of_range : (s : Session) → is_step_count count ≡ false → StepLine name count (Some s) Refuses
-    steps : (s : Session) (r : ℕ) (end : Scene) → is_step_count count ≡ true → w.0.replicas ≡ Some r
-        → StepsOn judged r s.by count (scene_of w s (began_of w.1 name)) end
-        → StepLine name count (Some s) (Goes (with_session end.world name end.session, with_began end.story name end.began) [])
+    steps : (s : Session) (r : ℕ) (end : Configuration) → is_step_count count ≡ true → w.0.replicas ≡ Some r
+        → StepsOn judged r s.by count (configuration_of w s (began_of w.1 name)) end
+        → StepLine name count (Some s) (Goes (with_session end.world name end.session, with_began end.ghost_state name end.began) [])
 
   pub data FinishLine (name : List ℕ) : Option Session → Outcome Played → Type 0 where
     not_open : FinishLine name None Refuses
-    ends : (s : Session) (r : ℕ) (end : Scene) (said : Said) → w.0.replicas ≡ Some r
-        → RunsOut judged r s.by (scene_of w s (began_of w.1 name)) end → end.session.stage ≡ Over (Some said)
-        → FinishLine name (Some s) (Goes (replied (without_session end.world name) said, without_began end.story name)
+    ends : (s : Session) (r : ℕ) (end : Configuration) (said : Said) → w.0.replicas ≡ Some r
+        → RunsOut judged r s.by (configuration_of w s (began_of w.1 name)) end → end.session.stage ≡ Over (Some said)
+        → FinishLine name (Some s) (Goes (replied (without_session end.world name) said, without_began end.ghost_state name)
         (shown_end end.session said))

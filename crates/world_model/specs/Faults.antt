@@ -15,7 +15,7 @@ use Rattle.script_model.specs.declared.command.KeyWord.TheVariants as key
 use Rattle.script_model.specs.declared.command.NodeWord.{NodeWord}
 use Rattle.script_model.specs.declared.command.NodeWord.TheVariants as node
 use Rattle.script_model.specs.Words.{◌>>=◌}
-use Rattle.world_model.specs.Agents.{own}
+use Rattle.world_model.specs.Agents.{own_hss_key}
 use Rattle.world_model.specs.Nodes.{Node}
 use Rattle.world_model.specs.World.{World, participant, view_named, with_node, node_at, peer_of, meets}
 use Rattle.world_model.specs.Ring.{live_in_order}
@@ -25,7 +25,7 @@ use Rattle.world_model.specs.Logs.{goes_if}
 
 abbrev pub key_named : World → KeyWord → Option Key
 key_named w (key.Itself k) = Some k
-key_named w (key.HeadOf log) = option_map (λ p. head_key_of (own p.agent)) (participant w log)
+key_named w (key.HeadOf log) = option_map (λ p. head_key_of (own_hss_key p.agent)) (participant w log)
 key_named w (key.RecordOf log seq) = participant w log >>= λ p. option_map (λ m. m.1) (find (λ m. m.0 == seq) p.made)
 key_named w (key.ViewOf view) = option_map view_name (view_named w view)
 key_named w (key.SnapshotOf log) = participant w log >>= λ p. p.printed

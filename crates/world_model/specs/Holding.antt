@@ -15,9 +15,9 @@ abbrev pub held_in : World → Key → Peer → Option Block
 held_in w key p = option_and_then (λ n. value_at key_cmp key n.blocks) (node_of w p)
 
 -- the rank of a block under a key: its number where it is a head, and 0 for content
-abbrev pub rank : (Key → List ℕ → Option Judged) → Key → Block → ℕ
-rank judged key block = option_map_or (λ seq. seq) (number_of (judged key) block) 0
+abbrev pub block_rank : (Key → List ℕ → Option Judged) → Key → Block → ℕ
+block_rank judged key block = option_map_or (λ seq. seq) (number_of (judged key) block) 0
 
 -- the rank of what it holds under the key
 abbrev pub rank_in : (Key → List ℕ → Option Judged) → World → Key → Peer → Option ℕ
-rank_in judged w key p = option_map (rank judged key) (held_in w key p)
+rank_in judged w key p = option_map (block_rank judged key) (held_in w key p)

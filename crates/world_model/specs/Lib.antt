@@ -2,7 +2,7 @@ pub mod Agents
 pub mod Keepers
 pub mod Nodes
 pub mod World
-pub mod Story
+pub mod GhostState
 pub mod Fates
 pub mod Steps
 pub mod Ring

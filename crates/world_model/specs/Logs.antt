@@ -8,7 +8,7 @@ use Rattle.std.specs.Str.{bytes_eq}
 use Rattle.hex.specs.Hex.{encode_lower}
 use Rattle.ivy_base.specs.declared.key.Key.{Key}
 use Rattle.ivy_base.specs.declared.key.PubKey.{PubKey}
-use Rattle.ivy_base.specs.Naming.{NamesTellApart, owner_cmp}
+use Rattle.ivy_base.specs.Naming.{IsCollisionFree, owner_cmp}
 use Rattle.hash_signature_model.specs.declared.set.Set.{Set}
 use Rattle.hash_signature_model.specs.Signer.{Signer}
 use Rattle.log_model.specs.View.{View, have_own_head_keys, most_former, most_members, view_block, view_name}
@@ -26,23 +26,24 @@ use Rattle.agent_model.specs.SavedBytes.{ArePostsSpelled}
 use Rattle.agent_model.specs.Views.{Entered, NotMember, NotNamed, KeeperFailed}
 use Rattle.agent_model.specs.Others.{basis_of, block_post, snapping}
 use Rattle.session_model.specs.Sessions.{Session}
-use Rattle.session_model.specs.Courses.{publishing_session}
+use Rattle.session_model.specs.Executions.{publishing_session}
 use Rattle.script_driver.specs.Run.{Outcome, Goes, Ends, Refuses, Exceeds}
 use Rattle.script_model.specs.Words.{◌>>=◌}
-use Rattle.world_model.specs.Agents.{Agent, Entering, IsKept, Kept, entering, kept_bytes, opened, own, standing_in}
+use Rattle.world_model.specs.Agents.{HssAgent, HssEntering, IsHssKept, HssKept, hss_entering, hss_kept_bytes, hss_opened, own_hss_key}
+use Rattle.world_model.specs.Agents.{hss_standing_in}
 use Rattle.world_model.specs.Keepers.{asked_to_save, fails_next, fresh_keeper, with_fault}
 use Rattle.world_model.specs.World.{World, Participant, participant, view_named, with_participant, without_sessions_of, named_bytes, meets}
 use Rattle.world_model.specs.World.{entries}
-use Rattle.world_model.specs.Story.{Story, Knowing, began_nothing, known_of, knowing_now}
+use Rattle.world_model.specs.GhostState.{GhostState, Knowing, began_nothing, known_of, knowing_now}
 use Rattle.world_model.specs.Fates.{Puts}
-use Rattle.world_model.specs.Steps.{Scene, RunsOut, having_made, met_by}
+use Rattle.world_model.specs.Steps.{Configuration, RunsOut, having_made, met_by}
 
--- a world with its story
+-- a world with its ghost state
 abbrev pub Played : Type 0
-Played = World × Story
+Played = World × GhostState
 
--- an outcome that leaves the story as it is
-abbrev pub beside : Story → Outcome World → Outcome Played
+-- an outcome that leaves the ghost state as it is
+abbrev pub beside : GhostState → Outcome World → Outcome Played
 beside st (Goes next output) = Goes (next, st) output
 beside st Ends = Ends
 beside st Refuses = Refuses
@@ -64,13 +65,13 @@ abbrev pub empty_view : View
 empty_view = record { members = []; former = [] }
 
 abbrev pub to_publish : World → Participant → Session
-to_publish w p = publishing_session p.name (entries w) (standing_in p.agent empty_view) p.agent.pending
+to_publish w p = publishing_session p.name (entries w) (hss_standing_in p.agent empty_view) p.agent.pending
 
 -- all that the participant's agent has pending is put, and settled
 abbrev pub Publishes : (Key → List ℕ → Option Judged) → ℕ → Played → Participant → Played → Type 0
-Publishes judged r w p next = (end : Scene)
-    × RunsOut judged r p.name (record { world = w.0; story = w.1; session = to_publish w.0 p; began = began_nothing }) end
-    × (next ≡ (end.world, end.story))
+Publishes judged r w p next = (end : Configuration)
+    × RunsOut judged r p.name (record { world = w.0; ghost_state = w.1; session = to_publish w.0 p; began = began_nothing }) end
+    × (next ≡ (end.world, end.ghost_state))
 
 -- ---- log
 
@@ -78,8 +79,8 @@ abbrev pub fresh_signer : List ℕ → List ℕ → List Set → Signer
 fresh_signer id seed sets = record { id = id; seed = seed; sets = sets; made = 0 }
 
 -- a participant whose agent opens its log, and is saved; its first posts count as made
-abbrev pub newcomer : List ℕ → Agent → Participant
-newcomer name a = having_made (record {
+abbrev pub new_participant : List ℕ → HssAgent → Participant
+new_participant name a = having_made (record {
   name = name;
   agent = a;
   keeper = asked_to_save fresh_keeper (Some (kept_of a));
@@ -91,12 +92,12 @@ newcomer name a = having_made (record {
 }) a.pending
 
 -- it knows its opening record
-abbrev pub with_newcomer : Played → Participant → Played
-with_newcomer w p = (
+abbrev pub with_new_participant : Played → Participant → Played
+with_new_participant w p = (
   record w.0 { participants = w.0.participants ++ p ∷ []; met = met_by w.0.met p.agent.pending },
   record w.1 {
     participants = w.1.participants
-        ++ record { name = p.name; known = opening (own p.agent) w.0.now ∷ []; received = [] } ∷ [];
+        ++ record { name = p.name; known = opening (own_hss_key p.agent) w.0.now ∷ []; received = [] } ∷ [];
   },
 )
 
@@ -106,8 +107,8 @@ pub data LogLine (judged : Key → List ℕ → Option Judged) (w : Played) (nam
   before_ring : is_some w.0.replicas ≡ false → LogLine judged w name id seed sets Refuses
   known : is_some (participant w.0 name) ≡ true → LogLine judged w name id seed sets Refuses
   begins : (r : ℕ) (p : Participant) (next : Played) → w.0.replicas ≡ Some r → is_some (participant w.0 name) ≡ false
-      → p ≡ newcomer name (opened (fresh_signer id seed sets) w.0.now)
-      → Publishes judged r (with_newcomer w p) p next → LogLine judged w name id seed sets (Goes next [])
+      → p ≡ new_participant name (hss_opened (fresh_signer id seed sets) w.0.now)
+      → Publishes judged r (with_new_participant w p) p next → LogLine judged w name id seed sets (Goes next [])
 
 -- ---- view
 
@@ -125,7 +126,7 @@ keys_of w [] = Some []
 keys_of w (name ∷ names) = do
   p ← participant w name
   keys ← keys_of w names
-  Some (own p.agent ∷ keys)
+  Some (own_hss_key p.agent ∷ keys)
 
 abbrev pub with_view : World → List ℕ → View → World
 with_view w name view = record w { views = w.views ++ record { name = name; view = view } ∷ []; met = meets w.met (view_block view) }
@@ -170,7 +171,7 @@ afresh w p = without_sessions_of (with_participant w (record p { cache = [] })) 
 abbrev pub names_of_sessions : World → List ℕ → List (List ℕ)
 names_of_sessions w by = map (λ t. t.name) (filter (λ t. bytes_eq t.session.by by) w.sessions)
 
-abbrev pub afresh_told : Played → List ℕ → List Record → Story
+abbrev pub afresh_told : Played → List ℕ → List Record → GhostState
 afresh_told w by set = record (knowing_now w.1 by set)
     { sessions = filter (λ c. not (list_any (bytes_eq c.0) (names_of_sessions w.0 by))) w.1.sessions }
 
@@ -179,7 +180,7 @@ abbrev pub of_members : View → List Record → List Record
 of_members view s = filter (λ r. list_any (eq_by_cmp owner_cmp r.owner) view.members) s
 
 -- in another view it knows what it knew of that one's members
-abbrev pub after_entering : Played → Participant → View → Entering → Option Kept → Outcome Played
+abbrev pub after_entering : Played → Participant → View → HssEntering → Option HssKept → Outcome Played
 after_entering w p view (Entered after) saving =
     Goes (
       afresh w.0 (record p { agent = after; keeper = asked_to_save p.keeper saving }),
@@ -192,7 +193,7 @@ after_entering w p view (KeeperFailed after) saving =
     Goes (with_participant w.0 (record p { agent = after; keeper = asked_to_save p.keeper saving }), w.1) (failed_text (codes "use") p.name)
 
 abbrev pub use_by : Played → Option Participant → Option View → Outcome Played
-use_by w (Some p) (Some view) = (let came = entering p.agent view (fails_next p.keeper) in after_entering w p view came.0 came.1)
+use_by w (Some p) (Some view) = (let came = hss_entering p.agent view (fails_next p.keeper) in after_entering w p view came.0 came.1)
 use_by w _ _ = Refuses
 
 abbrev pub use_line : Played → List ℕ → List ℕ → Outcome Played
@@ -213,20 +214,20 @@ keep_line w log count new = keep_by w (participant w log) count new
 
 -- what becomes of the participant whose agent starts again from what was saved; what it then has to publish counts as made and met from now
 -- on
-abbrev pub restarted : World → Participant → Kept → World
+abbrev pub restarted : World → Participant → HssKept → World
 restarted w p k = record (afresh w (having_made (record p { agent = restored k }) k.pending)) { met = met_by w.met k.pending }
 
--- it knows what the floor that was saved names, where names tell apart
-abbrev pub IsKnownAgain : World → Kept → List Record → Type 0
-IsKnownAgain next k set = (view : View) → k.view ≡ Some view → NamesTellApart (named_bytes next)
+-- it knows what the floor that was saved names, where no names collide
+abbrev pub IsKnownAgain : World → HssKept → List Record → Type 0
+IsKnownAgain next k set = (view : View) → k.view ≡ Some view → IsCollisionFree (named_bytes next)
     → IsKnown view k.floor set × Stand next.met set
 
 -- The agent starts again from what its keeper's bytes say.
 pub data RestartLine (w : Played) : Option Participant → Outcome Played → Type 0 where
   nobody : RestartLine w None Refuses
   outside : (p : Participant) → p.agent.view ≡ None → RestartLine w (Some p) Refuses
-  starts : (p : Participant) (view : View) (k : Kept) (set : List Record) → p.agent.view ≡ Some view → IsKept k
-      → p.keeper.kept ≡ Some (kept_bytes k)
+  starts : (p : Participant) (view : View) (k : HssKept) (set : List Record) → p.agent.view ≡ Some view → IsHssKept k
+      → p.keeper.kept ≡ Some (hss_kept_bytes k)
       → IsKnownAgain (restarted w.0 p k) k set
       → RestartLine w (Some p) (Goes (restarted w.0 p k, afresh_told w p.name set) [])
 
@@ -236,7 +237,7 @@ abbrev pub snap_text : List ℕ → Key → List ℕ
 snap_text name root = codes "snap " ++ name ++ 32 ∷ encode_lower root.0 ++ 10 ∷ []
 
 -- what a participant's snapshot is made of
-abbrev pub snapping_in : Participant → View → (Agent × Bool) × Option Kept
+abbrev pub snapping_in : Participant → View → (HssAgent × Bool) × Option HssKept
 snapping_in p view = snapping p.agent (root_name view (basis_of p.agent.holding)) (snapshot_blocks view (basis_of p.agent.holding))
     (fails_next p.keeper)
 

@@ -13,7 +13,7 @@ use Rattle.dht_ids.specs.declared.peer.Peer.{Peer}
 use Rattle.dht_ids.specs.NodeIds.{node_id_of}
 use Rattle.dht_ids.specs.Peers.{place}
 use Rattle.dht_ids.specs.Asked.{routes}
-use Rattle.dhash_model.specs.Course.{Told}
+use Rattle.dhash_model.specs.Execution.{Told}
 use Rattle.dhash_model.specs.State.{State, adopted, alone_node, with_list}
 use Rattle.dhash_model.specs.Settled.{IsSettledNode}
 use Rattle.script_driver.specs.Run.{Outcome, Goes, Refuses, Exceeds}

@@ -15,7 +15,7 @@ use Rattle.fork_model.specs.Finding.{find_fork}
 use Rattle.script_driver.specs.Run.{Outcome, Goes, Refuses, Exceeds}
 use Rattle.script_model.specs.declared.command.Shown.{Shown}
 use Rattle.script_model.specs.declared.command.Shown.TheVariants as shown
-use Rattle.world_model.specs.Agents.{own}
+use Rattle.world_model.specs.Agents.{own_hss_key}
 use Rattle.world_model.specs.Nodes.{Node}
 use Rattle.world_model.specs.World.{World, Participant, participant, peer_of, name_of_owner}
 use Rattle.world_model.specs.Faults.{node_named}
@@ -72,8 +72,8 @@ conflicts_shown w p = clashes_shown w p.name (clashes p.agent.holding.held)
 -- ---- that its log was signed into two histories
 
 -- the blocks met in which its public key stands where a head has its owner's, in the order in which they were made
-abbrev pub heads_of : World → PubKey → List (List ℕ)
-heads_of w owner = filter (λ b. eq_by_cmp owner_cmp (owner_in b) owner) w.met
+abbrev pub heads_met_of : World → PubKey → List (List ℕ)
+heads_met_of w owner = filter (λ b. eq_by_cmp owner_cmp (owner_in b) owner) w.met
 
 abbrev pub proof_text : Option (List ℕ) → List ℕ
 proof_text None = codes "none" ++ 10 ∷ []
@@ -81,7 +81,7 @@ proof_text (Some bytes) = encode_lower bytes ++ 10 ∷ []
 
 -- of the blocks met, by what tells which of them are records
 abbrev pub proof_shown : Before → World → Participant → Showing
-proof_shown before w p = Text (proof_text (find_fork before (heads_of w (own p.agent)) w.met))
+proof_shown before w p = Text (proof_text (find_fork before (heads_met_of w (own_hss_key p.agent)) w.met))
 
 -- ---- the line
 
@@ -103,7 +103,7 @@ word_of (shown.Work log) = codes "work"
 word_of (shown.Conflicts log) = codes "conflicts"
 word_of (shown.Proof log) = codes "proof"
 
--- what is shown behind that word
+-- what is shown after that word
 abbrev pub showing : Before → World → Shown → Showing
 showing before w (shown.Holds node) = of_live (node_named w node)
 showing before w (shown.Order log) = of_entered (λ p. Text (order_text w p)) (participant w log)

@@ -1,5 +1,5 @@
--- The step of a script: what a line may do in a world with its story. Each kind of line has its module; a kind that comes later is one more
--- case.
+-- The step of a script: what a line may do in a world with its ghost state. Each kind of line has its module; a kind that comes later is
+-- one more case.
 use Rattle.std.specs.Prelude.{◌≡◌, ℕ, nat_lt, Bool, true, false, List, [], Option, Some, None, MatchBool, length, sum_by}
 use Rattle.ivy_base.specs.declared.key.Key.{Key}
 use Rattle.dht_ids.specs.declared.judge.Judged.{Judged}
@@ -16,7 +16,7 @@ use Rattle.world_model.specs.Calls.{AsLine, OpenLine, StepLine, FinishLine, send
 use Rattle.world_model.specs.Faults.{damage_line, lose_line, node_named}
 use Rattle.world_model.specs.Shows.{Shows}
 
--- what a command does that the story doesn't tell of
+-- what a command does that the ghost state doesn't tell of
 abbrev pub Untold : Played → (Outcome World → Type 0) → Outcome Played → Type 0
 Untold w Does outcome = (o : Outcome World) × Does o × (outcome ≡ beside w.1 o)
 

@@ -12,7 +12,7 @@ use Rattle.log_model.specs.View.{View}
 use Rattle.dht_ids.specs.declared.peer.Peer.{Peer}
 use Rattle.session_model.specs.Sessions.{Cache, Session}
 use Rattle.script_model.specs.Messages.{Given}
-use Rattle.world_model.specs.Agents.{Agent, own}
+use Rattle.world_model.specs.Agents.{HssAgent, own_hss_key}
 use Rattle.world_model.specs.Keepers.{Keeper}
 use Rattle.world_model.specs.Nodes.{Node}
 
@@ -20,7 +20,7 @@ use Rattle.world_model.specs.Nodes.{Node}
 -- their numbers, the last snapshot that a line printed, how many records its last turn applied, and the heads that left it.
 pub record Participant : Type 0 where
   pub name : List ℕ
-  pub agent : Agent
+  pub agent : HssAgent
   pub keeper : Keeper
   pub cache : Cache
   pub made : List (ℕ × Key)
@@ -95,16 +95,16 @@ without_sessions_of w name = record w { sessions = filter (λ t. not (bytes_eq t
 
 -- the name of the first log of that key
 abbrev pub name_of_owner : World → PubKey → List ℕ
-name_of_owner w owner = option_map_or (λ p. p.name) (find (λ p. eq_by_cmp owner_cmp owner (own p.agent)) w.participants) []
+name_of_owner w owner = option_map_or (λ p. p.name) (find (λ p. eq_by_cmp owner_cmp owner (own_hss_key p.agent)) w.participants) []
 
 -- ---- blocks met
 
 abbrev pub meets : List (List ℕ) → List ℕ → List (List ℕ)
 meets met block = if list_any (bytes_eq block) met then met else met ++ block ∷ []
 
--- what the premise that names tell apart speaks of: the blocks met, and the public keys
+-- what the premise that no names collide speaks of: the blocks met, and the public keys
 abbrev pub named_bytes : World → List (List ℕ)
-named_bytes w = w.met ++ map (λ p. (own p.agent).0) w.participants
+named_bytes w = w.met ++ map (λ p. (own_hss_key p.agent).0) w.participants
 
 -- ---- nodes
 

@@ -1,4 +1,4 @@
--- The zeros behind an item.
+-- The zeros after an item.
 use Rattle.std.proofs.Common.{◌≡◌, ℕ, zero, suc, ◌≤◌, true, false, nat_eq, List, [], ◌∷◌, ◌++◌, take, drop, refl, sym, ◌∙◌, arith}
 use Rattle.std.specs.Prelude.{Bool, replicate}
 use Rattle.std.specs.Bool.{Decides}

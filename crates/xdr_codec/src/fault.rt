@@ -15,7 +15,7 @@ pub enum XdrFault {
     /// A boolean is neither 0 nor 1 (RFC 4506, section 4.4).
     #[error("a boolean is neither 0 nor 1")]
     NotBool,
-    /// Bytes are left behind the last item.
+    /// Bytes are left after the last item.
     #[error("bytes are left behind the last item")]
     Trailing,
 }

@@ -1,4 +1,4 @@
-//! The parts of a message, which are read one behind the other.
+//! The parts of a message, which are read one after the other.
 
 ghost use Rattle.std.specs.Prelude.{◌≡◌, ◌≢◌, ◌%◌, true, false, [], Some, None, length, MatchOption};
 ghost use Rattle.wire_model.specs.Xdr.{word, double_word, boolean, opaque, IsWord, IsDoubleWord, IsAny, IsOfLength, IsUpTo};

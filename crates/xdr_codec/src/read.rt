@@ -11,8 +11,8 @@ use std::marker::Model;
 
 /// Bytes that are read from left to right, item by item. Contracts see it as the bytes that are left.
 ///
-/// Each call either takes its item from the front, or answers the first fault that it meets and takes nothing.
-/// It takes no memory: data lies in the bytes that are read, so a count that no bytes stand behind costs nothing.
+/// Each call either takes its item from the front, or answers the first fault that it meets and takes nothing. It
+/// takes no memory: data lies in the bytes that are read, so a count that no bytes stand after costs nothing.
 #[derive(Clone, Drop)]
 pub struct XdrRead<'a> {
     rest: &'a [u8],
@@ -145,7 +145,7 @@ fn double_word_of(bytes: &[u8; 8]) -> u64
     ])
 }
 
-/// Data of so many bytes at the front, and the bytes behind it and its padding.
+/// Data of so many bytes at the front, and the bytes after it and its padding.
 fn fixed_item(bytes: &[u8], n: usize) -> Result<(&[u8], &[u8]), XdrFault>
     ensures ok { IfOk result (λ p. IsFront (IsOfLength n) fixed bytes.now p.0.now p.1.now) }
     ensures err { IfErr result (FixedFault n bytes.now) }
@@ -164,7 +164,7 @@ fn fixed_item(bytes: &[u8], n: usize) -> Result<(&[u8], &[u8]), XdrFault>
     }
 }
 
-/// The bytes behind so many zeros.
+/// The bytes after so many zeros.
 fn behind_zeros(bytes: &[u8], zeros: usize) -> Option<&[u8]>
     requires few { zeros ≤ 3 }
     requires enough { zeros ≤ length bytes.now }
@@ -178,7 +178,7 @@ fn behind_zeros(bytes: &[u8], zeros: usize) -> Option<&[u8]>
     }
 }
 
-/// Data at the front with its count, and the bytes behind it.
+/// Data at the front with its count, and the bytes after it.
 fn opaque_item(bytes: &[u8], max: u32) -> Result<(&[u8], &[u8]), XdrFault>
     ensures ok { IfOk result (λ p. IsFront (IsUpTo max) opaque bytes.now p.0.now p.1.now) }
     ensures err { IfErr result (OpaqueFault max bytes.now) }

@@ -41,7 +41,7 @@ impl XdrWrite {
         }
     }
 
-    /// Makes room for `additional` more bytes. The error is want of memory: it leaves the writer as it was, and
+    /// Makes room for `additional` more bytes. The error is: out of memory: it leaves the writer as it was, and
     /// comes only where that room was missing.
     pub fn reserve(&mut self, additional: usize) -> Result<(), Memory>
         ensures written { self.new.written ≡ self.old.written }

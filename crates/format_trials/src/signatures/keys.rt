@@ -78,7 +78,7 @@ fn sign(line: &mut Line<'_>, key: &mut Hss) {
     put_alike(&mut line.text, key, &message);
 }
 
-/// Tells the next signature of the key that the next word saves, once it has made as many more as the word behind says.
+/// Tells the next signature of the key that the next word saves, once it has made as many more as the word after says.
 pub fn resume(line: &mut Line<'_>) {
     let saved = line.bytes();
     match Hss::load(line.text.alloc, &saved) {

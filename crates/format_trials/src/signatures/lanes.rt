@@ -4,7 +4,7 @@ use crate::line::Line;
 use crate::text::Text;
 use sha256_lanes::{Heads, Values, hash_four};
 
-/// Adds the digests of four heads, each with the three bytes and its value behind it, where the values come out again as
+/// Adds the digests of four heads, each with the three bytes and its value after it, where the values come out again as
 /// they went in.
 fn put_digests(out: &mut Text, heads: &[[u8; 20]; 4], middle: [u8; 3], values: &[[u8; 32]; 4]) {
     let lanes = Values::of(values);

@@ -70,7 +70,7 @@ fn put_joined<R: Threads>(rt: &R, out: &mut Text, key: &PrivateKey, leaf: u32, m
     }
 }
 
-/// Tells the public key of the tree and the signature by the leaf that the next word is, of the message behind it.
+/// Tells the public key of the tree and the signature by the leaf that the next word is, of the message after it.
 fn sign_with(line: &mut Line<'_>, key: &PrivateKey) {
     let leaf = line.number();
     let message = line.bytes();

@@ -2,7 +2,7 @@
 
 ghost use Rattle.std.specs.Prelude.{IfSome};
 ghost use Rattle.log_model.specs.Spelling.{IsMoment};
-ghost use Rattle.play_trials.specs.UnderWay.{GoesOn, judges};
+ghost use Rattle.play_trials.specs.InProgress.{GoesOn, judges};
 
 use crate::sessions::driving::{begin, drive, publishing};
 use crate::sessions::table::Table;

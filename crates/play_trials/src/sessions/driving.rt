@@ -6,7 +6,7 @@ ghost use Rattle.agent_model.specs.SavedBytes.{HasItsName};
 ghost use Rattle.log_model.specs.Spelling.{IsMoment};
 ghost use Rattle.log_model.specs.View.{View};
 ghost use Rattle.ivy_session.specs.States.{session_awaited};
-ghost use Rattle.play_trials.specs.UnderWay.{GoesOn, MayHear, MayTurn, MayWant, judges};
+ghost use Rattle.play_trials.specs.InProgress.{GoesOn, MayHear, MayTurn, MayWant, judges};
 
 use crate::sessions::showing::{show_answer, show_end, show_question, show_settled};
 use crate::sessions::table::Table;
@@ -26,7 +26,7 @@ use std::sync::Wait;
 /// How often a session is told to go on.
 const MOST_STEPS: u32 = 100_000;
 
-/// A session with that message. None is want of memory.
+/// A session with that message. None means out of memory.
 pub fn begin<R: Wait, T: Turns<MemKeeper, Hss>>(
     rt: &R,
     alloc: Global,
@@ -49,7 +49,7 @@ pub fn begin<R: Wait, T: Turns<MemKeeper, Hss>>(
     Some(session)
 }
 
-/// A session that only publishes these posts, for an agent in whichever view. None is want of memory.
+/// A session that only publishes these posts, for an agent in whichever view. None means out of memory.
 pub fn publishing(alloc: Global, table: &Table, pending: &Posts) -> Option<Session<HssJudge>>
     ensures { (view : Option View) → IsSomeAnd view (λ v. Unit {0}) → IfSome result (GoesOn judges view) }
 {
@@ -60,7 +60,7 @@ pub fn publishing(alloc: Global, table: &Table, pending: &Posts) -> Option<Sessi
     Some(session)
 }
 
-/// What a session is given. None is want of memory.
+/// What a session is given. None means out of memory.
 fn standing<R: Wait, T: Turns<MemKeeper, Hss>>(
     rt: &R,
     alloc: Global,
@@ -79,7 +79,7 @@ fn standing<R: Wait, T: Turns<MemKeeper, Hss>>(
     Some(standing)
 }
 
-/// Goes on with a session to its end, and adds its course to the text.
+/// Goes on with a session to its end, and adds its execution to the text.
 pub fn drive<R: Wait, T: Turns<MemKeeper, Hss>>(
     rt: &R,
     text: &mut Text,

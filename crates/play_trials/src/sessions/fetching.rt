@@ -23,7 +23,7 @@ const MOST_STEPS: u32 = 100_000;
 pub struct Fetcher {
     /// What is known, and whose logs are fetched.
     standing: Standing,
-    /// The blocks that are at hand.
+    /// The blocks that are available.
     hand: Vec<Bytes>,
 }
 
@@ -38,7 +38,7 @@ impl Drop for Fetcher {
 }
 
 impl Fetcher {
-    /// The logs of that view are fetched; nothing is known, and nothing is at hand.
+    /// The logs of that view are fetched; nothing is known, and nothing is available.
     pub fn of(alloc: Global, view: View) -> Fetcher {
         Fetcher {
             standing: Standing {
@@ -66,7 +66,7 @@ impl Fetcher {
         }
     }
 
-    /// Has the block at hand that the words say.
+    /// Has the available block that the words say.
     fn keep(&mut self, words: &mut Words<'_>) {
         let bytes = words.bytes();
         words.note(self.hand.push(bytes).is_ok());
@@ -80,7 +80,7 @@ impl Fetcher {
         }
     }
 
-    /// A fetch that begins. None is want of memory, or that more is held than was known.
+    /// A fetch that begins. None means out of memory, or that more is held than was known.
     fn started(&self, alloc: Global, table: &Table) -> Option<Fetch<PlainJudge>> {
         if !self.standing.floor.dominates(&self.standing.held) {
             return None;
@@ -107,7 +107,7 @@ fn edges_of(words: &mut Words<'_>) -> Edges {
     }
 }
 
-/// Goes on with a fetch to its end, and adds its course to the text.
+/// Goes on with a fetch to its end, and adds its execution to the text.
 fn drive(text: &mut Text, table: &mut Table, hand: &[Bytes], fetch: &mut Fetch<PlainJudge>) {
     'steps: for _ in 0..MOST_STEPS {
         if step(text, table, hand, fetch) {
@@ -139,12 +139,12 @@ fn step(text: &mut Text, table: &mut Table, hand: &[Bytes], fetch: &mut Fetch<Pl
     }
 }
 
-/// Gives the fetch the block that it wants, where it is at hand, and says whether it is.
+/// Gives the fetch the block that it wants, where it is available, and says whether it is.
 fn give(text: &mut Text, hand: &[Bytes], fetch: &mut Fetch<PlainJudge>) -> bool {
     let Some(key) = fetch.wanted() else {
         return false;
     };
-    let Some(bytes) = at_hand(hand, &key) else {
+    let Some(bytes) = available(hand, &key) else {
         return false;
     };
     text.key("given ", &key);
@@ -153,8 +153,8 @@ fn give(text: &mut Text, hand: &[Bytes], fetch: &mut Fetch<PlainJudge>) -> bool 
     true
 }
 
-/// The block of that name that is at hand.
-fn at_hand<'a>(hand: &'a [Bytes], key: &Key) -> Option<&'a Bytes> {
+/// The block of that name that is available.
+fn available<'a>(hand: &'a [Bytes], key: &Key) -> Option<&'a Bytes> {
     for bytes in hand {
         if name_of(bytes.as_slice()) == *key {
             return Some(bytes);

@@ -81,7 +81,7 @@ fn owners_in(words: &mut Words<'_>, text: &str) -> Vec<PubKey> {
     owners
 }
 
-/// The view that the words left are. None is want of memory, or that there is no such view.
+/// The view that the words left are. None means out of memory, or that there is no such view.
 pub fn view_of(words: &mut Words<'_>) -> Option<View> {
     let logs = words.rest();
     let (members, former) = logs.split_once(" former ").unwrap_or((logs, ""));

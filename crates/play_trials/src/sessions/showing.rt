@@ -29,7 +29,7 @@ pub fn show_question(text: &mut Text, number: u32, ask: &Ask) {
     }
 }
 
-/// Adds the number and the name that a head's block has behind its mark and its public key.
+/// Adds the number and the name that a head's block has after its mark and its public key.
 fn show_head(text: &mut Text, block: &[u8]) {
     match block.get(64..88) {
         Some(bytes) => text.digits(" ", bytes),

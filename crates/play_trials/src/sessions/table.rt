@@ -82,7 +82,7 @@ impl Table {
         words.note(self.blocks.push(Block { node, key, bytes }).is_ok());
     }
 
-    /// What the node answers. The error is want of memory.
+    /// What the node answers. The error is: out of memory.
     pub fn answer(&mut self, alloc: Global, node: &Peer, ask: &Ask) -> Result<Answer, Memory> {
         if self.silent.as_slice().contains(node) {
             return Ok(Answer::Silent);

@@ -75,7 +75,7 @@ impl Trial {
         }
     }
 
-    /// Begins anew over the nodes that the words say.
+    /// Begins again over the nodes that the words say.
     fn start(&mut self, words: &mut Words<'_>) {
         *self = Trial::over(words.alloc, Table::start(words));
     }

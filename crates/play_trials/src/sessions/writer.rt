@@ -28,7 +28,7 @@ impl Drop for Writer {
 }
 
 impl Writer {
-    /// Opens a log as the words say. None is want of memory.
+    /// Opens a log as the words say. None means out of memory.
     pub fn open(words: &mut Words<'_>) -> Option<Writer> {
         let cache = BlockCache::new(words.alloc).ok()?;
         let agent = agent_of(words)?;
@@ -69,7 +69,7 @@ impl Writer {
     }
 }
 
-/// An agent that opens a log at the moment and by the key that the words say. None is want of memory.
+/// An agent that opens a log at the moment and by the key that the words say. None means out of memory.
 fn agent_of(words: &mut Words<'_>) -> Option<Agent<MemKeeper, Hss>> {
     let now = words.moment();
     let signer = signer_of(words)?;
@@ -79,7 +79,7 @@ fn agent_of(words: &mut Words<'_>) -> Option<Agent<MemKeeper, Hss>> {
     }
 }
 
-/// The key of an identifier, a seed and the name of its one set. None is want of memory.
+/// The key of an identifier, a seed and the name of its one set. None means out of memory.
 fn signer_of(words: &mut Words<'_>) -> Option<Hss> {
     let mut id = [0; 16];
     let mut seed = [0; 32];

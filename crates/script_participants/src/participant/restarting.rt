@@ -12,7 +12,7 @@ impl Participant {
     ghost use Rattle.script_participants.specs.Restarting.{HasReturned, HasStartedAgain};
 
     /// Its agent starts again from what its keeper holds, and its cache is empty then; what it has to publish counts as made.
-    /// Or it is in no view, or its keeper holds no agent's bytes. The error is want of memory; its agent may have started again
+    /// Or it is in no view, or its keeper holds no agent's bytes. The error is: out of memory; its agent may have started again
     /// then.
     pub fn restart(&mut self, alloc: Global) -> Result<RestartEnd, Memory>
         ensures restarted { IfOk result (λ end. HasStartedAgain self.old end self.new) }
@@ -30,7 +30,7 @@ impl Participant {
         }
     }
 
-    /// Its agent starts again, and its cache is empty then. The error is want of memory; nothing is changed then.
+    /// Its agent starts again, and its cache is empty then. The error is: out of memory; nothing is changed then.
     fn come_back(&mut self, alloc: Global) -> Result<RestartEnd, Memory>
         ensures returned { IfOk result (λ end. HasReturned self.old end self.new) }
         ensures unchanged { OnErr result (self.new ≡ self.old) }

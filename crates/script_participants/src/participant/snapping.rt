@@ -11,7 +11,7 @@ impl Participant {
     ghost use Rattle.script_participants.specs.Snapping.{HasSnapped};
 
     /// Its agent, which is in a view, makes a snapshot of all that it holds and saves it; its root's name, which then counts as
-    /// printed, or None where the keeper failed, now or before. The error is want of memory; nothing is changed then.
+    /// printed, or None where the keeper failed, now or before. The error is: out of memory; nothing is changed then.
     pub fn snap(&mut self, alloc: Global) -> Result<Option<Key>, Memory>
         requires view { IsSomeAnd self.old.agent.view (λ view. Unit {0}) }
         ensures snapped { IfOk result (λ root. IfSome self.old.agent.view (λ view. HasSnapped view self.old root self.new)) }

@@ -20,7 +20,7 @@ impl Participants {
     ghost use Rattle.script_participants.specs.Texts.{Shows, clash_line_of, clash_lines_of};
 
     /// What the line `conflicts` shows of a participant: how many pairs of the records that it holds are in conflict, and then
-    /// each pair, in their order. There is none where these are more than 1,000,000. The error is want of memory; it also comes
+    /// each pair, in their order. There is none where these are more than 1,000,000. The error is: out of memory; it also comes
     /// where 2^32 records or more are held.
     pub fn conflicts_text(
         &self,
@@ -36,7 +36,7 @@ impl Participants {
         }
     }
 
-    /// What is shown of such a list, of the log of that name. The error is want of memory.
+    /// What is shown of such a list, of the log of that name. The error is: out of memory.
     fn list_text(&self, alloc: Global, name: &[u8], list: &[Clash]) -> Result<Vec<u8>, Memory>
         ensures { IfOk result (λ text. text.items ≡ codes "conflicts " ++ name.now ++ 32 ∷ decimal (length list.now) ++ 10 ∷ clash_lines_of self.now (seen_all list.now)) }
     {
@@ -45,7 +45,7 @@ impl Participants {
         Ok(text)
     }
 
-    /// Appends a line for each pair. The error is want of memory.
+    /// Appends a line for each pair. The error is: out of memory.
     fn put_clashes(&self, alloc: Global, text: &mut Vec<u8>, list: &[Clash]) -> Result<(), Memory>
         ensures { OnOk result (text.new.items ≡ text.old.items ++ clash_lines_of self.now (seen_all list.now)) }
     {
@@ -55,7 +55,7 @@ impl Participants {
         Ok(())
     }
 
-    /// Appends the line of a pair. The error is want of memory.
+    /// Appends the line of a pair. The error is: out of memory.
     fn put_clash(&self, alloc: Global, text: &mut Vec<u8>, clash: &Clash) -> Result<(), Memory>
         ensures { OnOk result (text.new.items ≡ text.old.items ++ clash_line_of self.now (seen clash.now)) }
     {
@@ -66,7 +66,7 @@ impl Participants {
         Ok(())
     }
 
-    /// Appends the name of a record's log, its number there, and a blank. The error is want of memory.
+    /// Appends the name of a record's log, its number there, and a blank. The error is: out of memory.
     fn put_place(&self, alloc: Global, text: &mut Vec<u8>, one: &Rank) -> Result<(), Memory>
         ensures { OnOk result (text.new.items ≡ text.old.items ++ owner_name self.now one.now.owner ++ 32 ∷ decimal one.now.seq ++ 32 ∷ []) }
     {

@@ -1,7 +1,7 @@
 //! A client of a live ring, which puts and gets content blocks ask by ask.
 
 ghost use Rattle.std.specs.Prelude.{◌≢◌, ◌+◌, ◌<◌, ◌≤◌, None, IfOk};
-ghost use Rattle.dhash_client.specs.Course.{asks_left};
+ghost use Rattle.dhash_client.specs.Execution.{asks_left};
 ghost use Rattle.dhash_client.specs.GetBlock.{block_awaited};
 ghost use Rattle.dhash_client.specs.Puts.{put_awaited};
 
@@ -12,12 +12,12 @@ use ring_run::{LiveMesh, LiveRing};
 use std::alloc::Global;
 use std::sync::Wait;
 
-/// The block of that number: 64 bytes of it. The error is want of memory.
+/// The block of that number: 64 bytes of it. The error is: out of memory.
 fn block(alloc: Global, number: u8) -> Result<Bytes, Memory> {
     Ok(Bytes::of(vec![in alloc; number; 64]?))
 }
 
-/// Puts the block of that number at its owners. The result is whether the put was acknowledged. The error is want of memory.
+/// Puts the block of that number at its owners. The result is whether the put was acknowledged. The error is: out of memory.
 fn put<R: Wait>(rt: &R, alloc: Global, ring: &LiveRing, number: u8) -> Result<bool, Memory> {
     let bytes = block(alloc, number)?;
     let key = name_of(bytes.as_slice());
@@ -38,7 +38,7 @@ fn put<R: Wait>(rt: &R, alloc: Global, ring: &LiveRing, number: u8) -> Result<bo
     }
 }
 
-/// One ask of a put, which hears its answer. The error is want of memory.
+/// One ask of a put, which hears its answer. The error is: out of memory.
 fn put_step<R: Wait>(
     rt: &R,
     alloc: Global,
@@ -48,13 +48,13 @@ fn put_step<R: Wait>(
     question: &Ask,
 ) -> Result<(), Memory>
     requires { put_awaited put.old ≢ None }
-    ensures { IfOk result (λ _. asks_left put.new.course < asks_left put.old.course) }
+    ensures { IfOk result (λ _. asks_left put.new.execution < asks_left put.old.execution) }
 {
     let answer = ring.ask(rt, alloc, node, question)?;
     put.heard(answer)
 }
 
-/// Whether the block of that number is found at its owners. The error is want of memory.
+/// Whether the block of that number is found at its owners. The error is: out of memory.
 fn get<R: Wait>(rt: &R, alloc: Global, ring: &LiveRing, number: u8) -> Result<bool, Memory> {
     let key = name_of(block(alloc, number)?.as_slice());
     let mut get = GetBlock::start(alloc, key, ring.replicas(), &ring.made(alloc)?)?;
@@ -69,7 +69,7 @@ fn get<R: Wait>(rt: &R, alloc: Global, ring: &LiveRing, number: u8) -> Result<bo
     }
 }
 
-/// One ask of a get, which hears its answer. The error is want of memory.
+/// One ask of a get, which hears its answer. The error is: out of memory.
 fn get_step<R: Wait>(
     rt: &R,
     alloc: Global,
@@ -79,13 +79,13 @@ fn get_step<R: Wait>(
     question: &Ask,
 ) -> Result<(), Memory>
     requires { block_awaited get.old ≢ None }
-    ensures { IfOk result (λ _. asks_left get.new.course < asks_left get.old.course) }
+    ensures { IfOk result (λ _. asks_left get.new.execution < asks_left get.old.execution) }
 {
     let answer = ring.ask(rt, alloc, node, question)?;
     get.heard(answer)
 }
 
-/// Puts that many blocks, the first of that number, and gives how many puts were acknowledged. The error is want of memory.
+/// Puts that many blocks, the first of that number, and gives how many puts were acknowledged. The error is: out of memory.
 pub fn put_all<R: Wait>(
     rt: &R,
     alloc: Global,
@@ -104,7 +104,7 @@ pub fn put_all<R: Wait>(
     Ok(acknowledged)
 }
 
-/// Gets that many blocks, the first of that number, and gives how many were found. The error is want of memory.
+/// Gets that many blocks, the first of that number, and gives how many were found. The error is: out of memory.
 pub fn get_all<R: Wait>(
     rt: &R,
     alloc: Global,
@@ -123,7 +123,7 @@ pub fn get_all<R: Wait>(
     Ok(found)
 }
 
-/// Whether a node is silent, by a mesh over the ring. The error is want of memory.
+/// Whether a node is silent, by a mesh over the ring. The error is: out of memory.
 pub fn is_silent<R: Wait>(
     rt: &R,
     alloc: Global,

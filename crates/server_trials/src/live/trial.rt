@@ -27,7 +27,7 @@ pub struct Told {
     pub found_later: (u32, u32),
 }
 
-/// Two threads put 20 blocks each. The error is want of memory.
+/// Two threads put 20 blocks each. The error is: out of memory.
 fn put_by_two<R: Threads + Wait + Sync>(
     rt: &R,
     alloc: Global,
@@ -41,7 +41,7 @@ fn put_by_two<R: Threads + Wait + Sync>(
     Ok((first?, second?))
 }
 
-/// Two threads get so many blocks each, all that were put. The error is want of memory.
+/// Two threads get so many blocks each, all that were put. The error is: out of memory.
 fn found_by_two<R: Threads + Wait + Sync>(
     rt: &R,
     alloc: Global,
@@ -62,7 +62,7 @@ fn found_by_two<R: Threads + Wait + Sync>(
     Ok((first?, second?))
 }
 
-/// One thread makes a round while the other puts 20 blocks. The error is want of memory.
+/// One thread makes a round while the other puts 20 blocks. The error is: out of memory.
 fn put_beside_round<R: Threads + Wait + Sync>(
     rt: &R,
     alloc: Global,
@@ -77,7 +77,7 @@ fn put_beside_round<R: Threads + Wait + Sync>(
     put
 }
 
-/// The whole trial. The error is want of memory.
+/// The whole trial. The error is: out of memory.
 pub fn run_trial<R: Threads + Wait + Sync>(rt: &R, alloc: Global) -> Result<Told, Memory> {
     let mut ring = LiveRing::make(rt, alloc, 5, 3)?;
     let put = put_by_two(rt, alloc, &ring)?;

@@ -5,4 +5,4 @@ pub returns-clause-read : goal.returns-clause-read
 returns-clause-read c = law.read_is_forest
 
 pub returns-clause-one : goal.returns-clause-one
-returns-clause-one c = law.forest_is_one
+returns-clause-one c = law.forest_is_unique

@@ -51,7 +51,7 @@ fn each_is_new(held: &[Record], more: &[Record]) -> bool
     true
 }
 
-/// Whether the new records are behind all held ones.
+/// Whether the new records are after all held ones.
 pub fn are_behind(held: &[Record], more: &[Record]) -> bool
     requires held { IsRow (records_of held.now) }
     requires more { IsRow (records_of more.now) }

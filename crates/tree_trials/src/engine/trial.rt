@@ -48,7 +48,7 @@ impl Drop for Trial {
 /// The records of a call.
 #[derive(Clone, Copy)]
 enum Call {
-    /// So many behind all others.
+    /// So many after all others.
     Behind(u32),
     /// None, wherever they go.
     Empty,
@@ -88,7 +88,7 @@ fn is_in_order(records: &[Record]) -> bool {
 }
 
 impl Trial {
-    /// With no records. The error is want of memory.
+    /// With no records. The error is: out of memory.
     pub fn new(alloc: Global) -> Result<Trial, Memory> {
         let tree = Tree::empty(alloc)?;
         let basis = Basis {
@@ -143,7 +143,7 @@ impl Trial {
         row
     }
 
-    // A row of so many records behind that number: two halves in one.
+    // A row of so many records after that number: two halves in one.
     fn row_behind(&mut self, line: &mut Line<'_>, last: u32, count: u32) -> Vec<Record>
         ensures { IsRow (records_of result.items) }
     {
@@ -161,7 +161,7 @@ impl Trial {
         }
     }
 
-    // A row of so many records behind all others.
+    // A row of so many records after all others.
     fn last_ones(&mut self, line: &mut Line<'_>, count: u32) -> Vec<Record>
         ensures { IsRow (records_of result.items) }
     {

@@ -27,7 +27,7 @@ fn renamed(line: &mut Line<'_>, block: &Block, old: &[Block], new: &[Block]) -> 
     bytes
 }
 
-/// The blocks, which stand behind those that they name, with another byte there in the one at that place, and each under its
+/// The blocks, which stand after those that they name, with another byte there in the one at that place, and each under its
 /// name.
 pub fn forged(line: &mut Line<'_>, blocks: &[Block], place: usize, at: usize) -> Vec<Block> {
     let mut all: Vec<Block> = Vec::new(line.alloc);

@@ -21,7 +21,7 @@ pub struct Grown {
 }
 
 impl Grown {
-    /// The root alone. The error is want of memory.
+    /// The root alone. The error is: out of memory.
     pub fn new(alloc: Global) -> Result<Grown, Memory> {
         let tree = Tree::empty(alloc)?;
         Ok(Grown { tree, count: 0 })
@@ -55,7 +55,7 @@ impl Grown {
         self.count += 1;
     }
 
-    /// A snapshot of it in that view, which covers what the root says. There is none where the root says nothing, and for want of
+    /// A snapshot of it in that view, which covers what the root says. There is none where the root says nothing, and when out of
     /// memory.
     pub fn snapshot(&self, alloc: Global, view: &View, covers: &[u8]) -> Option<Made> {
         match RootBlock::read(alloc, covers) {

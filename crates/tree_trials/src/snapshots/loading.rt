@@ -1,4 +1,4 @@
-//! A snapshot that is loaded from blocks, some of which may be lacking or spoilt.
+//! A snapshot that is loaded from blocks, some of which may be lacking or corrupted.
 
 ghost use Rattle.std.specs.Prelude.{◌≡◌, None, IfOk};
 ghost use Rattle.ivy_base.specs.Naming.{name};
@@ -20,7 +20,7 @@ use view_blocks::View;
 pub enum Wrong {
     Nothing,
     Lacks(usize),
-    Spoilt(usize, usize),
+    Corrupted(usize, usize),
 }
 
 /// What loading came to: a block that is missing or damaged, blocks that are no snapshot, or a basis, with the name of the root
@@ -83,7 +83,7 @@ fn came(line: &mut Line<'_>, blocks: &[Block], wrong: Wrong, key: &Key) -> Resul
     let mut bytes = line.copy_of(block.as_slice()).into_vec();
     match wrong {
         Wrong::Lacks(at) if at == place => return Err(missing(line.alloc, *key)),
-        Wrong::Spoilt(at, byte) if at == place => spoil(&mut bytes, byte),
+        Wrong::Corrupted(at, byte) if at == place => spoil(&mut bytes, byte),
         _ => {}
     }
     under(Bytes::of(bytes), key)

@@ -37,7 +37,7 @@ impl Drop for Trial {
     }
 }
 
-/// The view whose only member is the owner. The error is want of memory.
+/// The view whose only member is the owner. The error is: out of memory.
 fn only_view(alloc: Global) -> Result<View, Memory> {
     match View::make(alloc, &[OWNER], &[]) {
         Ok(view) => Ok(view),
@@ -55,7 +55,7 @@ fn filled(line: &mut Line<'_>, size: u32, value: u8) -> Bytes {
 }
 
 impl Trial {
-    /// The root alone. The error is want of memory.
+    /// The root alone. The error is: out of memory.
     pub fn new(alloc: Global) -> Result<Trial, Memory> {
         let view = only_view(alloc)?;
         let tree = Grown::new(alloc)?;

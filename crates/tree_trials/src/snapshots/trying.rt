@@ -76,7 +76,7 @@ impl<'a> Loads<'a> {
         let blocks = made.blocks.as_slice();
         match change {
             Change::Lack => self.load(line, blocks, Wrong::Lacks(place), made.root),
-            Change::Spoil => self.load(line, blocks, Wrong::Spoilt(place, at), made.root),
+            Change::Spoil => self.load(line, blocks, Wrong::Corrupted(place, at), made.root),
             Change::Forge => {
                 let forged = forged(line, blocks, place, at);
                 self.load_last(line, forged.as_slice());

@@ -2,7 +2,7 @@ use Rattle.std.proofs.Common.{List, subst}
 use Rattle.std.specs.Prelude.{IfOk}
 use Rattle.log_model.specs.Record.{Record}
 use Rattle.log_records.specs.Records.{records_of}
-use Rattle.causal_order.specs.AtHand.{IsNewPart}
+use Rattle.causal_order.specs.Available.{IsNewPart}
 use Rattle.causal_order.proofs.Beginning.{are_fetched, are_named, chains_are, have_own_owners}
 use Rattle.causal_order.proofs.part.closed_part.Goals as goal
 

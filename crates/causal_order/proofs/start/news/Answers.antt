@@ -1,7 +1,7 @@
 use Rattle.std.proofs.Common.{◌≡◌, ◌+◌, ◌<◌, ◌≤◌, ℕ, sym, ◌∙◌, subst, arith}
 use Rattle.log_model.specs.Closed.{log_of}
 use Rattle.log_records.specs.Records.{records_of}
-use Rattle.causal_order.specs.AtHand.{above, held_to}
+use Rattle.causal_order.specs.Available.{above, held_to}
 use Rattle.causal_order.proofs.Places.{base_is, places_count}
 use Rattle.causal_order.proofs.Starts.{all_new, let_go, none_new}
 use Rattle.causal_order.proofs.start.news.Goals as goal

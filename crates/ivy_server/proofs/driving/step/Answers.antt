@@ -5,15 +5,15 @@ use Rattle.ivy_server.proofs.driving.step.Goals as goal
 
 pub ask-requires-clause-awaited : goal.ask-requires-clause-awaited
 ask-requires-clause-awaited g c = ask_is_awaited (place_of (g.M.Mesh.owners_of_a_key c.args.mesh.now) (g.M.Mesh.made c.args.mesh.now) (g.T.Turns.view c.args.turns.now c.args.pass.now))
-    (record { session = c.args.session.now; cache = c.args.cache.now }) c.requires.under_way (record { session = c.next.new.self; cache = c.next.new.cache }) c.in-Ask.node c.in-Ask.question c.in-Ask.ensures.wanted
+    (record { session = c.args.session.now; cache = c.args.cache.now }) c.requires.in_progress (record { session = c.next.new.self; cache = c.next.new.cache }) c.in-Ask.node c.in-Ask.question c.in-Ask.ensures.wanted
 
 pub ask-requires-clause-data : goal.ask-requires-clause-data
 ask-requires-clause-data g c = ask_is_for_data (place_of (g.M.Mesh.owners_of_a_key c.args.mesh.now) (g.M.Mesh.made c.args.mesh.now) (g.T.Turns.view c.args.turns.now c.args.pass.now))
-    (record { session = c.args.session.now; cache = c.args.cache.now }) c.requires.under_way (record { session = c.next.new.self; cache = c.next.new.cache }) c.in-Ask.node c.in-Ask.question c.in-Ask.ensures.wanted
+    (record { session = c.args.session.now; cache = c.args.cache.now }) c.requires.in_progress (record { session = c.next.new.self; cache = c.next.new.cache }) c.in-Ask.node c.in-Ask.question c.in-Ask.ensures.wanted
 
 pub turn-requires-clause-may : goal.turn-requires-clause-may
 turn-requires-clause-may g c κs outlives = turn_may_be (place_of (g.M.Mesh.owners_of_a_key c.args.mesh.now) (g.M.Mesh.made c.args.mesh.now) (g.T.Turns.view c.args.turns.now c.args.pass.now))
-    (record { session = c.args.session.now; cache = c.args.cache.now }) c.requires.under_way (record { session = c.next.new.self; cache = c.next.new.cache }) c.in-Turn.refresh c.in-Turn.ensures.wanted
+    (record { session = c.args.session.now; cache = c.args.cache.now }) c.requires.in_progress (record { session = c.next.new.self; cache = c.next.new.cache }) c.in-Turn.refresh c.in-Turn.ensures.wanted
 
 pub returns-in-Ask-clause-steps : goal.returns-in-Ask-clause-steps
 returns-in-Ask-clause-steps g c = ask_steps _ (record { session = c.args.session.now; cache = c.args.cache.now }) (record { session = c.next.new.self; cache = c.next.new.cache })

@@ -1,6 +1,6 @@
 use Rattle.std.proofs.Common.{arith}
 use Rattle.std.proofs.lemmas.Result.{err_from_is_err_and}
-use Rattle.ivy_session.proofs.AtHand.{has_taken, lacks_block, leaves_no_more, takes_on}
+use Rattle.ivy_session.proofs.Available.{has_taken, lacks_block, leaves_no_more, takes_on}
 use Rattle.ivy_session.proofs.Taken.{none_yet}
 use Rattle.ivy_session.proofs.hand.take_all.Goals as goal
 

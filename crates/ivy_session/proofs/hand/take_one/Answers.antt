@@ -1,4 +1,4 @@
-use Rattle.ivy_session.proofs.AtHand.{is_named, is_wanted, nothing_at_hand, nothing_wanted, one_cached, one_pending}
+use Rattle.ivy_session.proofs.Available.{is_named, is_wanted, nothing_available, nothing_wanted, one_cached, one_pending}
 use Rattle.ivy_session.proofs.hand.take_one.Goals as goal
 
 pub give-requires : goal.give-requires
@@ -16,7 +16,7 @@ returns-in_default g c =
 
 pub returns-in_default-peek : goal.returns-in_default-peek
 returns-in_default-peek g c =
-    nothing_at_hand g.J.Judge.judges c.args.refresh.now c.take_pending.new.self c.args.cache.now c.in_ok-take_pending.field-0 c.in_ok-take_pending.ensures.taken c.if-branch.false c.in-Some.key c.in-Some.ensures c.in_default-peek.ensures.found
+    nothing_available g.J.Judge.judges c.args.refresh.now c.take_pending.new.self c.args.cache.now c.in_ok-take_pending.field-0 c.in_ok-take_pending.ensures.taken c.if-branch.false c.in-Some.key c.in-Some.ensures c.in_default-peek.ensures.found
 
 pub returns : goal.returns
 returns g c =

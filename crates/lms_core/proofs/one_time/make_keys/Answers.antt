@@ -1,6 +1,6 @@
 use Rattle.std.proofs.Common.{◌≡◌, ℕ, List, [], ◌∷◌, ◌++◌, ◌+◌, ◌<◌, slice_index_or, ◌∙◌, ap, refl, arith}
 use Rattle.sha2.specs.Hashers.{Holds256}
-use Rattle.hash_signature_model.specs.OneTime.{word, end_of, one_time_key}
+use Rattle.hash_signature_model.specs.OneTime.{u32_string, chain_end, one_time_key}
 use Rattle.hash_signature_model.specs.Parameters.{chains}
 use Rattle.sha256_lanes.proofs.LaneLemmas.{below_four}
 use Rattle.lms_core.specs.Kept.{at}
@@ -12,8 +12,8 @@ chains-init c =
     let key = c.args.key.now in
     let first = c.args.first in
     let none : first + 0 ≡ first = omega arith in
-    let front : ℕ → List ℕ = λ k. key.id ++ word (first + k) ++ 0x80 ∷ 0x80 ∷ [] in
-    let ends : ℕ → ℕ → List ℕ = λ k. end_of key.set.w key.id key.seed (first + k) in
+    let front : ℕ → List ℕ = λ k. key.id ++ u32_string (first + k) ++ 0x80 ∷ 0x80 ∷ [] in
+    let ends : ℕ → ℕ → List ℕ = λ k. chain_end key.set.w key.id key.seed (first + k) in
     record {
       hasher0 = before_values (Holds256 c.begin_key-hasher0.result) (front 0) (ends 0) (rw none c.begin_key-hasher0.ensures);
       hasher1 = before_values (Holds256 c.begin_key-hasher1.result) (front 1) (ends 1) c.begin_key-hasher1.ensures;
@@ -25,8 +25,8 @@ pub chains-preserved : goal.chains-preserved
 chains-preserved c =
     let key = c.args.key.now in
     let first = c.args.first in
-    let front : ℕ → List ℕ = λ k. key.id ++ word (first + k) ++ 0x80 ∷ 0x80 ∷ [] in
-    let ends : ℕ → ℕ → List ℕ = λ k. end_of key.set.w key.id key.seed (first + k) in
+    let front : ℕ → List ℕ = λ k. key.id ++ u32_string (first + k) ++ 0x80 ∷ 0x80 ∷ [] in
+    let ends : ℕ → ℕ → List ℕ = λ k. chain_end key.set.w key.id key.seed (first + k) in
     let ended : (k : ℕ) → k < 4 → at c.of-seeds.result k ≡ key.seed → at c.end_four.result k ≡ ends k c.chains.i = λ k below seed.
     c.end_four.ensures key.id first k c.heads_of-heads.ensures below ∙ rw seed refl in
     record {

@@ -1,6 +1,6 @@
 use Rattle.std.proofs.Common.{◌+◌, ◌/◌, ℕ, sym, ap, ◌∙◌, arith}
 use Rattle.hash_signature_model.specs.Parameters.{leaves}
-use Rattle.hash_signature_model.specs.Nodes.{beside}
+use Rattle.hash_signature_model.specs.Nodes.{sibling_of}
 use Rattle.hash_signature_model.proofs.Paths.{leaves_small, above_none, above_more}
 use Rattle.lms_core.specs.Kept.{at, path_in}
 use Rattle.lms_core.proofs.Pieces.{pushed, nothing_pushed}
@@ -23,5 +23,5 @@ levels-preserved c =
       small = omega arith;
       inside = omega arith;
       out_is = pushed c.args.out.now.items c.levels.out.items c.append.new.out.items _ (path_in c.args.nodes.now c.args.h c.args.leaf) c.levels._n c.in_ok-append.ensures
-          (ap (λ (n : ℕ). at c.args.nodes.now n) (c.number_beside.ensures.value ∙ ap beside c.levels.invariant.r_is)) c.levels.invariant.out_is;
+          (ap (λ (n : ℕ). at c.args.nodes.now n) (c.number_beside.ensures.value ∙ ap sibling_of c.levels.invariant.r_is)) c.levels.invariant.out_is;
     }

@@ -3,7 +3,7 @@ use Rattle.ring_model.specs.Circle.{number}
 use Rattle.dht_ids.specs.Peers.{place}
 use Rattle.ring_nodes.proofs.order.from_key.Given as goal
 
--- those behind the key so far
+-- those after the key so far
 abbrev pub invariant-behind : goal.invariant-behind
 invariant-behind l = l.peers.items ≡ filter (λ m. not (nat_lt (place m) (number l.key))) (take l.peer-index l.live)
 

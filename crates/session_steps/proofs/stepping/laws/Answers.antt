@@ -2,7 +2,7 @@ use Rattle.session_steps.proofs.stepping.laws.Goals as goal
 
 pub returns : goal.returns
 returns c = record {
-  one_call = c.scenes_go_on.ensures.call;
+  one_call = c.configurations_go_on.ensures.call;
   made = c.asked_nodes_are_made.ensures.next;
   asks = c.asks_are_steps.ensures;
   may_turn = c.turns_may_be.ensures.turn;

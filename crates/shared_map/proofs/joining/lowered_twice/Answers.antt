@@ -24,10 +24,10 @@ joined_on-requires g c =
     let away : c.on.result.now ≡ side_on (opposite c.args.on) c.args.at.now = c.on.ensures ∙ ap (λ i. side_on i c.args.at.now) c.other-away.ensures in
     let top = c.in-Some.ensures.top ∙ away in
     let inner : c.on-2.result.now ≡ side_on (opposite c.args.on) c.in-Some.inner.now = c.on-2.ensures ∙ ap (λ i. side_on i c.in-Some.inner.now) c.other-away.ensures in
-    let behind = of_side c.args.on (side_on (opposite c.args.on) c.in-Some.inner.now) c.args.other c.in_ok-other.other (c.args.key.now, c.args.value.now.value) c.on-2.result.now inner c.in_ok-other.ensures in
+    let after = of_side c.args.on (side_on (opposite c.args.on) c.in-Some.inner.now) c.args.other c.in_ok-other.other (c.args.key.now, c.args.value.now.value) c.on-2.result.now inner c.in_ok-other.ensures in
     let half = of_side c.args.on (side_on c.args.on c.args.at.now) c.on-4.result.now c.in_ok-side.side (c.args.at.now.key, c.args.at.now.value.value) c.on-3.result.now c.on-3.ensures c.in_ok-side.ensures in
     let before = of_other c.args.on (side_on c.args.on c.args.at.now) (side_on c.args.on c.in-Some.inner.now) c.in_ok-side.side (c.args.at.now.key, c.args.at.now.value.value) c.on-4.result.now c.on-4.ensures half in
-    let fits = twice_next c.args.on c.args.at.now (c.args.key.now, c.args.value.now.value) c.args.other c.requires.balanced c.requires.higher c.requires.few c.requires.leans c.in-Some.inner.now c.in-Some.ensures.balanced top c.in_ok-other.other c.in_ok-side.side behind before in
+    let fits = twice_next c.args.on c.args.at.now (c.args.key.now, c.args.value.now.value) c.args.other c.requires.balanced c.requires.higher c.requires.few c.requires.leans c.in-Some.inner.now c.in-Some.ensures.balanced top c.in_ok-other.other c.in_ok-side.side after before in
     record { level = fits.0; few = fits.1 }
 
 pub returns : goal.returns
@@ -35,7 +35,7 @@ returns g c =
     let away : c.on.result.now ≡ side_on (opposite c.args.on) c.args.at.now = c.on.ensures ∙ ap (λ i. side_on i c.args.at.now) c.other-away.ensures in
     let top = c.in-Some.ensures.top ∙ away in
     let inner : c.on-2.result.now ≡ side_on (opposite c.args.on) c.in-Some.inner.now = c.on-2.ensures ∙ ap (λ i. side_on i c.in-Some.inner.now) c.other-away.ensures in
-    let behind = of_side c.args.on (side_on (opposite c.args.on) c.in-Some.inner.now) c.args.other c.in_ok-other.other (c.args.key.now, c.args.value.now.value) c.on-2.result.now inner c.in_ok-other.ensures in
+    let after = of_side c.args.on (side_on (opposite c.args.on) c.in-Some.inner.now) c.args.other c.in_ok-other.other (c.args.key.now, c.args.value.now.value) c.on-2.result.now inner c.in_ok-other.ensures in
     let half = of_side c.args.on (side_on c.args.on c.args.at.now) c.on-4.result.now c.in_ok-side.side (c.args.at.now.key, c.args.at.now.value.value) c.on-3.result.now c.on-3.ensures c.in_ok-side.ensures in
     let before = of_other c.args.on (side_on c.args.on c.args.at.now) (side_on c.args.on c.in-Some.inner.now) c.in_ok-side.side (c.args.at.now.key, c.args.at.now.value.value) c.on-4.result.now c.on-4.ensures half in
-    twice_joined c.args.on c.args.at.now (c.args.key.now, c.args.value.now.value) c.args.other c.requires.balanced c.requires.higher c.requires.few c.requires.leans c.in-Some.inner.now c.in-Some.ensures.balanced top c.in_ok-other.other c.in_ok-side.side behind before c.joined_on.result c.joined_on.ensures
+    twice_joined c.args.on c.args.at.now (c.args.key.now, c.args.value.now.value) c.args.other c.requires.balanced c.requires.higher c.requires.few c.requires.leans c.in-Some.inner.now c.in-Some.ensures.balanced top c.in_ok-other.other c.in_ok-side.side after before c.joined_on.result c.joined_on.ensures

@@ -3,7 +3,7 @@ use Rattle.std.specs.List.{AllByRecursion}
 use Rattle.std.proofs.lemmas.Result.{IfOk-weaker}
 use Rattle.log_model.specs.Record.{Record}
 use Rattle.log_records.specs.Records.{records_of}
-use Rattle.causal_order.specs.AtHand.{IsLinked}
+use Rattle.causal_order.specs.Available.{IsLinked}
 use Rattle.causal_order.proofs.Beginning.{chains_are, have_own_owners}
 use Rattle.turn_taking.specs.Steps.{TakesOf}
 use Rattle.turn_taking.proofs.Brought.{brought_near, brought_whole}

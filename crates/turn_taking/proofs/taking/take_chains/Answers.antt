@@ -2,7 +2,7 @@ use Rattle.std.proofs.Common.{List, ap, subst, sym, ◌∙◌}
 use Rattle.log_model.specs.Record.{Record}
 use Rattle.log_records.specs.declared.batch.Chain.{Chain}
 use Rattle.log_records.specs.Records.{records_of}
-use Rattle.causal_order.specs.AtHand.{held_to}
+use Rattle.causal_order.specs.Available.{held_to}
 use Rattle.causal_order.specs.Started.{HaveOwnOwners}
 use Rattle.turn_taking.specs.Chains.{chains_in, new_of}
 use Rattle.turn_taking.specs.Steps.{AreNear, AreTaken, are_above, lacks_one}

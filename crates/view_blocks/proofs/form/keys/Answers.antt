@@ -16,5 +16,5 @@ returns-in_err-keys-clause-none c =
 pub returns-clause-some : goal.returns-clause-some
 returns-clause-some c =
     let front : IsFront IsWord word c.args.bytes.now c.in_ok-count.count c.u32.new.self = search rules in
-    let behind : IsFront (AreSoMany (IsBlock 60) c.in_ok-count.count) (flat_map as_it_stands) c.u32.new.self c.in_ok-keys.keys.now c.rest.result.now = search rules in
-    front_of_keys front behind
+    let after : IsFront (AreSoMany (IsBlock 60) c.in_ok-count.count) (flat_map as_it_stands) c.u32.new.self c.in_ok-keys.keys.now c.rest.result.now = search rules in
+    front_of_keys front after

@@ -22,12 +22,12 @@ returns-in-Err-Memory-clause-turned g c =
 
 pub returns-in-Err-Behind-clause-turned : goal.returns-in-Err-Behind-clause-turned
 returns-in-Err-Behind-clause-turned g c =
-    turned_behind g.J.Judge.judges c.args.self.now c.begin_anew.new.self c.args.turned c.in-Err-Behind.field-0 c.in-Err-Behind.standing c.in-Err-Behind.is c.in-Err-Behind.field-0-is c.begin_anew.ensures.turned
+    turned_behind g.J.Judge.judges c.args.self.now c.begin_again.new.self c.args.turned c.in-Err-Behind.field-0 c.in-Err-Behind.standing c.in-Err-Behind.is c.in-Err-Behind.field-0-is c.begin_again.ensures.turned
 
 pub returns-in-Err-BelowTide-clause-turned : goal.returns-in-Err-BelowTide-clause-turned
 returns-in-Err-BelowTide-clause-turned g c =
-    turned_below g.J.Judge.judges c.args.self.now c.begin_anew-in-Err-BelowTide.new.self c.args.turned c.in-Err-BelowTide.field-0 c.in-Err-BelowTide.standing c.in-Err-BelowTide.is c.in-Err-BelowTide.field-0-is
-    c.begin_anew-in-Err-BelowTide.ensures.turned
+    turned_below g.J.Judge.judges c.args.self.now c.begin_again-in-Err-BelowTide.new.self c.args.turned c.in-Err-BelowTide.field-0 c.in-Err-BelowTide.standing c.in-Err-BelowTide.is c.in-Err-BelowTide.field-0-is
+    c.begin_again-in-Err-BelowTide.ensures.turned
 
 pub returns-in-Err-Memory-clause-turning : goal.returns-in-Err-Memory-clause-turning
 returns-in-Err-Memory-clause-turning g c =
@@ -53,8 +53,8 @@ returns-in-Err-Memory-clause-cut g c =
     refused_whole c.args.self.now (record st { stage = c.lack.new.stage }) c.args.turned c.in-Err-Memory.field-0 c.in-Err-Memory.is (ap (λ (x : SessionState g.row.J.Denot). x.is_cut) c.self.view_is)
 
 pub returns-in-Err-Behind-clause-cut : goal.returns-in-Err-Behind-clause-cut
-returns-in-Err-Behind-clause-cut g c = refused_whole c.args.self.now c.begin_anew.new.self c.args.turned c.in-Err-Behind.field-0 c.in-Err-Behind.is c.begin_anew.ensures.cut
+returns-in-Err-Behind-clause-cut g c = refused_whole c.args.self.now c.begin_again.new.self c.args.turned c.in-Err-Behind.field-0 c.in-Err-Behind.is c.begin_again.ensures.cut
 
 pub returns-in-Err-BelowTide-clause-cut : goal.returns-in-Err-BelowTide-clause-cut
 returns-in-Err-BelowTide-clause-cut g c =
-    refused_whole c.args.self.now c.begin_anew-in-Err-BelowTide.new.self c.args.turned c.in-Err-BelowTide.field-0 c.in-Err-BelowTide.is c.begin_anew-in-Err-BelowTide.ensures.cut
+    refused_whole c.args.self.now c.begin_again-in-Err-BelowTide.new.self c.args.turned c.in-Err-BelowTide.field-0 c.in-Err-BelowTide.is c.begin_again-in-Err-BelowTide.ensures.cut

@@ -2,7 +2,7 @@ use Rattle.std.proofs.Common.{◌≡◌, [], length, sym, ap, ◌∙◌, subst, 
 use Rattle.std.proofs.lemmas.List.{get_or_default}
 use Rattle.hash_signature_model.specs.declared.keys.PrivateKey.{PrivateKey}
 use Rattle.hash_signature_model.specs.Parameters.{lms_type, ots_type, levels}
-use Rattle.hash_signature_model.specs.OneTime.{word}
+use Rattle.hash_signature_model.specs.OneTime.{u32_string}
 use Rattle.hash_signature_model.specs.Nodes.{root}
 use Rattle.hash_signature_model.specs.Signatures.{public_key, public_of}
 use Rattle.hash_signature_model.proofs.Paths.{length_node, leaves_some}
@@ -21,6 +21,6 @@ returns c =
     (ap length c.to_be_bytes.ensures) (ap length c.to_be_bytes-2.ensures) c.self.invariant.0 (ap length root_is ∙ length_node t.key.set t.key.id t.key.seed (levels t.key.set.h) 1)
     (c.put-4.auto.out ∙ (c.put-3.auto.out ∙ (c.put-2.auto.out ∙ c.put.auto.out)))
     c.put.ensures c.put-2.ensures c.put-3.ensures c.put-4.ensures in
-    let parts = four_parts_are c.to_be_bytes.result (word (lms_type t.key.set.h)) c.to_be_bytes-2.result (word (ots_type t.key.set.w)) t.key.id t.key.id c.index.result.now (root t.key.set t.key.id t.key.seed)
-    (c.to_be_bytes.ensures ∙ ap word c.type_number.ensures) (c.to_be_bytes-2.ensures ∙ ap word c.type_number-2.ensures) refl root_is in
+    let parts = four_parts_are c.to_be_bytes.result (u32_string (lms_type t.key.set.h)) c.to_be_bytes-2.result (u32_string (ots_type t.key.set.w)) t.key.id t.key.id c.index.result.now (root t.key.set t.key.id t.key.seed)
+    (c.to_be_bytes.ensures ∙ ap u32_string c.type_number.ensures) (c.to_be_bytes-2.ensures ∙ ap u32_string c.type_number-2.ensures) refl root_is in
     subst (λ (g : PrivateKey). c.put-4.new.out ≡ public_key (public_of g)) c.self.view_is (whole ∙ parts)

@@ -1,4 +1,4 @@
-use Rattle.play_trials.specs.UnderWay.{GoesOn, judges}
+use Rattle.play_trials.specs.InProgress.{GoesOn, judges}
 use Rattle.play_trials.proofs.sessions.driving.drive.Given as goal
 
 abbrev pub invariant-steps : goal.invariant-steps

@@ -1,5 +1,5 @@
 use Rattle.std.proofs.Common.{◌∙◌}
-use Rattle.play_trials.proofs.UnderWay.{standing_viewed}
+use Rattle.play_trials.proofs.InProgress.{standing_viewed}
 use Rattle.play_trials.proofs.sessions.driving.standing.Goals as goal
 
 pub returns-clause-view : goal.returns-clause-view

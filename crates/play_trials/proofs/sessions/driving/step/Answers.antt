@@ -1,6 +1,6 @@
 use Rattle.std.proofs.Common.{Option, sym, subst}
 use Rattle.log_model.specs.View.{View}
-use Rattle.play_trials.specs.UnderWay.{GoesOn, judges}
+use Rattle.play_trials.specs.InProgress.{GoesOn, judges}
 use Rattle.play_trials.proofs.sessions.driving.step.Goals as goal
 
 pub next-requires : goal.next-requires

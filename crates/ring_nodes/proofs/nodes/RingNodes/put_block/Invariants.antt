@@ -1,4 +1,4 @@
-use Rattle.dhash_client.specs.Course.{asks_left}
+use Rattle.dhash_client.specs.Execution.{asks_left}
 use Rattle.ring_nodes.proofs.WholePuts.{IsPutting}
 use Rattle.ring_nodes.proofs.nodes.RingNodes.put_block.Given as goal
 
@@ -7,4 +7,4 @@ abbrev pub invariant-asks : goal.invariant-asks
 invariant-asks g l = IsPutting (g.J.Judge.judges l.judge) l.fn.self l.fn.key l.fn.bytes l.replicas l.self l.put
 
 abbrev pub decreases-asks : goal.decreases-asks
-decreases-asks g l = asks_left l.put.course
+decreases-asks g l = asks_left l.put.execution

@@ -3,7 +3,7 @@ use Rattle.std.specs.Prelude.{find}
 use Rattle.std.specs.Str.{bytes_eq}
 use Rattle.script_model.specs.Messages.{Given, message_of}
 use Rattle.script_participants.specs.ParticipantState.{ParticipantState}
-use Rattle.session_steps.specs.Showing.{BeginsIn}
+use Rattle.session_steps.specs.Representing.{BeginsIn}
 use Rattle.world_model.specs.Calls.{sending_of}
 use Rattle.script_world.specs.PartsState.{HasParts, PartsState}
 use Rattle.script_world.specs.Running.{BeginsOf}

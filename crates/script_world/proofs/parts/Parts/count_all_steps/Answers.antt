@@ -3,24 +3,24 @@ use Rattle.std.specs.Prelude.{OnOk}
 use Rattle.script_participants.specs.ParticipantState.{ParticipantState}
 use Rattle.script_world.specs.contracts.parts.Parts.{the_view}
 use Rattle.script_world.specs.PartsState.{PartsState}
-use Rattle.script_world.specs.Running.{HasSceneIn, RunsOutIn}
-use Rattle.script_world.proofs.Going.{not_nobody, runs_kept, runs_lead, some_scene, then_kept, then_so}
+use Rattle.script_world.specs.Running.{HasConfigurationIn, RunsOutIn}
+use Rattle.script_world.proofs.Going.{not_nobody, runs_kept, runs_lead, some_configuration, then_kept, then_so}
 use Rattle.script_world.proofs.parts.Parts.count_all_steps.Goals as goal
 
 pub unreachable-requires : goal.unreachable-requires
-unreachable-requires g c = not_nobody _ c.args.name.now c.args.call.now (subst (λ (s : PartsState). HasSceneIn s c.args.name.now c.args.call.now) (sym c.self.view_is) c.requires.scene) (sym c.place_of.ensures ∙ c.in_default.is)
+unreachable-requires g c = not_nobody _ c.args.name.now c.args.call.now (subst (λ (s : PartsState). HasConfigurationIn s c.args.name.now c.args.call.now) (sym c.self.view_is) c.requires.configuration) (sym c.place_of.ensures ∙ c.in_default.is)
 
 pub run_out-went-requires : goal.run_out-went-requires
 run_out-went-requires g c =
-    some_scene (the_view c.self.inside) c.args.name.now c.args.call.now c.in-Some.place c.at-who.result.now (sym c.place_of.ensures ∙ c.in-Some.is) c.at-who.ensures.value
-    (subst (λ (s : PartsState). HasSceneIn s c.args.name.now c.args.call.now) (sym c.self.view_is) c.requires.scene)
+    some_configuration (the_view c.self.inside) c.args.name.now c.args.call.now c.in-Some.place c.at-who.result.now (sym c.place_of.ensures ∙ c.in-Some.is) c.at-who.ensures.value
+    (subst (λ (s : PartsState). HasConfigurationIn s c.args.name.now c.args.call.now) (sym c.self.view_is) c.requires.configuration)
 
 pub invariant_of-self : goal.invariant_of-self
 invariant_of-self g c =
     then_kept (set c.self.inside.participants c.in-Some.place c.run_out-went.new.who) c.end_steps.new.participants c.run_out-went.result c.end_steps.result c.self.inside.replicas c.self.inside.participants c.self.invariant c.end_steps.ensures.same
     c.run_out-went.ensures c.end_steps.ensures.kept c.end_steps.ensures.nobody
     (λ went. runs_kept (the_view c.self.inside) c.args.name.now c.args.call.now c.in-Some.place c.at-who.result.now (sym c.place_of.ensures ∙ c.in-Some.is) c.at-who.ensures.value
-    c.run_out-went.new.self c.run_out-went.new.nodes c.run_out-went.new.who c.run_out-went.new.met went (subst (λ (s : PartsState). HasSceneIn s c.args.name.now c.args.call.now) (sym c.self.view_is) c.requires.scene) c.self.invariant)
+    c.run_out-went.new.self c.run_out-went.new.nodes c.run_out-went.new.who c.run_out-went.new.met went (subst (λ (s : PartsState). HasConfigurationIn s c.args.name.now c.args.call.now) (sym c.self.view_is) c.requires.configuration) c.self.invariant)
 
 pub returns : goal.returns
 returns g c =
@@ -29,4 +29,4 @@ returns g c =
     (λ (ps : List ParticipantState). RunsOutIn c.args.name.now (the_view c.self.inside) c.args.call.now (record (the_view c.self.inside) { nodes = c.run_out-went.new.nodes; participants = ps; met = c.run_out-went.new.met }) c.run_out-went.new.self)
     c.end_steps.ensures.same c.run_out-went.ensures c.end_steps.ensures.kept
     (λ went. runs_lead (the_view c.self.inside) c.args.name.now c.args.call.now c.in-Some.place c.at-who.result.now (sym c.place_of.ensures ∙ c.in-Some.is) c.at-who.ensures.value
-    c.run_out-went.new.self c.run_out-went.new.nodes c.run_out-went.new.who c.run_out-went.new.met went (subst (λ (s : PartsState). HasSceneIn s c.args.name.now c.args.call.now) (sym c.self.view_is) c.requires.scene) c.self.invariant.apart))
+    c.run_out-went.new.self c.run_out-went.new.nodes c.run_out-went.new.who c.run_out-went.new.met went (subst (λ (s : PartsState). HasConfigurationIn s c.args.name.now c.args.call.now) (sym c.self.view_is) c.requires.configuration) c.self.invariant.apart))

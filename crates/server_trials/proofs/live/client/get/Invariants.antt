@@ -1,5 +1,5 @@
-use Rattle.dhash_client.specs.Course.{asks_left}
+use Rattle.dhash_client.specs.Execution.{asks_left}
 use Rattle.server_trials.proofs.live.client.get.Given as goal
 
 abbrev pub decreases-asks : goal.decreases-asks
-decreases-asks g l = asks_left l.get.course
+decreases-asks g l = asks_left l.get.execution

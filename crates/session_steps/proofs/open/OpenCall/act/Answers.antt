@@ -1,5 +1,5 @@
 use Rattle.std.proofs.Common.{Some, sym, ap, subst}
-use Rattle.session_steps.specs.Showing.{CallState, shown}
+use Rattle.session_steps.specs.Representing.{CallState, shown}
 use Rattle.session_steps.specs.Within.{IsArm}
 use Rattle.session_steps.proofs.Arms.{asks_arm, done_arm, on_ok, settles_arm, turns_arm}
 use Rattle.session_steps.proofs.Asks.{may_ask}
@@ -7,10 +7,10 @@ use Rattle.session_steps.proofs.Turns.{may_turn}
 use Rattle.session_steps.proofs.open.OpenCall.act.Goals as goal
 
 pub ask-requires : goal.ask-requires
-ask-requires g c = may_ask c.laws.ensures (shown c.args.self.now c.args.nodes.now c.args.who.now c.args.met.now c.args.now) c.requires.scene c.requires.untold c.next.new.self c.next.new.who c.in-Ask.node c.in-Ask.question c.in-Ask.ensures
+ask-requires g c = may_ask c.laws.ensures (shown c.args.self.now c.args.nodes.now c.args.who.now c.args.met.now c.args.now) c.requires.configuration c.requires.untold c.next.new.self c.next.new.who c.in-Ask.node c.in-Ask.question c.in-Ask.ensures
 
 pub turn-requires : goal.turn-requires
-turn-requires g c = may_turn c.laws.ensures (shown c.args.self.now c.args.nodes.now c.args.who.now c.args.met.now c.args.now) c.requires.scene c.requires.untold c.next.new.self c.next.new.who c.in-Turn.refresh c.in-Turn.ensures
+turn-requires g c = may_turn c.laws.ensures (shown c.args.self.now c.args.nodes.now c.args.who.now c.args.met.now c.args.now) c.requires.configuration c.requires.untold c.next.new.self c.next.new.who c.in-Turn.refresh c.in-Turn.ensures
 
 pub returns-in-Ask : goal.returns-in-Ask
 returns-in-Ask g c = on_ok c.ask.result

@@ -1,7 +1,7 @@
 use Rattle.std.proofs.Common.{Ok, sym, ap, ◌∙◌, subst}
 use Rattle.command_messages.specs.Reading.{GivesParts}
 use Rattle.script_model.specs.Messages.{Given}
-use Rattle.session_steps.specs.Showing.{CallState}
+use Rattle.session_steps.specs.Representing.{CallState}
 use Rattle.session_steps.proofs.Parts.{told_so}
 use Rattle.session_steps.proofs.open.OpenCall.answer.Goals as goal
 

@@ -1,6 +1,6 @@
 use Rattle.std.proofs.Common.{subst}
 use Rattle.log_fetch.specs.Standings.{standing_of}
-use Rattle.session_steps.specs.Showing.{BeginsIn}
+use Rattle.session_steps.specs.Representing.{BeginsIn}
 use Rattle.session_steps.proofs.Begun.{begins_in, none_to_load, same_call}
 use Rattle.session_steps.proofs.open.OpenCall.begin.Goals as goal
 

@@ -1,6 +1,6 @@
 use Rattle.std.proofs.Common.{Err, refl, ap}
 use Rattle.log_fetch.specs.declared.turned.TurnFault.TheVariants as fault
-use Rattle.session_steps.specs.Showing.{CallState}
+use Rattle.session_steps.specs.Representing.{CallState}
 use Rattle.session_steps.proofs.Parts.{told_so}
 use Rattle.session_steps.proofs.open.OpenCall.lack.Goals as goal
 

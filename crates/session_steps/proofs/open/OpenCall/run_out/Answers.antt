@@ -1,13 +1,13 @@
 use Rattle.std.proofs.Common.{sym}
-use Rattle.session_steps.specs.Showing.{shown}
-use Rattle.session_steps.proofs.Many.{not_told, reached_on_scene, reaches_end, reaches_on_first, reaches_on_next}
+use Rattle.session_steps.specs.Representing.{shown}
+use Rattle.session_steps.proofs.Many.{not_told, reached_on_configuration, reaches_end, reaches_on_first, reaches_on_next}
 use Rattle.session_steps.proofs.open.OpenCall.run_out.Goals as goal
 
 pub steps-init : goal.steps-init
 steps-init g c = reaches_on_first (shown c.args.self.now c.args.nodes.now c.args.who.now c.args.met.now c.args.now)
 
 pub step-requires : goal.step-requires
-step-requires g c = reached_on_scene (shown c.args.self.now c.args.nodes.now c.args.who.now c.args.met.now c.args.now) (shown c.steps.self c.steps.nodes c.steps.who c.steps.met c.args.now) c.requires c.steps.invariant
+step-requires g c = reached_on_configuration (shown c.args.self.now c.args.nodes.now c.args.who.now c.args.met.now c.args.now) (shown c.steps.self c.steps.nodes c.steps.who c.steps.met c.args.now) c.requires c.steps.invariant
 
 pub steps-smaller : goal.steps-smaller
 steps-smaller g c = c.in_ok-step.ensures.less (not_told c.steps.self (sym c.steps-test.ensures))

@@ -1,4 +1,4 @@
-use Rattle.session_steps.specs.Showing.{shown}
+use Rattle.session_steps.specs.Representing.{shown}
 use Rattle.session_steps.specs.Within.{ReachesOn, left_to}
 use Rattle.session_steps.proofs.open.OpenCall.run_out.Given as goal
 

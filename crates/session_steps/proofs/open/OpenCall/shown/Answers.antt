@@ -1,5 +1,5 @@
 use Rattle.std.proofs.Common.{◌∙◌, ap, sym}
-use Rattle.session_steps.specs.Showing.{CallState}
+use Rattle.session_steps.specs.Representing.{CallState}
 use Rattle.session_steps.proofs.Lines.{shown_so}
 use Rattle.session_steps.proofs.open.OpenCall.shown.Goals as goal
 

@@ -1,5 +1,5 @@
 use Rattle.std.proofs.Common.{sym}
-use Rattle.session_steps.specs.Showing.{shown}
+use Rattle.session_steps.specs.Representing.{shown}
 use Rattle.session_steps.proofs.Arms.{on_ok}
 use Rattle.session_steps.proofs.Ends.{is_told_stays}
 use Rattle.session_steps.proofs.open.OpenCall.step.Goals as goal

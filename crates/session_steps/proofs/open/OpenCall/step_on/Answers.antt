@@ -1,7 +1,7 @@
 use Rattle.std.proofs.Common.{◌≡◌, ◌+◌, ◌-◌, ℕ, suc, subst, arith}
-use Rattle.session_steps.specs.Showing.{shown}
+use Rattle.session_steps.specs.Representing.{shown}
 use Rattle.session_steps.specs.Within.{Reaches}
-use Rattle.session_steps.proofs.Many.{reached_scene, reaches_all, reaches_first, reaches_next}
+use Rattle.session_steps.proofs.Many.{reached_configuration, reaches_all, reaches_first, reaches_next}
 use Rattle.session_steps.proofs.open.OpenCall.step_on.Goals as goal
 
 pub steps-init : goal.steps-init
@@ -14,7 +14,7 @@ pub step-requires : goal.step-requires
 step-requires g c =
     let old = shown c.args.self.now c.args.nodes.now c.args.who.now c.args.met.now c.args.now in
     let some : c.args.count - c.steps.counter + c.steps.counter ≡ c.args.count = omega (arith, c.steps.auto.counter-end) in
-    reached_scene (c.args.count - c.steps.counter) c.args.count old (shown c.steps.self c.steps.nodes c.steps.who c.steps.met c.args.now) c.requires (c.steps.invariant (c.args.count - c.steps.counter) some)
+    reached_configuration (c.args.count - c.steps.counter) c.args.count old (shown c.steps.self c.steps.nodes c.steps.who c.steps.met c.args.now) c.requires (c.steps.invariant (c.args.count - c.steps.counter) some)
 
 pub steps-preserved : goal.steps-preserved
 steps-preserved g c left e =

@@ -1,5 +1,5 @@
 use Rattle.std.proofs.Common.{◌≡◌, ◌+◌, ℕ}
-use Rattle.session_steps.specs.Showing.{shown}
+use Rattle.session_steps.specs.Representing.{shown}
 use Rattle.session_steps.specs.Within.{Reaches}
 use Rattle.session_steps.proofs.open.OpenCall.step_on.Given as goal
 

@@ -1,6 +1,6 @@
 use Rattle.std.proofs.Common.{ap, sym, ◌∙◌}
 use Rattle.ivy_session.specs.States.{asked_at}
-use Rattle.session_steps.specs.Showing.{CallState}
+use Rattle.session_steps.specs.Representing.{CallState}
 use Rattle.session_steps.proofs.Parts.{anew_so, took_so}
 use Rattle.session_steps.proofs.open.OpenCall.take_turn.Goals as goal
 

@@ -1,8 +1,0 @@
-use Rattle.nfs_model.proofs.OneArguments.{read_one, one_arguments}
-use Rattle.nfs_model.proofs.arguments_are_one.Goals as goal
-
-pub returns-clause-fronts : goal.returns-clause-fronts
-returns-clause-fronts c = read_one
-
-pub returns-clause-whole : goal.returns-clause-whole
-returns-clause-whole c = one_arguments

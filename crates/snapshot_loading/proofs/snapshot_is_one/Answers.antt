@@ -1,5 +1,0 @@
-use Rattle.snapshot_loading.proofs.OneBasis as law
-use Rattle.snapshot_loading.proofs.snapshot_is_one.Goals as goal
-
-pub returns : goal.returns
-returns c = law.snapshot_is_one

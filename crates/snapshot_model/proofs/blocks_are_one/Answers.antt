@@ -1,5 +1,0 @@
-use Rattle.snapshot_model.proofs.OneBlock as one
-use Rattle.snapshot_model.proofs.blocks_are_one.Goals as goal
-
-pub returns : goal.returns
-returns c = one.blocks_are_one
