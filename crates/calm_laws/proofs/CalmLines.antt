@@ -13,6 +13,7 @@ use Rattle.calm_laws.proofs.CalmRuns.{some_command}
 use Rattle.world_laws.proofs.EachLine.{each_line_keeps}
 use Rattle.calm_laws.proofs.CalmRounds.{beside_goes, round_line}
 use Rattle.calm_laws.proofs.Durable.{acknowledged_is_readable, round_moves_blocks}
+use Rattle.calm_laws.proofs.PutsInRounds.{puts_in_rounds_are_readable}
 use Rattle.calm_laws.proofs.Runs.{facts_at, has_room}
 use Rattle.calm_laws.specs.CalmLines.{LinesAreServedWhereCalm}
 use Rattle.calm_laws.proofs.LogHeads.{calls_miss_nothing}
@@ -35,5 +36,7 @@ lines_are_served w line outcome does = record {
   };
   rounds = λ r since lines next output calm is goes m key lives.
       round_moves_blocks r w next.0 since lines calm (has_room w next output (command_of line) (does next output goes)) (round_of w line outcome does r since lines next output calm is goes) m key lives;
+  in_rounds = λ r since lines next output calm is goes.
+      puts_in_rounds_are_readable r w since lines next.0 calm (has_room w next output (command_of line) (does next output goes));
   takes_all = λ r count lines name pieces next output calm tidy keys entered none is goes. calls_take_all each_line_keeps (newest_are_put each_line_keeps) (received_heads_left each_line_keeps) r w next count lines line name output pieces calm tidy keys entered none is (does next output goes);
 }

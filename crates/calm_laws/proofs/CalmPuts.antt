@@ -2,7 +2,6 @@
 use Rattle.std.proofs.Common.{◌≡◌, ◌⊎◌, inl, inr, ⊎_elim, ℕ, Bool, true, false, cond, List, [], ◌∷◌, refl, nat_lt, Contains}
 use Rattle.std.specs.Prelude.{fold}
 use Rattle.ivy_base.specs.Naming.{name}
-use Rattle.ring_model.specs.Circle.{number}
 use Rattle.ring_model.specs.Members.{IsAmong}
 use Rattle.dhash_model.specs.Signed.{hss_judged}
 use Rattle.dhash_model.specs.Stores.{Block}

@@ -46,7 +46,7 @@ use Rattle.calm_laws.proofs.CalmStates.{IsMore}
 use Rattle.calm_laws.proofs.CalmRounds.{loses_none}
 use Rattle.world_laws.proofs.NewParticipant.{found_before}
 use Rattle.calm_laws.proofs.Finding.{old_or_last}
-use Rattle.calm_laws.proofs.BlockKinds.{AreApart, fewer_apart, one_kind}
+use Rattle.calm_laws.proofs.BlockKinds.{AreApart, IsOf, fewer_apart, one_kind}
 use Rattle.calm_laws.specs.Laws.{IsWithinLimit}
 use Rattle.calm_laws.proofs.Holding.{AreOrderly, IsOrderly, orderly_with}
 use Rattle.calm_laws.proofs.Stretches.{IsAckHeld, IsHeldSince, Stretch, own, since_now}
@@ -181,13 +181,28 @@ module _ (r : ℕ) (w next : World) (st : GhostState) (since : Since) (f : HasFa
   pub round_more : IsMore w next
   round_more = more_nodes w next (ap (λ (v : World). v.met) rest) (ap (λ (v : World). v.participants) rest)
 
-  then_facts : HasFacts r next (Stopped 0)
+  pub then_facts : HasFacts r next (Stopped 0)
   then_facts = round_facts r w next since f x
 
   pub rounded : AreApart w → IsWithinLimit w → AreOrderly w w → AfterRound r w w next
   rounded apart room orderly =
       let few = f.has.few in
       after_round r w w next f.has.nodes (omega (arith, few)) (then_facts.is_since.now refl) apart room orderly (loses_none w next f.has.none_lost) x
+
+  -- who holds something of that rank holds it of the kind that may stand there
+  pub held_as : AreApart w → AreOrderly w next → (key : Key) (kind : BlockKind) (bytes : List ℕ) → IsOf w key kind bytes → (least : ℕ) (m : Peer) → IsAtLeast least (option_map (block_rank hss_judged key) (held_in next key m)) → IsHeld next key kind least m
+  held_as apart orderly key kind bytes of least m h =
+      let now = held_at_least next key least m h in
+      (now.0, now.1, one_kind w apart key now.0.kind kind now.0.bytes bytes (held_of w next key m now.0 orderly now.1) of, now.2)
+
+  -- each key has an owner then
+  pub owner_then : (key : Key) → (m : Peer) × IsAmong m (owners place r (order_by (shapes_of next)) (number key))
+  owner_then key =
+      let ring = standing r 0 next then_facts in
+      let none_dead = ap length (filter_none (λ m. not (lives_by (shapes_of next) m)) (order_by (shapes_of next)) (all_from (λ m. not (lives_by (shapes_of next) m) ≡ false) (order_by (shapes_of next)) (λ m i. ap not (ring.covered.lives_all m i)))) in
+      let pos = ring.covered.positive in
+      let found = owner_lives place r (order_by (shapes_of next)) (lives_by (shapes_of next)) (number key) (omega (arith, none_dead, pos)) ring.someone (ring.covered.living ring.someone ring.lives) ring.lives in
+      (found.0, found.1)
 
   pub round_state : w.sessions ≡ [] → IsWithinLimit w → AreApart next → HoldsAll w st → IsStanding r 0 next st
   round_state none room apart h = record {
@@ -229,18 +244,12 @@ module _ (r : ℕ) (w next : World) (st : GhostState) (since : Since) (f : HasFa
               let moved = after.moved p.key (is_in (own_then p.key)) (is_in_tells (own_then p.key)) in
               let least = owners_hold (is_in (own_then p.key)) peer_or_not (block_rank hss_judged p.key (block_of p)) moved
               (inr (holder.0, order_in r w holder.0 f.has.nodes holder.1, at_least_held w p.key (kind_of p) (block_rank hss_judged p.key (block_of p)) holder.0 holder.2.held)) m owns in
-              let now = held_at_least next p.key (block_rank hss_judged p.key (block_of p)) m least in
               let was = holder.2.held in
-              let same = one_kind w apart_before p.key now.0.kind was.0.kind now.0.bytes was.0.bytes (held_of w next p.key m now.0 after.orderly now.1) (held_of w w p.key holder.0 was.0 h.orderly was.1) in
-              record { held = (now.0, now.1, same ∙ was.2, now.2); met = round_more.met p.bytes holder.2.met; named = holder.2.named }
+              let of : IsOf w p.key (kind_of p) was.0.bytes = subst (λ k. IsOf w p.key k was.0.bytes) was.2 (held_of w w p.key holder.0 was.0 h.orderly was.1) in
+              record { held = held_as apart_before after.orderly p.key (kind_of p) was.0.bytes of (block_rank hss_judged p.key (block_of p)) m least; met = round_more.met p.bytes holder.2.met; named = holder.2.named }
 
           one : (m : Peer) × IsAmong m (own on p.key)
-          one =
-              let ring = standing r 0 next then_facts in
-              let none_dead = ap length (filter_none (λ m. not (lives_by (shapes_of next) m)) (order_by (shapes_of next)) (all_from (λ m. not (lives_by (shapes_of next) m) ≡ false) (order_by (shapes_of next)) (λ m i. ap not (ring.covered.lives_all m i)))) in
-              let pos = ring.covered.positive in
-              let found = owner_lives place r (order_by (shapes_of next)) (lives_by (shapes_of next)) (number p.key) (omega (arith, none_dead, pos)) ring.someone (ring.covered.living ring.someone ring.lives) ring.lives in
-              (found.0, found.1)
+          one = owner_then p.key
 
 -- ---- a node joins
 

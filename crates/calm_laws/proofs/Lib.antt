@@ -20,6 +20,7 @@ pub mod SnapLines
 pub mod ViewLines
 pub mod KeysStay
 pub mod RoundPuts
+pub mod PutsInRounds
 pub mod RingLines
 pub mod BackedLines
 pub mod Walks

@@ -71,10 +71,10 @@ for_data Head key bytes = tt
 module _ (r : ℕ) (base : List Shape) (planned : List ℕ) (start last : ℕ) (b : IsBase r base planned start last) (links : Peer → Links Peer)
     (settled : IsSettledRing place r 160 (order_by base) (lives_by base) links) (few : length (made_by base) ≤ 512) (end : World) (apart : AreApart end) (room : IsWithinLimit end) where
   -- the worlds within the fourth part
-  record IsRepairing (w : World) : Type 0 where
-    within : IsWithin base planned start w
-    linked : links_in w ≡ links
-    orderly : AreOrderly end w
+  pub record IsRepairing (w : World) : Type 0 where
+    pub within : IsWithin base planned start w
+    pub linked : links_in w ≡ links
+    pub orderly : AreOrderly end w
 
   abbrev all_from_key : Key → List Peer
   all_from_key key = from_place place (order_by base) (number key)
@@ -199,7 +199,7 @@ module _ (r : ℕ) (base : List Shape) (planned : List ℕ) (start last : ℕ) (
 
   -- ---- a node's part, and all nodes
 
-  repaired : (p : Peer) (w next : World) → IsRepairing w → lives_by base p ≡ true → (x : Repairs hss_judged r w p next) → next.asked ≤ last → AllTaken x.puts × IsRepairing next
+  pub repaired : (p : Peer) (w next : World) → IsRepairing w → lives_by base p ≡ true → (x : Repairs hss_judged r w p next) → next.asked ≤ last → AllTaken x.puts × IsRepairing next
   repaired p w next h lives x quiet =
       let asked : next.asked ≡ x.mid.asked = ap (λ (v : World). v.asked) x.drops in
       let before = h.orderly p.id x.before x.is_before in
@@ -217,7 +217,7 @@ module _ (r : ℕ) (base : List Shape) (planned : List ℕ) (start last : ℕ) (
         },
       )
 
-  all_repaired : (w next : World) (ps : List Peer) → IsRepairing w → ((p : Peer) → IsAmong p ps → lives_by base p ≡ true) → (x : EachDoes (Repairs hss_judged r) w ps next) → next.asked ≤ last → EachTaken x × IsRepairing next
+  pub all_repaired : (w next : World) (ps : List Peer) → IsRepairing w → ((p : Peer) → IsAmong p ps → lives_by base p ≡ true) → (x : EachDoes (Repairs hss_judged r) w ps next) → next.asked ≤ last → EachTaken x × IsRepairing next
   all_repaired w next [] h lives done quiet = (tt, h)
   all_repaired w next (p ∷ ps) h lives (then_does {mid = mid} first rest) quiet =
       let grown = of_each hss_judged (Repairs hss_judged r) (λ v u q f. of_repairs hss_judged r v u q f) mid next ps rest in

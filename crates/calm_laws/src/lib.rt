@@ -8,6 +8,8 @@
 //! - Few nodes stop between two rounds, and a round moves each block to its owners ([`rounds_move_all_blocks`]).
 //!   So the ring stays ([`rings_stay`]), and an owner of its key holds each post of which a put was acknowledged,
 //!   or a newer head. A get gives it ([`acknowledged_is_readable`]).
+//! - So it is after a round of each block of which a put of the round was acknowledged. The node that put it
+//!   held it.
 //! - Records are put before the head that names them, and the head only where each of them was acknowledged.
 //!   In a round nodes put only what they hold.
 //! - So of each head that a node holds, also of a stopped one, all records were put. So were all that an
@@ -24,8 +26,8 @@
 //!
 //! Definitions and statements, in reading order:
 //! - `specs/Calm.antt`: calm scripts;
-//! - `specs/Readable.antt`: the ring stays, a post can be read, a round moves blocks; `specs/Laws.antt`: the laws
-//!   of these;
+//! - `specs/Readable.antt`: the ring stays, a post can be read, a round moves blocks, and what was
+//!   acknowledged to its own puts can be read; `specs/Laws.antt`: the laws of these;
 //! - `specs/Put.antt` and `specs/Completeness.antt`: no call misses a block; tidy scripts;
 //! - `specs/Takes.antt`: newest heads, those that are received, and that a turn takes all;
 //! - `specs/CalmLines.antt`: what holds of each line.
@@ -43,7 +45,8 @@
 //!   each step and each line keeps that;
 //! - `proofs/Repairs.antt` and `proofs/Moved.antt`: rounds; `proofs/Facts.antt`: the ring, line by line;
 //!   `proofs/Worlds.antt`, `proofs/Changes.antt` and `proofs/Runs.antt`: what holds as nodes stop and join;
-//! - `proofs/Gets.antt`, `proofs/Given.antt` and `proofs/Durable.antt`: gets, and the laws.
+//! - `proofs/Gets.antt`, `proofs/Given.antt` and `proofs/Durable.antt`: gets, and the laws;
+//!   `proofs/PutsInRounds.antt`: what a round put.
 //!
 //! Lemmas on what was put:
 //! - `proofs/UpTo.antt`: records up to a head; `proofs/HeldHeads.antt`: asks; `proofs/Stages.antt`: sessions
@@ -129,7 +132,8 @@ pub fn logs_have_heads()
 {}
 
 /// Law: say that a world was reached calmly. Then every block whose put was acknowledged is stored and can be
-/// read. A line that is a call and goes on misses nothing, and a round moves each block to its owners.
+/// read. A line that is a call and goes on misses nothing, and a round moves each block to its owners. Each
+/// block of which a put of the round was acknowledged is stored after it and can be read.
 pub fn lines_are_served_where_calm()
     ensures { LinesAreServedWhereCalm }
 {}
