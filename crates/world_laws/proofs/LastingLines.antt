@@ -98,7 +98,7 @@ module _ (P : HssAgent → Keeper → Type 0) (lasts : IsLasting P) where
       by false = all.0
 
   -- who is found by a name
-  found_lasting : (w : World) (name : List ℕ) (p : Participant) → participant w name ≡ Some p → AllLast w.participants → Lasts p
+  pub found_lasting : (w : World) (name : List ℕ) (p : Participant) → participant w name ≡ Some p → AllLast w.participants → Lasts p
   found_lasting w name p is all = each Lasts w.participants p all (found_named w.participants name p is).0
 
   -- ---- sessions
@@ -106,7 +106,7 @@ module _ (P : HssAgent → Keeper → Type 0) (lasts : IsLasting P) where
   still_lasting : (w next : World) → next.participants ≡ w.participants → AllLast w.participants → AllLast next.participants
   still_lasting w next same all = subst AllLast (sym same) all
 
-  move_lasting : (r : ℕ) (name : List ℕ) (c next : Configuration) → Move hss_judged r name c next → AllLast c.world.participants → AllLast next.world.participants
+  pub move_lasting : (r : ℕ) (name : List ℕ) (c next : Configuration) → Move hss_judged r name c next → AllLast c.world.participants → AllLast next.world.participants
   move_lasting r name c _ (takes p taken cache is taking) all = placed_lasting (record p { cache = cache }) c.world.participants (found_lasting c.world name p is all) all
   move_lasting r name c _ (asks node question answer next fate) all = still_lasting c.world next (fate_same fate) all
   move_lasting r name c _ (hears p node question answer next heard t cache is fate hearing goes) all =
@@ -133,7 +133,7 @@ module _ (P : HssAgent → Keeper → Type 0) (lasts : IsLasting P) where
       by true = all
       by false = all
 
-  later_lasts : {k : Command} (w next : Played) → LaterEffect hss_judged w k next → LastIn w → LastIn next
+  pub later_lasts : {k : Command} (w next : Played) → LaterEffect hss_judged w k next → LastIn w → LastIn next
   later_lasts w _ (publishes k alone r p end ringed is over on) all = moves_lasting (runs_move on) all
   later_lasts w _ (replies k ended said) all = replied_lasting w.0 said all
 
@@ -171,7 +171,7 @@ module _ (P : HssAgent → Keeper → Type 0) (lasts : IsLasting P) where
     played_lasts (steps name count s end is going) on = on all
     played_lasts (ends name s end is runs over) on = on all
 
-    effect_lasts : {k : Command} → Fits k → SnapsOrNot P k → (next : Played) → Effect hss_judged w k next → LastIn next
+    pub effect_lasts : {k : Command} → Fits k → SnapsOrNot P k → (next : Played) → Effect hss_judged w k next → LastIn next
     effect_lasts fits snaps_so _ (shows _ is) = all
     effect_lasts fits snaps_so _ (times sec nsec) = all
     effect_lasts fits snaps_so _ (loses count) = all

@@ -102,6 +102,10 @@ pub mod NoSnapshotLines
 pub mod SnapBounds
 pub mod SnapSpelled
 pub mod SnapCounts
+mod TreeBytes
+mod SnapBytes
+mod MetBytes
+mod SnapRoom
 pub mod SnapLines
 pub mod EachLine
 pub mod Moves

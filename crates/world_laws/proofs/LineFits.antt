@@ -1,6 +1,6 @@
 -- A line that makes a view names a member, and one that begins a log a key that can be saved.
 use Rattle.std.proofs.Common.{◌≡◌, ◌≢◌, ℕ, ◌^◌, Bool, true, false, cond, List, [], ◌∷◌, length, Option, Some, None, refl, ap, ◌∙◌, subst, arith, nat_lt}
-use Rattle.std.specs.Prelude.{◌==◌, IfSome, codes}
+use Rattle.std.specs.Prelude.{◌==◌, IfSome, IsTrue, codes}
 use Rattle.std.specs.List.{AllByRecursion}
 use Rattle.std.specs.Str.{bytes_eq}
 use Rattle.std.proofs.lemmas.List.Splits.{length-slice_split}
@@ -13,7 +13,7 @@ use Rattle.script_model.specs.Lines.{as_of, at_of, call_command, command_of, com
 use Rattle.script_model.specs.Words.{◌>>=◌, byte_of, each_of, hex_bytes, key_of, name_of, names_of, node_word_of, number_below, parts_at, piece_of, sets_of, words_of}
 use Rattle.world_model.specs.Logs.{fresh_signer}
 use Rattle.world_laws.proofs.LineKeys.{key_is_signer}
-use Rattle.world_laws.proofs.PieceBytes.{IsOfBytes, pieces_are}
+use Rattle.world_laws.proofs.PieceBytes.{IsOfBytes, byte_is, pieces_are}
 
 -- what a line's command fits: its pieces are of bytes
 abbrev pub Fits : Command → Type 0
@@ -23,27 +23,40 @@ Fits (command.As log pieces) = AllByRecursion IsOfBytes pieces
 Fits (command.Open session log pieces) = AllByRecursion IsOfBytes pieces
 Fits _ = Unit {0}
 
+-- the same, and the byte by which a block is damaged is one
+abbrev pub FitsWholly : Command → Type 0
+FitsWholly (command.View view members former) = members ≢ []
+FitsWholly (command.Log log id seed sets) = IsSigner (fresh_signer id seed sets)
+FitsWholly (command.As log pieces) = AllByRecursion IsOfBytes pieces
+FitsWholly (command.Open session log pieces) = AllByRecursion IsOfBytes pieces
+FitsWholly (command.Damage node key offset byte) = IsTrue (nat_lt byte 256)
+FitsWholly _ = Unit {0}
+
+fits_so : (c : Command) → FitsWholly c → Fits c
+fits_so (command.Damage node key offset byte) h = tt
+fits_so _ h = h
+
 abbrev SomeFits : Option Command → Type 0
-SomeFits o = IfSome o Fits
+SomeFits o = IfSome o FitsWholly
 
 -- ---- values one after the other
 
-fits1 : {A : Type 0} (o : Option A) (make : A → Command) → ((x : A) → Fits (make x)) → SomeFits (o >>= λ x. Some (make x))
+fits1 : {A : Type 0} (o : Option A) (make : A → Command) → ((x : A) → FitsWholly (make x)) → SomeFits (o >>= λ x. Some (make x))
 fits1 None make h = tt
 fits1 (Some x) make h = h x
 
-fits2 : {A B : Type 0} (o : Option A) (p : Option B) (make : A → B → Command) → ((x : A) (y : B) → p ≡ Some y → Fits (make x y)) → SomeFits (o >>= λ x. p >>= λ y. Some (make x y))
+fits2 : {A B : Type 0} (o : Option A) (p : Option B) (make : A → B → Command) → ((x : A) (y : B) → p ≡ Some y → FitsWholly (make x y)) → SomeFits (o >>= λ x. p >>= λ y. Some (make x y))
 fits2 None p make h = tt
 fits2 (Some x) None make h = tt
 fits2 (Some x) (Some y) make h = h x y refl
 
-fits3 : {A B C : Type 0} (o : Option A) (p : Option B) (q : Option C) (make : A → B → C → Command) → ((x : A) (y : B) (z : C) → p ≡ Some y → q ≡ Some z → Fits (make x y z)) → SomeFits (o >>= λ x. p >>= λ y. q >>= λ z. Some (make x y z))
+fits3 : {A B C : Type 0} (o : Option A) (p : Option B) (q : Option C) (make : A → B → C → Command) → ((x : A) (y : B) (z : C) → p ≡ Some y → q ≡ Some z → FitsWholly (make x y z)) → SomeFits (o >>= λ x. p >>= λ y. q >>= λ z. Some (make x y z))
 fits3 None p q make h = tt
 fits3 (Some x) None q make h = tt
 fits3 (Some x) (Some y) None make h = tt
 fits3 (Some x) (Some y) (Some z) make h = h x y z refl refl
 
-fits4 : {A B C D : Type 0} (o : Option A) (p : Option B) (q : Option C) (r : Option D) (make : A → B → C → D → Command) → ((x : A) (y : B) (z : C) (u : D) → p ≡ Some y → q ≡ Some z → r ≡ Some u → Fits (make x y z u)) → SomeFits (o >>= λ x. p >>= λ y. q >>= λ z. r >>= λ u. Some (make x y z u))
+fits4 : {A B C D : Type 0} (o : Option A) (p : Option B) (q : Option C) (r : Option D) (make : A → B → C → D → Command) → ((x : A) (y : B) (z : C) (u : D) → p ≡ Some y → q ≡ Some z → r ≡ Some u → FitsWholly (make x y z u)) → SomeFits (o >>= λ x. p >>= λ y. q >>= λ z. r >>= λ u. Some (make x y z u))
 fits4 None p q r make h = tt
 fits4 (Some x) None q r make h = tt
 fits4 (Some x) (Some y) None r make h = tt
@@ -142,7 +155,7 @@ damage_fits [] = tt
 damage_fits (n ∷ []) = tt
 damage_fits (n ∷ k ∷ []) = tt
 damage_fits (n ∷ k ∷ o ∷ []) = tt
-damage_fits (n ∷ k ∷ o ∷ b ∷ []) = fits4 (node_word_of n) (key_of k) (number_below (2 ^ 64) o) (byte_of b) (λ x y z u. command.Damage x y z u) (λ x y z u e f g. tt)
+damage_fits (n ∷ k ∷ o ∷ b ∷ []) = fits4 (node_word_of n) (key_of k) (number_below (2 ^ 64) o) (byte_of b) (λ x y z u. command.Damage x y z u) (λ x y z u e f g. byte_is b u g)
 damage_fits (n ∷ k ∷ o ∷ b ∷ w ∷ ws) = tt
 
 keep_fits : (ws : List (List ℕ)) → SomeFits (keep_of ws)
@@ -152,12 +165,12 @@ keep_fits (p ∷ k ∷ []) = tt
 keep_fits (p ∷ k ∷ w ∷ []) = fits3 (name_of p) (number_below (2 ^ 64) k) (kept_word_of w) (λ x y z. command.Keep x y z) (λ x y z e f. tt)
 keep_fits (p ∷ k ∷ w ∷ v ∷ ws) = tt
 
-of_node_fits : (make : NodeWord → Command) → ((node : NodeWord) → Fits (make node)) → (ws : List (List ℕ)) → SomeFits (of_node make ws)
+of_node_fits : (make : NodeWord → Command) → ((node : NodeWord) → FitsWholly (make node)) → (ws : List (List ℕ)) → SomeFits (of_node make ws)
 of_node_fits make h [] = tt
 of_node_fits make h (n ∷ []) = fits1 (node_word_of n) make h
 of_node_fits make h (n ∷ w ∷ ws) = tt
 
-of_log_fits : (make : List ℕ → Command) → ((log : List ℕ) → Fits (make log)) → (ws : List (List ℕ)) → SomeFits (of_log make ws)
+of_log_fits : (make : List ℕ → Command) → ((log : List ℕ) → FitsWholly (make log)) → (ws : List (List ℕ)) → SomeFits (of_log make ws)
 of_log_fits make h [] = tt
 of_log_fits make h (p ∷ []) = fits1 (name_of p) make h
 of_log_fits make h (p ∷ w ∷ ws) = tt
@@ -207,6 +220,9 @@ line_fits : (line : List ℕ) → SomeFits (command_of line)
 unfolding command_of
 line_fits line = choose_fits ((nat_lt line_limit (length line), None) ∷ (is_comment line, Some command.Nothing) ∷ []) (command_of_words (words_of line)) (tt, (tt, tt)) (words_fit (words_of line))
 
--- the command that a line is fits
+-- the command that a line is fits, wholly
+pub command_fits_wholly : (line : List ℕ) (c : Command) → command_of line ≡ Some c → FitsWholly c
+command_fits_wholly line c is = subst SomeFits is (line_fits line)
+
 pub command_fits : (line : List ℕ) (c : Command) → command_of line ≡ Some c → Fits c
-command_fits line c is = subst SomeFits is (line_fits line)
+command_fits line c is = fits_so c (command_fits_wholly line c is)

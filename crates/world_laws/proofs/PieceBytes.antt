@@ -62,7 +62,7 @@ one_value [] one h = absurd (omega (arith, one))
 one_value (b ∷ []) one h = (let same : b ≡ 0 * 256 + b = omega arith in subst (λ (n : ℕ). IsTrue (nat_lt n 256)) same (both_true (nat_lt b 256) true h).0)
 one_value (b ∷ c ∷ bytes) one h = absurd (omega (arith, one))
 
-byte_is : (word : List ℕ) (byte : ℕ) → byte_of word ≡ Some byte → IsTrue (nat_lt byte 256)
+pub byte_is : (word : List ℕ) (byte : ℕ) → byte_of word ≡ Some byte → IsTrue (nat_lt byte 256)
 byte_is word byte e = by (length word == 2 && list_all is_lower_hex word) refl e
   where
     of_bytes : (o : Option (List ℕ)) → ((bytes : List ℕ) → o ≡ Some bytes → (length bytes ≡ 1) × AreBytes bytes) → (o >>= λ bytes. Some (fold (λ n b. n * 256 + b) 0 bytes)) ≡ Some byte → IsTrue (nat_lt byte 256)

@@ -287,7 +287,7 @@ some_bytes a b e = cc e
 its_own_record : (signer : Signer) (now : Moment) → own_reach (opened signer now) ≡ 1
 its_own_record signer now = (let key : Key = head_key_of (own_hss_key (opened signer now)) in ap (λ (b : Bool). reach (cond b (Some (own_entry (opening (own_key hss_signing signer) now)).1) None)) (ties key key refl))
 
-space_lasts : IsLasting HasSpace
+pub space_lasts : IsLasting HasSpace
 space_lasts = record {
   turns = taking_few;
   settles = settled_few;
@@ -378,7 +378,7 @@ module _ (a : HssAgent) (root : Key) (blocks : List (List ℕ)) (apart : AreApar
     blocks = subst AreApart (sym their_blocks) (apart_both old new few.blocks new_apart none_pending);
   }
 
-space_snaps : LastsSnaps HasSpace
+pub space_snaps : LastsSnaps HasSpace
 space_snaps a y view space spelled =
     let root : Key = root_name view (basis_of a.holding) in
     let blocks : List (List ℕ) = snapshot_blocks view (basis_of a.holding) in

@@ -69,8 +69,12 @@ module _ (view : View) (well : IsView view) (keys : HasKeys view) (s : List Reco
       let c = within r (here r rs) in
       fronts_spelled rs (λ q d. within q (there r rs q d)) (join v (full_vector r)) (records_spelled view well r.owner (owned r c) v (r ∷ []) h (good_of view s r closed c, tt))
 
+  -- its front is of the view's logs
+  pub front_in_view : IsSpelledIn view (front s)
+  front_in_view = fronts_spelled s (λ r c. c) [] (record { spelled = record { each = tt; in_order = refl; short = omega arith }; named = tt })
+
   front_spelled : IsVectorSpelled (front s)
-  front_spelled = (fronts_spelled s (λ r c. c) [] (record { spelled = record { each = tt; in_order = refl; short = omega arith }; named = tt })).spelled
+  front_spelled = front_in_view.spelled
 
   -- ---- bases
 

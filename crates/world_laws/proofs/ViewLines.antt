@@ -66,12 +66,12 @@ acked_keep w st acked keeps = world_changes (w, st) (record (no_changes (w, st))
 pub own_is_key : (w : Played) → Invariant w → (p : Participant) → Contains w.0.participants p → IsPubKey (own p.agent)
 own_is_key w keeps p among = owner_is_key p.agent.signer (each (IsKeptSo IsSavedWell) w.0.participants p keeps.saved among).3.agent.signer
 
-record AreOwn (w : World) (names : List (List ℕ)) (keys : List PubKey) : Type 0 where
-  each_is_key : AllByRecursion IsPubKey keys
+pub record AreOwn (w : World) (names : List (List ℕ)) (keys : List PubKey) : Type 0 where
+  pub each_is_key : AllByRecursion IsPubKey keys
   as_many : length keys ≡ length names
   owned : AllByRecursion (Contains (map (λ (p : Participant). own p.agent) w.participants)) keys
 
-own_keys : (w : Played) → Invariant w → (names : List (List ℕ)) (keys : List PubKey) → keys_of w.0 names ≡ Some keys → AreOwn w.0 names keys
+pub own_keys : (w : Played) → Invariant w → (names : List (List ℕ)) (keys : List PubKey) → keys_of w.0 names ≡ Some keys → AreOwn w.0 names keys
 own_keys w keeps [] keys is = subst (AreOwn w.0 []) (same [] keys is) (record { each_is_key = tt; as_many = refl; owned = tt })
   where
     same : (a b : List PubKey) → Some a ≡ Some b → a ≡ b

@@ -9,5 +9,6 @@ pub mod Messages
 pub mod Frames
 pub mod FullTurns
 pub mod FullRuns
+pub mod SnapRoom
 pub mod Moves
 pub mod Effects

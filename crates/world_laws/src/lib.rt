@@ -12,6 +12,7 @@
 //! - `specs/Messages.antt`: each message is one thing, and one thing becomes of it;
 //! - `specs/FullTurns.antt`: turns that exist;
 //! - `specs/FullRuns.antt`: the run in which memory never runs out;
+//! - `specs/SnapRoom.antt`: snapshots that can be saved;
 //! - `specs/Frames.antt`: what may change in a world while the invariant stays;
 //! - `specs/Effects.antt`: what a command leaves of a world, and `specs/Moves.antt`: a session's step;
 //! - `specs/NoKeys.antt`: which blocks may be public keys.
@@ -52,6 +53,10 @@
 //! - `proofs/SnapBounds.antt` and `proofs/SnapSpelled.antt`: what a closed set stands for, and what an agent
 //!   holds, has a spelling as a snapshot. `proofs/SpelledPosts.antt`: what would be saved of it has one or has
 //!   none, and it is known which. `proofs/SnapCounts.antt`: it has fewer posts than a word counts.
+//! - `proofs/TreeBytes.antt`: the tree of records whose blocks are bytes has bytes;
+//!   `proofs/SnapBytes.antt`: a snapshot's blocks are bytes, and each is so many that a word counts them;
+//!   `proofs/MetBytes.antt`: the blocks met are bytes;
+//!   `proofs/SnapRoom.antt`: what is to be saved of a snapshot has a spelling.
 //!
 //! That something can be done (progress):
 //! - `proofs/ExistingPlans.antt`: whom a get or a put asks;
@@ -96,6 +101,7 @@ ghost use Rattle.world_laws.specs.Messages.{EachMessageBecomesOne, EachMessageIs
 ghost use Rattle.world_laws.specs.Effects.{LinesHaveEffects, LinesShowTexts};
 ghost use Rattle.world_laws.specs.Frames.{DamageLinesKeep, JoinLinesKeep, KeeperLinesKeep, LogLinesKeep, FrameRule, MoreBlocksKeep, RestartLinesKeep, RingLinesKeep, RoundLinesKeep, StillLinesKeep, StopLinesKeep, UseLinesKeep, ViewLinesKeep};
 ghost use Rattle.world_laws.specs.FullRuns.{BytesCome, EmptyHasBytes, EmptyPublishesFew, FewPostsCome, FullLines, FullScripts, FullStarts, MemoryIsDecided, MessagesAreBytes, SnapshotsAreFew, ThereIsRoom};
+ghost use Rattle.world_laws.specs.SnapRoom.{EmptyMetBytes, MetBytesCome, ScriptsSaveSnapshots, SnapshotsCanBeSaved, SnapshotsFailBySaves};
 ghost use Rattle.world_laws.specs.FullTurns.{SessionsEndOrClash, SessionsGoToTheirEnds, TurnsExist};
 ghost use Rattle.world_laws.specs.Kinds.{LineHasOneKind};
 ghost use Rattle.world_laws.specs.LeavingOut.{OtherLogsChangeNoTurn};
@@ -417,6 +423,20 @@ pub fn there_is_room()
 /// snapshot has fewer posts than a word counts.
 pub fn snapshots_are_few()
     ensures { SnapshotsAreFew }
+{}
+
+/// Laws: the blocks met are bytes, since a line leaves that so. Then, without a hash collision and where no
+/// more was met than a line may go on with, what is to be saved of a snapshot has a spelling.
+///
+/// So a line that is to make a snapshot shows that it failed only where an earlier save of the participant's
+/// failed, or this one fails. So it is of each such line of a script, where no names of what was met before
+/// it collide.
+pub fn snapshots_can_be_saved()
+    ensures empty { EmptyMetBytes }
+    ensures lines { MetBytesCome }
+    ensures saved { SnapshotsCanBeSaved }
+    ensures fails { SnapshotsFailBySaves }
+    ensures scripts { ScriptsSaveSnapshots }
 {}
 
 /// Laws, without a hash collision among the blocks met: what replies gave to later lines, and what open
