@@ -10,7 +10,7 @@ use Rattle.ivy_base.specs.declared.operation.Op.{Op}
 use Rattle.ivy_base.specs.declared.operation.Op.TheVariants as op
 use Rattle.ivy_base.specs.Naming.{key_cmp}
 use Rattle.tree_model.specs.Tree.{Tree, Inode, IsInOrder, inode_at, entry, is_directory, same_key, subdirectory_count}
-use Rattle.tree_model.specs.Apply.{apply, at_inode, changed_inode, may_link, may_lose_name, touched, with_name, without_name}
+use Rattle.tree_model.specs.Apply.{apply, at_inode, changed_inode, may_link, may_lose_name, touched, with_inode, with_name, without_name}
 use Rattle.tree_model.specs.Sound.{IsSound}
 use Rattle.tree_model.proofs.Applied.{link_tests, sound_apply}
 use Rattle.tree_model.proofs.Keys.{keys_total}
@@ -169,6 +169,33 @@ module _ (names : Tree) (contents : List (Key × Inode)) (tied : IsTied names co
       by : (o : Option Inode) → tree_of names (changed_content contents number o f) ≡ changed_inode whole number o f
       by None = refl
       by (Some i) = refl
+
+  -- a content of the same kind in place of one inode's
+  content_tied : (number : Key) (j : Inode) → option_map (λ i. i.kind) (inode_at whole number) ≡ Some j.kind → (left : List (Key × Inode)) → left ≡ put key_cmp number j contents → IsTied names left
+  content_tied number j kind left is = by (value_at key_cmp number contents) refl kind
+    where
+      of_kind : Kind → Inode
+      of_kind k = record { kind = k; attributes = j.attributes; body = j.body }
+
+      f : Inode → Inode
+      f i = of_kind i.kind
+
+      by : (o : Option Inode) → value_at key_cmp number contents ≡ o → option_map (λ i. i.kind) o ≡ Some j.kind → IsTied names left
+      by None found same = cc
+      by (Some i) found same =
+          let kinds : j.kind ≡ i.kind = cc in
+          (content_changed number f (λ i. refl) left (is ∙ ap (λ k. put key_cmp number (of_kind k) contents) kinds ∙ ap (λ o. changed_content contents number o f) (sym found))).1
+
+  -- it stands there, or nothing has changed when out of memory
+  pub content_put : (number : Key) (j : Inode) → option_map (λ i. i.kind) (inode_at whole number) ≡ Some j.kind → (left : List (Key × Inode)) → {A E : Type 0} (r : Result A E)
+      → OnOk r (left ≡ put key_cmp number j contents) → OnErr r (left ≡ contents) → OnOk r (tree_of names left ≡ with_inode whole number j) × IsTied names left
+  content_put number j kind left (Ok x) ok err = (ap (λ l. tree_of names l) ok, content_tied number j kind left ok)
+  content_put number j kind left (Err e) ok err = (tt, subst (λ l. IsTied names l) (sym err) tied)
+
+  pub content_sound : (number : Key) (j : Inode) → option_map (λ i. i.kind) (inode_at whole number) ≡ Some j.kind → (left : List (Key × Inode)) → {A E : Type 0} (r : Result A E)
+      → OnOk r (left ≡ put key_cmp number j contents) → OnErr r (left ≡ contents) → OnOk r (IsSound (tree_of names left))
+  content_sound number j kind left (Ok x) ok err = (content_tied number j kind left ok).sound
+  content_sound number j kind left (Err e) ok err = tt
 
   -- a new inode
   module _ (now : Moment) (number : Key) (kind : Kind) (mode uid gid : ℕ) (target : List ℕ) (o : Op) (same : o ≡ op.Inode number kind mode uid gid target) where

@@ -6,7 +6,7 @@
 //! each question is answered as the definition of its name says. Where memory is short the tree stays as it was.
 //! [`Tree::names`] and [`Tree::content`] show the two halves, with all that these answer. Which places of a file a Write
 //! wrote is kept with its content and is no part of the tree of the definitions: no operation and no other answer hangs
-//! on it.
+//! on it. [`Tree::put_content`] puts a content in place of one of the same kind, as one that a snapshot gives.
 //!
 //! Inside, `contents` is what the inodes contain by their numbers, in a map whose copies share what they have in common,
 //! `changing` is a change of the names that is made together with one of the contents, and `tree` what an operation does

@@ -1,10 +1,11 @@
 //! The tree: what one operation does to names and contents, and what is asked of it.
 
-ghost use Rattle.std.specs.Prelude.{◌≡◌, IfOk, OnOk, OnErr, map, option_map};
+ghost use Rattle.std.specs.Prelude.{◌≡◌, Some, IfOk, OnOk, OnErr, map, option_map};
 ghost use Rattle.std.specs.Option.{option_copied};
 ghost use Rattle.ivy_base.specs.Naming.{root_number};
 ghost use Rattle.tree_model.specs.Tree.{IsInOrder, inode_at, entry, is_live, subdirectory_count, same_key};
-ghost use Rattle.tree_model.specs.Apply.{empty_tree, apply, at_inode};
+ghost use Rattle.tree_model.specs.Apply.{empty_tree, apply, at_inode, with_inode};
+ghost use Rattle.tree_model.specs.Sound.{IsSound};
 ghost use Rattle.dir_replay.specs.Bare.{bare};
 ghost use Rattle.dir_replay.specs.Effect.{IsOfNames};
 ghost use Rattle.inode_replay.specs.Attributes.{attributes_of};
@@ -194,6 +195,17 @@ impl Tree {
         ensures { option_map (λ k. k.inode) (option_copied result) ≡ inode_at self.now ino.now }
     {
         self.contents.get(ino)
+    }
+
+    /// Lets the number stand for that content, which is of the kind of the inode that it stands for. Which of its places are
+    /// written is kept with it. The error is: out of memory, and then the tree is as it was.
+    pub fn put_content(&mut self, alloc: Global, ino: Key, content: Content) -> Result<(), Memory>
+        requires { option_map (λ i. i.kind) (inode_at self.old ino) ≡ Some content.inode.kind }
+        ensures ok { OnOk result (self.new ≡ with_inode self.old ino content.inode) }
+        ensures sound { OnOk result (IsSound self.new) }
+        ensures err { OnErr result (self.new ≡ self.old) }
+    {
+        self.contents.insert(alloc, ino, content)
     }
 
     /// The kind of the inode, where there is one of that number.

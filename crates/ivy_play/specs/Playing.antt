@@ -7,7 +7,8 @@ use Rattle.script_driver.specs.Told.{run_of}
 use Rattle.world_model.specs.Logs.{Played}
 use Rattle.world_model.specs.GhostState.{empty_ghost_state}
 use Rattle.world_model.specs.World.{empty_world}
-use Rattle.stage_laws.specs.FullRuns.{HasMemoryAlong, HasOneFullRun, LacksOrClashes, RunComesTo}
+use Rattle.world_laws.specs.FullRuns.{ClashesOn, IsFullRun}
+use Rattle.stage_laws.specs.FullRuns.{HasMemoryAlong, LacksOrClashes, RunComesTo}
 use Rattle.stage_laws.specs.Promise.{PromisedStep}
 use Rattle.ivy_play.specs.Status.{status_of}
 
@@ -25,7 +26,7 @@ ivy_runs left = run_of PromisedStep initial_world left
 
 -- there is one run of the script in which memory is always there, or names clash on the way
 abbrev pub RunsFully : List ℕ → Type 0
-RunsFully script = HasOneFullRun initial_world 1 (script_lines script)
+RunsFully script = ((ran : Ran) × IsFullRun initial_world 1 (script_lines script) ran) ⊎ ClashesOn initial_world (script_lines script)
 
 -- memory was always there in the run, which so is that one; or it comes to a line where memory ran out for a call, or names clash
 abbrev pub IsFullOrTells : List ℕ → Ran → Type 0

@@ -1,9 +1,7 @@
 -- Sessions of the code that are in hand in a world that it may be: one that begins, and one that is open.
-use Rattle.std.proofs.Common.{◌≡◌, ◌≢◌, inl, ℕ, Bool, true, false, cond, List, [], ◌∷◌, ◌++◌, map, refl, sym, ap, ◌∙◌, subst, Option, Some, None}
+use Rattle.std.proofs.Common.{◌≡◌, ◌≢◌, inl, ℕ, Bool, true, false, cond, List, [], ◌∷◌, ◌++◌, refl, sym, ap, ◌∙◌, subst, Option, Some, None}
 use Rattle.std.specs.Prelude.{IfSome, IsTrue, find, is_some, option_map}
-use Rattle.std.specs.List.{AllByRecursion}
 use Rattle.log_model.specs.View.{View}
-use Rattle.turn_model.specs.Basis.{fresh_basis}
 use Rattle.script_model.specs.Words.{◌>>=◌}
 use Rattle.script_model.specs.declared.command.Piece.{Piece}
 use Rattle.script_model.specs.Messages.{Given, message_of}
@@ -20,7 +18,7 @@ use Rattle.world_laws.proofs.Beginning.{calls_begin}
 use Rattle.world_laws.proofs.Bringing.{found_named}
 use Rattle.world_laws.proofs.OpenSessions.{begun_keeps, named_hand}
 use Rattle.world_laws.proofs.SessionLinesSteps.{runs_lead}
-use Rattle.script_world.specs.CallsState.{CallState, IsRepresentedOf, LeavesGiven, ParticipantState, Served, RepresentsBy, RepresentsSession, state_of}
+use Rattle.script_world.specs.CallsState.{CallState, IsRepresentedOf, LeavesGiven, Served, RepresentsBy, RepresentsSession}
 use Rattle.script_world.specs.PartsState.{HasParts, PartsState}
 use Rattle.script_world.specs.Running.{BeginsOf, IsConfigurationIn, IsRepresentedIn, MayCall, RepliesIn, RunsOutIn}
 use Rattle.script_world.proofs.Sent.{sends, sends_in}
@@ -30,16 +28,9 @@ use Rattle.script_machine.proofs.Opened.{has_name}
 
 -- ---- calls may begin
 
-bare : (ps : List Participant) → AllByRecursion (λ (p : Participant). (p.agent.snapshot ≡ None) × (p.agent.to_load ≡ None) × (p.agent.holding.basis ≡ fresh_basis)) ps
-    → AllByRecursion (λ (q : ParticipantState). q.agent.to_load ≡ None) (map state_of ps)
-bare [] all = tt
-bare (p ∷ ps) all = (all.0.1, bare ps all.1)
-
 pub may_call : (s : WorldState) → HasWorld s → MayCall s.parts
-may_call s (w, shows, keeps) = record {
-  nothing_to_load = subst (AllByRecursion (λ (q : ParticipantState). q.agent.to_load ≡ None)) shows.parts.participants (bare w.0.participants keeps.1.agents);
-  some_node = subst (λ (o : Option ℕ). IfSome o (λ r. s.parts.nodes.nodes ≢ [])) shows.parts.replicas (subst (λ (ns : List Node). IfSome w.0.replicas (λ r. ns ≢ [])) shows.parts.nodes.0 (by w.0.replicas keeps.0.ring));
-}
+may_call s (w, shows, keeps) =
+    subst (λ (o : Option ℕ). IfSome o (λ r. s.parts.nodes.nodes ≢ [])) shows.parts.replicas (subst (λ (ns : List Node). IfSome w.0.replicas (λ r. ns ≢ [])) shows.parts.nodes.0 (by w.0.replicas keeps.0.ring))
   where
     by : (o : Option ℕ) → HasRing w.0 o → IfSome o (λ r. w.0.nodes ≢ [])
     by None ring = tt

@@ -1,5 +1,5 @@
 -- What a line does by its command, from what the world in code does.
-use Rattle.std.proofs.Common.{◌≡◌, ℕ, Bool, false, List, Option, Some, None, Ok, Err, refl, sym, ◌∙◌, subst}
+use Rattle.std.proofs.Common.{◌≡◌, ℕ, Bool, false, List, Option, Some, Ok, Err, refl, sym, ◌∙◌, subst}
 use Rattle.std.specs.Prelude.{IfOk, MatchBool}
 use Rattle.std.specs.declared.result.Result.{Result}
 use Rattle.script_driver.specs.declared.machine.Taken.{Taken}
@@ -11,10 +11,9 @@ use Rattle.script_model.specs.declared.command.Command.{Command}
 use Rattle.script_model.specs.declared.command.Command.TheVariants as command
 use Rattle.script_model.specs.Lines.{command_of}
 use Rattle.world_model.specs.Logs.{Played}
-use Rattle.world_model.specs.Step.{MayDo, MayDoFirst}
+use Rattle.world_model.specs.Step.{IvyStep, MayDo, MayDoFirst}
 use Rattle.script_machine.specs.WorldState.{KeepsAll, LineDoes, RepresentsWorld, WorldState}
 use Rattle.stage_laws.specs.Promise.{PromisedStep}
-use Rattle.stage_laws.specs.Stage.{StageStep, stage_command}
 use Rattle.stage_laws.proofs.Promised.{each_promises}
 use Rattle.script_machine.specs.Limits.{meets_limit}
 
@@ -24,14 +23,13 @@ use Rattle.script_machine.specs.Limits.{meets_limit}
 abbrev ByLimit : Played → Option Command → Outcome Played → Bool → Type 0
 ByLimit w o outcome full = MatchBool full (outcome ≡ Exceeds) (MayDo w o outcome)
 
-doing : (w : Played) (c : Command) (outcome : Outcome Played) → false ≡ meets_limit w c → MayDo w (stage_command (Some c)) outcome → MayDoFirst w (stage_command (Some c)) outcome
+doing : (w : Played) (c : Command) (outcome : Outcome Played) → false ≡ meets_limit w c → MayDo w (Some c) outcome → MayDoFirst w (Some c) outcome
 doing w command.End outcome few does = does
-doing w (command.Snap log) outcome few does = subst (ByLimit w None outcome) few does
 doing w c outcome few does = subst (ByLimit w (Some c) outcome) few does
 
 -- where the limit isn't met the line does what its command does
 first_done : (c : Command) (before after : WorldState) (meets : Bool) (how : Taken) → meets ≡ false → ((w : Played) → RepresentsWorld before w → meets ≡ meets_limit w c)
-    → LineDoes (λ w outcome. MayDo w (stage_command (Some c)) outcome) before how after → LineDoes (λ w outcome. MayDoFirst w (stage_command (Some c)) outcome) before how after
+    → LineDoes (λ w outcome. MayDo w (Some c) outcome) before how after → LineDoes (λ w outcome. MayDoFirst w (Some c) outcome) before how after
 first_done c before after meets (taken.Went output) few is does w shows keeps =
     let goes = does w shows keeps in
     (goes.0, doing w c (Goes goes.0 output.items) (sym few ∙ is w shows) goes.1, goes.2)
@@ -40,7 +38,7 @@ first_done c before after meets taken.Refused few is does w shows keeps = doing 
 first_done c before after meets taken.Exceeded few is does w shows keeps = doing w c Exceeds (sym few ∙ is w shows) (does w shows keeps)
 
 pub limit_not_met : {E : Type 0} (c : Command) (before after : WorldState) (meets : Bool) (result : Result Taken E) → meets ≡ false → ((w : Played) → RepresentsWorld before w → meets ≡ meets_limit w c)
-    → IfOk result (λ how. LineDoes (λ w outcome. MayDo w (stage_command (Some c)) outcome) before how after) → IfOk result (λ how. LineDoes (λ w outcome. MayDoFirst w (stage_command (Some c)) outcome) before how after)
+    → IfOk result (λ how. LineDoes (λ w outcome. MayDo w (Some c) outcome) before how after) → IfOk result (λ how. LineDoes (λ w outcome. MayDoFirst w (Some c) outcome) before how after)
 limit_not_met c before after meets (Ok how) few is does = first_done c before after meets how few is does
 limit_not_met c before after meets (Err e) few is does = tt
 
@@ -55,16 +53,16 @@ told_of Step before after taken.Exceeded does w shows keeps = (Exceeds, does w s
 
 -- what was done of a line's command is what the line does
 pub taken_of : {E : Type 0} (result : Result Taken E) (before after : WorldState) (line : List ℕ) (o : Option Command) → o ≡ command_of line
-    → IfOk result (λ how. LineDoes (λ w outcome. MayDoFirst w (stage_command o) outcome) before how after)
-    → IfOk result (λ how. LineDoes (λ w outcome. StageStep w line outcome) before how after)
-taken_of (Ok how) before after line o is does = subst (λ (p : Option Command). LineDoes (λ w outcome. MayDoFirst w (stage_command p) outcome) before how after) is does
+    → IfOk result (λ how. LineDoes (λ w outcome. MayDoFirst w o outcome) before how after)
+    → IfOk result (λ how. LineDoes (λ w outcome. IvyStep w line outcome) before how after)
+taken_of (Ok how) before after line o is does = subst (λ (p : Option Command). LineDoes (λ w outcome. MayDoFirst w p outcome) before how after) is does
 taken_of (Err e) before after line o is does = tt
 
 -- and a line that does so does it with its promise, in each world that the machine may stand for
 pub promised_of : {E : Type 0} (result : Result Taken E) (before after : WorldState) (line : List ℕ)
-    → IfOk result (λ how. LineDoes (λ w outcome. StageStep w line outcome) before how after)
+    → IfOk result (λ how. LineDoes (λ w outcome. IvyStep w line outcome) before how after)
     → IfOk result (λ how. (w : Played) → RepresentsWorld before w → KeepsAll w → (outcome : Outcome Played) × PromisedStep w line outcome × IsSeenAs RepresentsWorld (outcome_told how after) outcome)
 promised_of (Ok how) before after line does = λ w shows keeps.
-    let told = told_of (λ v outcome. StageStep v line outcome) before after how does w shows keeps in
+    let told = told_of (λ v outcome. IvyStep v line outcome) before after how does w shows keeps in
     (told.0, (told.1, each_promises w line told.0 keeps told.1), told.2)
 promised_of (Err e) before after line does = tt

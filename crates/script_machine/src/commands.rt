@@ -4,11 +4,10 @@ ghost use Rattle.std.specs.Prelude.{◌≡◌, ◌≢◌, [], IfOk, Some, None};
 ghost use Rattle.dhash_model.specs.Signed.{hss_judged};
 ghost use Rattle.script_model.specs.declared.command.Command.TheVariants as command;
 ghost use Rattle.world_model.specs.Logs.{Played};
-ghost use Rattle.world_model.specs.Step.{Does, MayDo, MayDoFirst};
+ghost use Rattle.world_model.specs.Step.{Does, IvyStep, MayDo, MayDoFirst};
 ghost use Rattle.world_laws.proofs.LineFits.{Fits};
 ghost use Rattle.script_machine.specs.Limits.{is_full, meets_limit};
 ghost use Rattle.script_machine.specs.WorldState.{HasWorld, LineDoes, RepresentsWorld};
-ghost use Rattle.stage_laws.specs.Stage.{StageStep, stage_command};
 
 use crate::machine::ScriptMachine;
 use command_lines::read_command;
@@ -26,7 +25,7 @@ impl ScriptMachine {
     /// is: out of memory.
     pub(crate) fn take_line(&mut self, alloc: Global, line: &[u8]) -> Result<Taken, Memory>
         requires kept { HasWorld self.old }
-        ensures { IfOk result (λ taken. LineDoes (λ w outcome. StageStep w line.now outcome) self.old taken self.new) }
+        ensures { IfOk result (λ taken. LineDoes (λ w outcome. IvyStep w line.now outcome) self.old taken self.new) }
     {
         match read_command(alloc, line)? {
             Some(command) => {
@@ -53,7 +52,7 @@ impl ScriptMachine {
     fn take_command(&mut self, alloc: Global, command: &Command) -> Result<Taken, Memory>
         requires fits { Fits command.now }
         requires kept { HasWorld self.old }
-        ensures { IfOk result (λ taken. LineDoes (λ w outcome. MayDoFirst w (stage_command (Some command.now)) outcome) self.old taken self.new) }
+        ensures { IfOk result (λ taken. LineDoes (λ w outcome. MayDoFirst w (Some command.now) outcome) self.old taken self.new) }
     {
         if self.meets_limit(command) {
             return Ok(Taken::Exceeded);
@@ -78,11 +77,11 @@ impl ScriptMachine {
         self.parts.bytes_met() > MOST_BYTES
     }
 
-    /// Obeys a command. A line that makes a snapshot is refused. The error is: out of memory.
+    /// Obeys a command. The error is: out of memory.
     fn obey(&mut self, alloc: Global, command: &Command) -> Result<Taken, Memory>
         requires fits { Fits command.now }
         requires kept { HasWorld self.old }
-        ensures { IfOk result (λ taken. LineDoes (λ w outcome. MayDo w (stage_command (Some command.now)) outcome) self.old taken self.new) }
+        ensures { IfOk result (λ taken. LineDoes (λ w outcome. MayDo w (Some command.now) outcome) self.old taken self.new) }
     {
         match command {
             Command::Ring { nodes, replicas } => self.parts.ring(alloc, *nodes, *replicas),
@@ -117,7 +116,7 @@ impl ScriptMachine {
                 offset,
                 byte,
             } => self.parts.damage(alloc, node, key, *offset, *byte),
-            Command::Snap { log: _ } => Ok(Taken::Refused),
+            Command::Snap { log } => self.snap(alloc, log.as_slice()),
             Command::Restart { log } => self.restart(alloc, log.as_slice()),
             Command::Keep { log, count, new } => {
                 self.parts.keep(alloc, log.as_slice(), *count, *new)

@@ -10,7 +10,7 @@
 //!   world in code has no ghost state, keeps no list of the heads that left an agent, and a session in code
 //!   may represent many.
 //! - Its step is `PromisedStep` of `stage_laws`: the step of all lines, together with what is promised of
-//!   each (the headline, and what calm scripts may rely on). Lines that make a snapshot are refused for now.
+//!   each (the headline, and what calm scripts may rely on).
 //! - [`ScriptMachine::new`] represents the world in which a script begins.
 //!
 //! Within, sessions are driven by functions of the machine, and every other line by functions of its parts.
@@ -26,6 +26,7 @@
 //! - `proofs/Hands.antt`: sessions in progress;
 //! - `proofs/Lines.antt`: lines of calls;
 //! - `proofs/Joined.antt`: lines of participants;
+//! - `proofs/Snapped.antt`: the line that makes a snapshot;
 //! - `proofs/StayingRing.antt`: lines that leave as many owners of a key;
 //! - `proofs/OtherLines.antt`: lines that need no session.
 //!

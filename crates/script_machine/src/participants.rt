@@ -1,18 +1,19 @@
 //! Lines of participants by which sessions go on or are gone.
 
-ghost use Rattle.std.specs.Prelude.{◌≡◌, not, filter, IfOk};
+ghost use Rattle.std.specs.Prelude.{◌≡◌, codes, not, filter, IfOk};
 ghost use Rattle.std.specs.Str.{bytes_eq};
 ghost use Rattle.hash_signature_model.specs.Saved.{AreLevels};
 ghost use Rattle.dhash_model.specs.Signed.{hss_judged};
-ghost use Rattle.world_model.specs.Logs.{LogLine, RestartLine, use_line};
+ghost use Rattle.world_model.specs.Logs.{LogLine, RestartLine, SnapLine, failed_text, snap_text, use_line};
 ghost use Rattle.world_model.specs.World.{participant};
 ghost use Rattle.script_machine.specs.Ends.{left_open, shows_nothing};
 ghost use Rattle.script_machine.specs.WorldState.{HasWorld, LineDoes};
 
 use crate::machine::ScriptMachine;
 use hash_signature_model::Set;
-use ivy_base::{Bytes, Memory};
+use ivy_base::{Bytes, Key, Memory};
 use script_driver::Taken;
+use script_world::SnapEnd;
 use std::alloc::Global;
 
 impl ScriptMachine {
@@ -66,6 +67,22 @@ impl ScriptMachine {
         Ok(taken)
     }
 
+    /// The line `snap`: a participant's agent makes a snapshot of all that it holds, saves it, and publishes all that it has to;
+    /// the root's name is shown, or that the keeper failed. The error is: out of memory.
+    pub(crate) fn snap(&mut self, alloc: Global, log: &[u8]) -> Result<Taken, Memory>
+        requires { HasWorld self.old }
+        ensures { IfOk result (λ taken. LineDoes (λ w outcome. SnapLine hss_judged w (participant w.0 log.now) outcome) self.old taken self.new) }
+    {
+        match self.parts.begin_snap(alloc, log)? {
+            SnapEnd::Made(root) => {
+                self.parts.publish(alloc, log)?;
+                Ok(Taken::Went(snap_text(alloc, log, &root)?))
+            }
+            SnapEnd::Failed => Ok(Taken::Went(snap_failed(alloc, log)?)),
+            SnapEnd::Refused => Ok(Taken::Refused),
+        }
+    }
+
     /// That participant's open sessions are gone where its line went on. Where its keeper fails something is shown, and they stay.
     fn end_sessions(&mut self, log: &[u8], taken: &Taken)
         ensures parts { self.new.parts ≡ self.old.parts }
@@ -93,4 +110,27 @@ fn shows_nothing(taken: &Taken) -> bool
         Taken::Went(text) => text.is_empty(),
         _ => false,
     }
+}
+
+/// What the line `snap` shows of the snapshot with that root, of the participant of that name. The error is: out of memory.
+fn snap_text(alloc: Global, name: &[u8], root: &Key) -> Result<Vec<u8>, Memory>
+    ensures { IfOk result (λ text. text.items ≡ snap_text name.now root.now) }
+{
+    let digits = hex::encode(alloc, &root.0)?;
+    let mut text = b"snap ".as_slice().to_vec(alloc)?;
+    text.extend_from_slice(name)?;
+    text.push(b' ')?;
+    text.extend_from_slice(digits.as_bytes())?;
+    text.push(b'\n')?;
+    Ok(text)
+}
+
+/// What is shown where the line `snap` failed for the participant of that name. The error is: out of memory.
+fn snap_failed(alloc: Global, name: &[u8]) -> Result<Vec<u8>, Memory>
+    ensures { IfOk result (λ text. text.items ≡ failed_text (codes "snap") name.now) }
+{
+    let mut text = b"snap ".as_slice().to_vec(alloc)?;
+    text.extend_from_slice(name)?;
+    text.extend_from_slice(b" failed\n".as_slice())?;
+    Ok(text)
 }

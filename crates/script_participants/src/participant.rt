@@ -8,6 +8,7 @@ ghost use Rattle.log_fetch.specs.Standings.{asked_of, refresh_of, standing_of};
 ghost use Rattle.log_model.specs.Spelling.{HasSpelling};
 ghost use Rattle.log_records.specs.Records.{records_of};
 ghost use Rattle.agent_model.specs.Others.{settled};
+ghost use Rattle.agent_model.specs.SavedBytes.{HasItsName};
 ghost use Rattle.ivy_agent.specs.Answering.{IsCall};
 ghost use Rattle.ivy_agent.specs.Bounds.{HasBounds};
 ghost use Rattle.ivy_agent.specs.Turns.{IsFetchedIn};
@@ -125,10 +126,12 @@ impl Participant {
         &mut self.cache
     }
 
-    /// What a session is given of its agent, which is in a view. The error is: out of memory.
+    /// What a session is given of its agent, which is in a view; each block that is pending has its name. The error is: out of
+    /// memory.
     pub fn standing(&self, alloc: Global) -> Result<Standing, Memory>
         requires { IsSomeAnd self.now.agent.view (λ view. Unit {0}) }
-        ensures { IfOk result (λ s. IfSome self.now.agent.view (λ view. standing_of s ≡ hss_standing_in self.now.agent view)) }
+        ensures stands { IfOk result (λ s. IfSome self.now.agent.view (λ view. standing_of s ≡ hss_standing_in self.now.agent view)) }
+        ensures named { IfOk result (λ s. AllByRecursion HasItsName s.pending) }
     {
         self.agent.standing(alloc)
     }

@@ -13,6 +13,7 @@ pub mod Sent
 pub mod Going
 pub mod Published
 pub mod Returning
+pub mod Snapped
 pub mod Apart
 pub mod Sorting
 pub mod Passing

@@ -1,7 +1,6 @@
 -- A session that begins with what the line of a call sends.
-use Rattle.std.proofs.Common.{◌≡◌, ℕ, Bool, true, false, cond, List, [], ◌∷◌, map, find, refl, sym, ap, ◌∙◌, subst, Option, Some, None}
+use Rattle.std.proofs.Common.{◌≡◌, ℕ, List, [], ◌∷◌, map, find, refl, sym, ap, ◌∙◌, subst, Option, Some, None}
 use Rattle.std.specs.Prelude.{IfSome, option_map}
-use Rattle.std.specs.List.{AllByRecursion}
 use Rattle.std.specs.Str.{bytes_eq}
 use Rattle.log_model.specs.View.{View}
 use Rattle.script_model.specs.Words.{◌>>=◌}
@@ -15,15 +14,6 @@ use Rattle.session_steps.specs.Representing.{BeginsIn, CallState, RepresentsSess
 use Rattle.script_world.specs.PartsState.{HasParts, PartsState}
 use Rattle.script_world.specs.Running.{BeginsOf}
 use Rattle.script_world.proofs.Keeping.{nobody_named, one_named}
-
--- what is so of each is so of one that is found
-pub each_found : {X : Type 0} (P : X → Type 0) (q : X → Bool) (xs : List X) (x : X) → AllByRecursion P xs → find q xs ≡ Some x → P x
-each_found P q [] x all e = absurd cc
-each_found P q (y ∷ ys) x all e = by (q y) e (each_found P q ys x all.1)
-  where
-    by : (b : Bool) → cond b (Some y) (find q ys) ≡ Some x → (find q ys ≡ Some x → P x) → P x
-    by true is rest = let same : y ≡ x = cc is in subst P same all.0
-    by false is rest = rest is
 
 module _ (w : World) (pieces : List Piece) where
   -- what a participant sends in a view

@@ -6,4 +6,5 @@ pub mod Held
 pub mod Ends
 pub mod Running
 pub mod Starting
+pub mod Snapping
 pub mod Made

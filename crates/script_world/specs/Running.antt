@@ -1,6 +1,5 @@
 -- Sessions that begin, go on and end in worlds that have these parts.
 use Rattle.std.specs.Prelude.{◌≡◌, ◌≢◌, ℕ, List, [], Option, Some, None, IfSome, IsSomeAnd, IsTrue, is_some}
-use Rattle.std.specs.List.{AllByRecursion}
 use Rattle.dhash_model.specs.Signed.{hss_judged}
 use Rattle.script_model.specs.Messages.{Given}
 use Rattle.session_model.specs.Sessions.{Said, Session}
@@ -20,10 +19,9 @@ pub record IsRepresentedIn (s : PartsState) (t : Session) (call : CallState) : T
 
 -- ---- sessions that begin
 
--- no agent has a snapshot to load, and a ring has a node
-pub record MayCall (s : PartsState) : Type 0 where
-  pub nothing_to_load : AllByRecursion (λ p. p.agent.to_load ≡ None) s.participants
-  pub some_node : IfSome s.replicas (λ r. s.nodes.nodes ≢ [])
+-- where there is a ring, it has a node
+abbrev pub MayCall : PartsState → Type 0
+MayCall s = IfSome s.replicas (λ r. s.nodes.nodes ≢ [])
 
 -- where something is sent, a session begins with it
 abbrev pub BeginsOf : PartsState → Option CallState → World → Option Sending → Type 0

@@ -16,6 +16,8 @@
 //!   `specs/Starting.antt`).
 //! - [`Parts::begin_log`] is the line `log` up to where its agent publishes, which takes a session
 //!   (`BeginsIn`, `specs/NewParticipants.antt`).
+//! - [`Parts::begin_snap`] is the line `snap` up to where its agent publishes, likewise (`SnapsIn`,
+//!   `specs/Snapping.antt`).
 //! - The only errors are running out of memory and 2^64 asks; after an error the world is of no more use.
 //!
 //! Sessions are calls beside the parts, found by the name of their participant.
@@ -54,10 +56,12 @@ mod parts;
 mod running;
 mod setup;
 mod shows;
+mod snapping;
 mod starting;
 mod views;
 
 pub use parts::Parts;
+pub use snapping::SnapEnd;
 
 // a call in progress, which the parts go on with
 pub use session_steps::OpenCall;

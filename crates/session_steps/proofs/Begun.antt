@@ -1,6 +1,6 @@
 -- A call that begins.
 use Rattle.std.proofs.Common.{◌≡◌, ◌≢◌, ℕ, false, List, [], Option, Some, None, refl, sym, ap, ◌∙◌, subst}
-use Rattle.std.specs.Prelude.{IfSome, IsSomeAnd}
+use Rattle.std.specs.Prelude.{IfSome}
 use Rattle.log_heads.specs.declared.judge.HssJudge.{HssJudge}
 use Rattle.log_model.specs.View.{View}
 use Rattle.dht_ids.specs.declared.peer.Peer.{Peer}
@@ -30,11 +30,6 @@ same_call call st session given told = λ i. record { session = sym session i; g
 begun_at : {by message : List ℕ} {entries : List Peer} {standing : Standing} {s : Session} → Begins by message entries standing s → (s.entries ≡ entries) × (given_of None ≡ given_at s.stage)
 begun_at (alone given is) = (refl, refl)
 begun_at (refreshes xid asked asks) = (refl, refl)
-
--- where its agent has no snapshot to load, there is none for the session
-pub none_to_load : (who : ParticipantState) (standing : Standing) (o : Option View) → IsSomeAnd o (λ view. Unit {0}) → IfSome o (λ view. standing ≡ hss_standing_in who.agent view) → who.agent.to_load ≡ None → standing.to_load ≡ None
-none_to_load who standing None some stands none = absurd some
-none_to_load who standing (Some view) some stands none = ap (λ (s : Standing). s.to_load) stands ∙ none
 
 module _ (nodes : NodesState) (some : nodes.nodes ≢ []) (w : World) (is : IsNodesOf w nodes) where
   -- the world has a node, so sessions know one

@@ -43,8 +43,8 @@ impl Model for OpenCall {
 }
 
 impl OpenCall {
-    /// A call of a participant in a view, without a snapshot to load, that sends this message to a world of these nodes, of which
-    /// so many own a key. The error is: out of memory.
+    /// A call of a participant in a view that sends this message to a world of these nodes, of which so many own a key. The error
+    /// is: out of memory.
     pub fn begin(
         alloc: Global,
         nodes: &RingNodes,
@@ -53,7 +53,6 @@ impl OpenCall {
         message: &[u8],
     ) -> Result<OpenCall, Memory>
         requires view { IsSomeAnd who.now.agent.view (λ view. Unit {0}) }
-        requires none { who.now.agent.to_load ≡ None }
         requires nodes { nodes.now.nodes ≢ [] }
         ensures replicas { IfOk result (λ call. call.session.replicas ≡ replicas) }
         ensures begun { IfOk result (BeginsIn nodes.now who.now message.now) }

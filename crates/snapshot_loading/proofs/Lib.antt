@@ -30,6 +30,7 @@ pub mod Sorted
 pub mod Made
 pub mod Added
 pub mod Linked
+pub mod Contents
 pub mod Settled
 pub mod Ordered
 pub mod Whole

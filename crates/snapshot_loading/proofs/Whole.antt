@@ -50,7 +50,7 @@ module _ (parts : List InodeParts) (begun : Tree) (added : AreAdded parts begun)
 
   pub whole_tree : (named built : Tree) → Links (tree_of parts).names begun named true → AreSettled parts named built → IsInOrder (tree_of parts) → (built ≡ tree_of parts) × IsSound (tree_of parts)
   whole_tree named built links settled order =
-      let sound : IsSound built = sound_made built (settled.made links.0) in
+      let sound : IsSound built = settled.sound (sound_made named links.0) in
       let names : built.names ≡ (tree_of parts).names = settled.names ∙ links.1 ∙ ap (λ (l : List (Place × Key)). l ++ (tree_of parts).names) added.no_names in
       let inodes : built.inodes ≡ (tree_of parts).inodes =
       same_entries key_cmp keys_total exact_keys built.inodes (tree_of parts).inodes (from_test (is_sorted key_cmp built.inodes) sound.order.inodes) (from_test (is_sorted key_cmp (tree_of parts).inodes) order.inodes) settled.each in

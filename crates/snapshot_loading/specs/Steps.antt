@@ -10,11 +10,13 @@ use Rattle.ivy_base.specs.declared.operation.Kind.TheVariants.{Reg, Dir, Lnk}
 use Rattle.ivy_base.specs.declared.operation.Moment.{Moment}
 use Rattle.ivy_base.specs.declared.operation.Change.{Change}
 use Rattle.ivy_base.specs.declared.operation.Op.{Op}
+use Rattle.ivy_base.specs.declared.operation.Op.TheVariants as op
 use Rattle.ivy_base.specs.Naming.{root_number}
 use Rattle.tree_model.specs.Tree.{Tree, Inode, Place, inode_at, same_key}
 use Rattle.tree_model.specs.Apply.{empty_tree, apply_all}
 use Rattle.tree_model.specs.Sound.{IsSound}
 use Rattle.inode_replay.specs.declared.attr.Attr.{Attr}
+use Rattle.inode_replay.specs.Kept.{Kept, made_kept}
 use Rattle.snapshot_loading.specs.declared.parts.InodeParts.{InodeParts}
 use Rattle.snapshot_loading.specs.Parts.{inode_of, tree_of}
 
@@ -66,10 +68,14 @@ Links names old new true = IsMade new × (new.names ≡ old.names ++ names) × (
 Links names old new false = (t : Tree) (rest : List (Place × Key)) → ((k : Key) → kind_at old k ≡ kind_at t k)
     → t.names ≡ (old.names ++ names) ++ rest → IsSound t → ⊥
 
--- ---- bytes and attributes
+-- ---- contents
 
 abbrev pub change_of : Attr → Change
 change_of a = record { mode = Some a.mode; uid = Some a.uid; gid = Some a.gid; size = None; atime = Some a.atime; mtime = Some a.mtime }
+
+-- the content of the inode that was only just added
+abbrev pub IsBegun : InodeParts → Kept → Type 0
+IsBegun p k = made_kept beginning (op.Inode p.number p.kind 0 0 0 (first_body p.kind p.body)) ≡ Some k
 
 -- the inode was added
 abbrev pub Awaits : InodeParts → Tree → Type 0
@@ -80,12 +86,12 @@ AwaitsAll parts t = (k : Key) → sort_at t k ≡ option_map first_sort (inode_a
 
 -- it is as it is to be, and all else is as it was
 pub record Settles (p : InodeParts) (old new : Tree) : Type 0 where
-  pub made : IsMade old → IsMade new
+  pub sound : IsSound old → IsSound new
   pub names : new.names ≡ old.names
   pub each : (k : Key) → inode_at new k ≡ (if same_key k p.number then Some (inode_of p) else inode_at old k)
 
 -- all are
 pub record AreSettled (parts : List InodeParts) (old new : Tree) : Type 0 where
-  pub made : IsMade old → IsMade new
+  pub sound : IsSound old → IsSound new
   pub names : new.names ≡ old.names
   pub each : (k : Key) → inode_at new k ≡ inode_at (tree_of parts) k

@@ -37,7 +37,7 @@ fn add(alloc: Global, tree: &mut Tree, part: &InodeParts) -> Result<(), Memory>
 }
 
 /// What adds the inode. The error is: out of memory.
-fn first_op(alloc: Global, part: &InodeParts) -> Result<Op, Memory>
+pub(crate) fn first_op(alloc: Global, part: &InodeParts) -> Result<Op, Memory>
     ensures { IfOk result (λ o. o ≡ op.Inode part.now.number part.now.kind 0 0 0 (first_body part.now.kind part.now.body)) }
 {
     Ok(Op::Inode {

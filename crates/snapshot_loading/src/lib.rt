@@ -13,6 +13,8 @@
 //! - [`build`] gives the tree of these [`InodeParts`], which come from strangers, exactly where it is one without
 //!   contradictions (`IsSound` of `tree_model`): numbers and names in order, the root a directory without a name, names in
 //!   directories and of inodes, a directory with one name at most and none inside itself.
+//! - [`content_of`] gives the content of an inode of these, which [`build`] puts into the tree: of a file every place below its
+//!   size counts as written (`inode_replay`), also where a hole was when the snapshot was made.
 //! - By the laws, blocks that were read from a root on are that root with all below it ([`reads_are_forests`]). Loading comes to
 //!   the basis that the root shows, or to none ([`loading_ends`]): the front, the tide, and inode by inode the attributes and
 //!   what is at the bottom of its list. A list need only be even: on each level all blocks but the last have 512 names, pieces
@@ -23,8 +25,8 @@
 //! takes the blocks of a level out of all that were read, `evenness` tests lists, `entries` reads what a directory contains,
 //! `inode` what an inode does, `inodes` goes from inode to inode, and `ending` is the whole. To build a tree, `order` tests the
 //! order of numbers and names, `adding` adds all inodes without names, `linking` gives them their names, which fails exactly
-//! where one may not be given, and `settling` gives them their bytes and attributes: a file's bytes in one Write of them all,
-//! so that each place of it counts as written (`inode_replay`).
+//! where one may not be given, and `settling` puts in place the content of each, which `content` makes: a file's bytes by one
+//! Write of them all.
 //!
 //! Definitions: `specs/Loading.antt` is how far loading is, `specs/Causes.antt` why it comes to no basis, `specs/Roles.antt` what blocks are to be and what they name;
 //! `specs/Forests.antt` has blocks with those below them, and when lists of them are even, `specs/ShownInodes.antt` what an
@@ -46,6 +48,7 @@
 
 mod adding;
 pub mod building;
+pub mod content;
 mod ending;
 mod entries;
 mod evenness;
@@ -65,6 +68,7 @@ ghost use Rattle.snapshot_loading.specs.Laws.{MadeIsLoaded};
 ghost use Rattle.snapshot_loading.specs.WholeLaws.{EvenListsAreLists, ForestIsUnique, LoadedIsShown, LoadingEnds, ReadIsForest, ShownInodesAreMade, SnapshotIsUnique, WholeTreesAreSound};
 
 pub use building::build;
+pub use content::content_of;
 pub use ending::{into_basis, loaded};
 pub use load::{Failure, Load, LoadMiss, Read};
 pub use parts::InodeParts;

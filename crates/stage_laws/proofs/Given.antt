@@ -1,7 +1,7 @@
 -- A refresh of which each head and record was given right ends in its turn.
 use Rattle.std.proofs.Common.{◌≡◌, ◌≢◌, ◌⊎◌, inl, inr, ⊎_elim, ℕ, List, [], ◌∷◌, ◌++◌, map, Option, Some, None, Result, Ok, Err, refl, sym, ap, ◌∙◌, subst, Contains}
 use Rattle.std.specs.Prelude.{false, filter_map, option_map}
-use Rattle.std.specs.List.{AllByRecursion, cons_option}
+use Rattle.std.specs.List.{cons_option}
 use Rattle.std.proofs.lemmas.List.Elements.{Contains-append_cases, Contains-append_right}
 use Rattle.ivy_base.specs.declared.key.Key.{Key}
 use Rattle.ivy_base.specs.declared.key.PubKey.{PubKey}
@@ -21,7 +21,7 @@ use Rattle.dht_ids.specs.declared.judge.Judged.{Judged}
 use Rattle.dht_ids.specs.declared.peer.Peer.{Peer}
 use Rattle.dhash_model.specs.Execution.{Told, result_of, told_all}
 use Rattle.dhash_model.specs.Execution.IsExecution.{no_route, of_owners}
-use Rattle.dhash_model.specs.GetBlock.{IsGetOfBlock, block_in, is_of_get}
+use Rattle.dhash_model.specs.GetBlock.{IsGetOfBlock, block_in}
 use Rattle.dhash_model.specs.GetHead.{IsGetOfHead}
 use Rattle.dhash_model.specs.Signed.{hss_judged}
 use Rattle.dhash_model.specs.declared.miss.Miss.{Miss}

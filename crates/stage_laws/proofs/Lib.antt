@@ -1,5 +1,5 @@
 mod Told
-pub mod Stage
+pub mod Lines
 pub mod Replies
 pub mod FullRuns
 mod Signing
@@ -8,3 +8,4 @@ pub mod Promised
 pub mod Statuses
 mod Outputs
 mod Given
+pub mod Misled

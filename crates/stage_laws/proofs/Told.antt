@@ -1,6 +1,6 @@
 -- All that open sessions were brought was available or came of whole gets, and turns that were had are on the replay: so each line leaves
 -- it.
-use Rattle.std.proofs.Common.{◌≡◌, ◌≢◌, ◌⊎◌, inl, inr, ⊎_elim, ℕ, Bool, true, false, cond, not, List, [], ◌∷◌, ◌++◌, map, filter, Option, Some, None, refl, sym, ap, ◌∙◌, subst, Contains}
+use Rattle.std.proofs.Common.{◌≡◌, ◌≢◌, ◌⊎◌, inl, inr, ⊎_elim, ℕ, Bool, true, false, cond, not, List, [], ◌∷◌, ◌++◌, map, Option, Some, None, refl, sym, ap, ◌∙◌, subst, Contains}
 use Rattle.std.specs.Prelude.{is_some, option_map, if◌then◌else◌}
 use Rattle.std.specs.List.{AllByRecursion, find}
 use Rattle.std.specs.Str.{bytes_eq}
@@ -14,15 +14,14 @@ use Rattle.dht_ids.specs.declared.ask.Ask.TheVariants as ask
 use Rattle.dht_ids.specs.declared.ask.Heard.{Heard}
 use Rattle.dht_ids.specs.declared.peer.Peer.{Peer}
 use Rattle.dhash_model.specs.Signed.{hss_judged}
-use Rattle.session_model.specs.Asking.{AsksNext}
-use Rattle.session_model.specs.Brought.{Brought, Part, WantedOfRing}
+use Rattle.session_model.specs.Brought.{Part}
 use Rattle.session_model.specs.Executions.{Fails, LacksMemory, Settles}
 use Rattle.session_model.specs.Executions.Begins.{alone as begins_alone, refreshes as begins_refreshing}
 use Rattle.session_model.specs.Executions.Fails.{fails, goes_on}
 use Rattle.session_model.specs.Executions.LacksMemory.{lacks as lacks_any}
 use Rattle.session_model.specs.Executions.Settles.{settles as settles_all}
 use Rattle.session_model.specs.Executions.TakesTurn.{answers as turn_answers, begins_again, gives_up}
-use Rattle.session_model.specs.Sessions.{Cache, Hears, IsGet, Said, Session, Takes, TakesSome, wanted_key}
+use Rattle.session_model.specs.Sessions.{Cache, Hears, Session, Takes, TakesSome, wanted_key}
 use Rattle.session_model.specs.Sessions.Hears.{gets_on, got, puts, puts_on}
 use Rattle.session_model.specs.Sessions.Takes.{cached, posted}
 use Rattle.session_model.specs.Sessions.TakesSome.{more as some_more, none as some_none}
@@ -31,9 +30,9 @@ use Rattle.script_driver.specs.Run.{Goes}
 use Rattle.script_model.specs.Lines.{command_of}
 use Rattle.script_model.specs.declared.command.Command.{Command}
 use Rattle.world_model.specs.Agents.{HssAgent, HssKept, TakesHssTurn, HssTurning}
-use Rattle.world_model.specs.Calls.{BeginsWith, Sending, replied}
+use Rattle.world_model.specs.Calls.{BeginsWith, Sending}
 use Rattle.world_model.specs.Logs.{Played, with_view}
-use Rattle.world_model.specs.Step.{Does, IvyStep}
+use Rattle.world_model.specs.Step.{IvyStep}
 use Rattle.world_model.specs.Steps.{RunsOut, Configuration}
 use Rattle.world_model.specs.GhostState.{HadTurn, empty_ghost_state}
 use Rattle.world_model.specs.World.{NamedSession, World, empty_world}
@@ -41,7 +40,6 @@ use Rattle.world_laws.specs.Effects.{Effect, LaterEffect, Plays}
 use Rattle.world_laws.specs.Effects.Effect.{comes, loses, makes_view, of_nodes, opens, plays, renews, shows, times, touches}
 use Rattle.world_laws.specs.Effects.LaterEffect.{publishes, replies}
 use Rattle.world_laws.specs.Effects.Plays.{calls, ends, steps}
-use Rattle.world_laws.specs.Headline.{TurnHolds}
 use Rattle.world_laws.specs.Invariant.{HasRing, Invariant}
 use Rattle.world_laws.specs.Moves.{Move, Moves}
 use Rattle.world_laws.specs.Moves.Move.{asks, hears, lacks, settles, takes, turns}
@@ -150,7 +148,7 @@ session_in ss name s is = by (find (λ (x : NamedSession). bytes_eq x.name name)
     by (Some x) found e = (x, (found_among (λ (y : NamedSession). y.name) ss name x found).0, cc e)
 
 -- it, in place of the one of its name, or one that was there
-in_place : (ss : List NamedSession) (name : List ℕ) (s : Session) (x : NamedSession) → Contains (map (λ t. if bytes_eq t.name name then record { name = name; session = s } else t) ss) x
+pub in_place : (ss : List NamedSession) (name : List ℕ) (s : Session) (x : NamedSession) → Contains (map (λ t. if bytes_eq t.name name then record { name = name; session = s } else t) ss) x
     → (x.session ≡ s) ⊎ Contains ss x
 in_place ss name s x among =
     let from = from_map (λ (t : NamedSession). if bytes_eq t.name name then record { name = name; session = s } else t) ss x among in

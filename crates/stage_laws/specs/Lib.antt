@@ -7,3 +7,4 @@ pub mod Promise
 pub mod Statuses
 pub mod Outputs
 pub mod Given
+pub mod Misled

@@ -2,11 +2,12 @@
 use Rattle.std.specs.Prelude.{◌≡◌, ℕ, List, ◌<◌, length}
 use Rattle.script_driver.specs.Run.{Outcome, Goes, WithLaw, line_limit}
 use Rattle.world_model.specs.Logs.{Played}
+use Rattle.world_model.specs.Step.{IvyStep}
 use Rattle.world_laws.specs.Headline.{Headline}
 use Rattle.calm_laws.specs.CalmLines.{IsServedWhereCalm}
 use Rattle.stage_laws.specs.Given.{RefreshesAreComplete}
 use Rattle.stage_laws.specs.Outputs.{StatusesAreTold}
-use Rattle.stage_laws.specs.Stage.{KeepsAll, StageStep}
+use Rattle.stage_laws.specs.Stage.{KeepsAll}
 use Rattle.stage_laws.specs.Stands.{Stands}
 
 -- The headline: each turn's reply is the file system's answer on the replay of one causally closed set of verified records.
@@ -27,11 +28,11 @@ pub record Promise (w : Played) (line : List ℕ) (outcome : Outcome Played) : T
 
 -- The step of a line, with the promise.
 abbrev pub PromisedStep : Played → List ℕ → Outcome Played → Type 0
-PromisedStep = WithLaw StageStep Promise
+PromisedStep = WithLaw IvyStep Promise
 
 -- The promise holds of each line in a world that satisfies the invariant.
-abbrev pub StagePromises : Type 0
-StagePromises = (w : Played) (line : List ℕ) (outcome : Outcome Played) → KeepsAll w → StageStep w line outcome → Promise w line outcome
+abbrev pub LinesPromise : Type 0
+LinesPromise = (w : Played) (line : List ℕ) (outcome : Outcome Played) → KeepsAll w → IvyStep w line outcome → Promise w line outcome
 
 -- So the step with its promise preserves the invariant,
 abbrev pub PromisedKeeps : Type 0

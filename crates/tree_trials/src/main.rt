@@ -62,13 +62,15 @@
 //! - `cover BLOCK`: from now on snapshots cover what that root block says, which is given by hexadecimal digits
 //! - `snapshot`: makes a snapshot, and tells how many blocks it has and its root's name
 //! - `load`: loads it block by block, and tells what that came to; of a basis the name of the root of a snapshot made again
+//! - `stored NUMBER`: how many bytes of a file were written and not cut away, in the tree and in what loading the last snapshot
+//!   comes to, where all below the size count as written
 //! - `lack`: loads it without each block in turn, and tells how often that came to what; of bases how many gave the same root
 //! - `spoil`: the same with the first, the middle and the last byte of each block changed in turn
 //! - `forge`: the same, and each such block has its new name, by which those name it that named it before
 //!
 //! A bare line is an answer to an operation. Empty lines and those that begin with `#` say what comes. The roots' names and the
 //! counts of the stored run are those of a program in another language, which spells and reads the blocks by the rules of their
-//! formats.
+//! formats. How many bytes are stored follows from the rules.
 #![tactic(auto)]
 
 mod alike;

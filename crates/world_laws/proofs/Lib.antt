@@ -9,7 +9,7 @@ pub mod Bringing
 pub mod NotRefused
 pub mod SecondTurns
 pub mod DoneSteps
-mod NotMisled
+pub mod NotMisled
 pub mod FirstWorld
 pub mod Alike
 pub mod Noninterference
@@ -51,7 +51,7 @@ pub mod Receiving
 mod GotParts
 pub mod GetsBring
 pub mod Beginning
-mod Opening
+pub mod Opening
 pub mod LineKeys
 pub mod SessionLinesSteps
 pub mod OpenSessions
@@ -128,7 +128,7 @@ pub mod ShownReplies
 pub mod NoKeys
 mod BytesSteps
 mod QuietLines
-mod CallConfigurations
+pub mod CallConfigurations
 pub mod BytesLines
 mod FullConfigurations
 pub mod FullLines

@@ -55,6 +55,11 @@ impl Grown {
         self.count += 1;
     }
 
+    /// The tree.
+    pub fn tree(&self) -> &Tree {
+        &self.tree
+    }
+
     /// A snapshot of it in that view, which covers what the root says. There is none where the root says nothing, and when out of
     /// memory.
     pub fn snapshot(&self, alloc: Global, view: &View, covers: &[u8]) -> Option<Made> {

@@ -133,6 +133,17 @@ fn go_on(line: &mut Line<'_>, view: &View, blocks: &[Block], wrong: Wrong, load:
     ended(line, view, load)
 }
 
+/// The basis that loading the snapshot of that root comes to, where it comes to one.
+pub fn basis(line: &mut Line<'_>, blocks: &[Block], root: Key) -> Option<Basis> {
+    let mut load = Load::start(line.alloc, root).ok()?;
+    read_all(line, blocks, Wrong::Nothing, &mut load);
+    if load.wanted().is_some() {
+        drop(load);
+        return None;
+    }
+    loaded(line.alloc, load).ok()?.ok()
+}
+
 /// What loading the snapshot of that root comes to.
 pub fn load(line: &mut Line<'_>, view: &View, blocks: &[Block], wrong: Wrong, root: Key) -> End {
     match Load::start(line.alloc, root) {

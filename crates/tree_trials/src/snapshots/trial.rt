@@ -4,8 +4,10 @@ use crate::inodes::{OWNER, made_by};
 use crate::lines::Line;
 use crate::operations::{made, operation};
 use crate::snapshots::growing::Grown;
-use crate::snapshots::loading::{End, Wrong, load};
+use crate::snapshots::loading::{End, Wrong, basis, load};
 use crate::snapshots::trying::{Change, Loads};
+use crate::text::Text;
+use fs_tree::Tree;
 use ivy_base::{Bytes, Key, Kind, Memory, Op};
 use snapshot_store::Made;
 use std::alloc::Global;
@@ -54,6 +56,17 @@ fn filled(line: &mut Line<'_>, size: u32, value: u8) -> Bytes {
     Bytes::of(bytes)
 }
 
+/// Tells how many bytes of the inode are stored, where the tree has it.
+fn tell_stored(text: &mut Text, words: &str, tree: &Tree, ino: &Key) {
+    match tree.content(ino) {
+        Some(content) => text.count(words, content.stored()),
+        None => {
+            text.add(words);
+            text.add("none");
+        }
+    }
+}
+
 impl Trial {
     /// The root alone. The error is: out of memory.
     pub fn new(alloc: Global) -> Result<Trial, Memory> {
@@ -81,6 +94,7 @@ impl Trial {
             "many" => self.make_many(line),
             "snapshot" => self.snapshot(line),
             "load" => self.load(line),
+            "stored" => self.stored(line),
             "lack" => self.load_changed(line, Change::Lack),
             "spoil" => self.load_changed(line, Change::Spoil),
             "forge" => self.load_changed(line, Change::Forge),
@@ -169,6 +183,19 @@ impl Trial {
             End::Malformed => line.answer.add(": malformed"),
             End::Basis(root) => line.answer.key(": a basis, root ", &root),
         }
+    }
+
+    /// How many bytes of an inode are stored: in the tree, and in what loading the last snapshot comes to.
+    fn stored(&self, line: &mut Line<'_>) {
+        let ino = line.inode();
+        let Some(made) = &self.made else {
+            return line.fail();
+        };
+        let Some(basis) = basis(line, made.blocks.as_slice(), made.root) else {
+            return line.fail();
+        };
+        tell_stored(&mut line.answer, ": ", self.tree.tree(), &ino);
+        tell_stored(&mut line.answer, ", loaded ", &basis.tree, &ino);
     }
 
     /// What loads of the last snapshot come to, with that done to each block in turn.

@@ -58,3 +58,6 @@ returns-in-Show c = rw (← c.self-in-Show.view_is, c.in-Show.is) (untold_line c
 
 pub returns-in-At : goal.returns-in-At
 returns-in-At c = rw (← c.self-in-At.view_is, c.in-At.is) (function_in c.self-in-At.inside.sessions.items c.self-in-At.inside.parts c.at.new.self (λ w. at_line w c.in-At.sec c.in-At.nsec) c.at.result (at_stays c.in-At.sec c.in-At.nsec) c.at.ensures)
+
+pub returns-in-Snap : goal.returns-in-Snap
+returns-in-Snap c = rw (c.in-Snap.is, ← c.as_slice-in-Snap.ensures) c.snap.ensures

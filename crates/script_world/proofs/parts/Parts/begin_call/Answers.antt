@@ -1,22 +1,15 @@
 use Rattle.std.proofs.Common.{ℕ, List, Some, sym, ap, ◌∙◌, subst}
-use Rattle.std.specs.Prelude.{find}
-use Rattle.std.specs.Str.{bytes_eq}
 use Rattle.script_model.specs.Messages.{Given, message_of}
-use Rattle.script_participants.specs.ParticipantState.{ParticipantState}
 use Rattle.session_steps.specs.Representing.{BeginsIn}
 use Rattle.world_model.specs.Calls.{sending_of}
 use Rattle.script_world.specs.PartsState.{HasParts, PartsState}
 use Rattle.script_world.specs.Running.{BeginsOf}
-use Rattle.script_world.proofs.Sent.{begins, each_found, nobody_there}
+use Rattle.script_world.proofs.Sent.{begins, nobody_there}
 use Rattle.script_world.proofs.parts.Parts.begin_call.Goals as goal
 
 pub returns-in_default : goal.returns-in_default
 returns-in_default c = λ w has.
     nobody_there w c.args.self.now has c.args.log.now c.args.pieces.now (ap (λ (s : PartsState). s.participants) (sym c.self.view_is) ∙ c.self.invariant.nobody c.in_default.is)
-
-pub begin-requires-clause-none : goal.begin-requires-clause-none
-begin-requires-clause-none c = each_found _ (λ (q : ParticipantState). bytes_eq q.name c.args.log.now) c.args.self.now.participants c.in-Some-named.one.now c.requires.nothing_to_load
-    (ap (λ (s : PartsState). find (λ (q : ParticipantState). bytes_eq q.name c.args.log.now) s.participants) (sym c.self.view_is) ∙ sym c.in-Some-named.ensures.found)
 
 pub returns : goal.returns
 returns c = λ w has.

@@ -1,5 +1,5 @@
 use Rattle.stage_laws.proofs.Promised.{each_promises, promised_is_total, promised_keeps, promised_long_lines_stop}
-use Rattle.stage_laws.proofs.laws.stage_lines_are_promised.Goals as goal
+use Rattle.stage_laws.proofs.laws.lines_are_promised.Goals as goal
 
 pub returns-clause-promises : goal.returns-clause-promises
 returns-clause-promises c = each_promises
