@@ -6,6 +6,7 @@ use Rattle.ivy_base.proofs.key.Key.TheSendSync as key
 use Rattle.ivy_io.specs.declared.keeper.Keeper as keeper
 use Rattle.hss_keys.specs.declared.signs.Signs as signs
 use Rattle.version_vectors.proofs.vector.Vector.TheSendSync as vector
+use Rattle.log_fetch.proofs.names.KnownName.TheSendSync as known
 use Rattle.ivy_agent.specs.contracts.agent.Agent as Agent
 use Rattle.ivy_agent.proofs.saving.Kept.TheSendSync as kept
 use Rattle.value_gate.specs.contracts.pass.Pass as Pass
@@ -18,7 +19,7 @@ use Rattle.agent_crossing.proofs.EngineSent.{engine_send}
 
 module _ (K S : RattleType) (k : keeper.Ghosts K.Denot) (s : signs.Ghosts S.Denot) (of_keeper : IsSend K) (of_signer : IsSend S) where
   pub agent_send : IsSend (Agent.the_row K S k s)
-  agent_send = search (sendable, crosses, kept.the_field_send, engine_send, vector.the_send, key.the_field_send) depth 30
+  agent_send = search (sendable, crosses, kept.the_field_send, engine_send, vector.the_send, key.the_field_send, known.the_field_send) depth 30
 
   -- an agent behind a gate
   pub shared_send : IsSend (Shared.the_row K S k s)

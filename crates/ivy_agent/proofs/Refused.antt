@@ -1,6 +1,6 @@
 -- How a turn ends that is refused, and what a turn comes to by what it goes on from.
 use Rattle.std.proofs.Common.{◌≡◌, ℕ, Bool, false, List, Option, Some, None, Ok, Err, Result, sym, ap, ◌∙◌, subst}
-use Rattle.std.specs.Prelude.{IfSome}
+use Rattle.std.specs.Prelude.{IfSome, IsSomeAnd}
 use Rattle.ivy_base.specs.declared.operation.Moment.{Moment}
 use Rattle.log_model.specs.View.{View}
 use Rattle.log_records.specs.Batches.{Batch}
@@ -74,3 +74,9 @@ module _ {K S : Type 0} (signs : Signing S) (IsWhole : S → Type 0) (saves : K 
       → IfSome o (λ view. TakesTurn signs IsWhole saves view brought asked now before (Ok t) after)
   ends_answered brought t after None c = tt
   ends_answered brought t after (Some view) c = c
+
+  -- what is given is pending
+  pub gives_pending : (brought : Refresh) (t : Turned) (after : Holder K S) (Holds : View → Type 0) (o : Option View) → IsSomeAnd o Holds → IfSome o (λ view. ComesTo signs IsWhole saves view brought asked now before (Ok t) after)
+      → t.posts ≡ after.agent.pending
+  gives_pending brought t after Holds None h c = absurd h
+  gives_pending brought t after Holds (Some view) h c = c.gives.posts

@@ -34,12 +34,12 @@ use crate::saving::{Kept, SaveFault, save};
 use crate::settling::keep_unsettled;
 use crate::standing::{fill, let_go, standing_without, without_held};
 use crate::taking::{Refusal, turn_on};
-use dht_ids::{Acks, Posts};
+use dht_ids::{Acks, Post, PostKind, Posts};
 use fs_tree::Tree;
 use hss_keys::Signs;
 use ivy_base::{Key, Memory, Moment, PubKey, Steps};
 use ivy_io::{Keeper, Leave, MemKeeper};
-use log_fetch::{Asked, Refresh, Standing, TurnFault, Turned};
+use log_fetch::{Asked, KnownName, Refresh, Standing, TurnFault, Turned};
 use log_records::{Batch, Record};
 use replay_engine::Engine;
 use std::alloc::Global;
@@ -66,6 +66,8 @@ pub struct Agent<K: Keeper, S: Signs> {
     to_load: Option<Key>,
     /// Whether the keeper has failed.
     has_failed: bool,
+    /// The name of the head that was given last, so that it isn't hashed again once it is acknowledged.
+    head: KnownName,
 }
 
 impl<K: Keeper, S: Signs> Model for Agent<K, S> {
@@ -130,6 +132,7 @@ impl<K: Keeper, S: Signs> Agent<K, S> {
             front: opened.front,
             to_load: None,
             has_failed: false,
+            head: KnownName::none(),
         }
     }
 
@@ -267,7 +270,7 @@ impl<K: Keeper, S: Signs> Agent<K, S> {
     {
         let posts = replace(&mut self.kept.pending, Posts::of(Vec::new(self.alloc)));
         let mut posts = posts.into_vec();
-        keep_unsettled(&mut posts, acks.as_slice());
+        keep_unsettled(&mut posts, acks.as_slice(), &self.head);
         self.kept.pending = Posts::of(posts);
     }
 
@@ -346,9 +349,26 @@ impl<K: Keeper, S: Signs + Drop> Agent<K, S> {
         ensures short { IfOk result (λ turned. length turned.reply ≤ longest_result) }
     {
         match self.take_turn(alloc, refresh, asked, now, steps) {
-            Ok(turned) => Ok(turned),
+            Ok(turned) => Ok(self.with_names(alloc, turned)),
             Err(refusal) => Err(self.refuse(alloc, refusal)),
         }
+    }
+
+    /// What is given, with what is known of the posts' names: each is the key, but of a head, which is hashed here once.
+    fn with_names(&mut self, alloc: Global, mut turned: Turned) -> Turned
+        requires { turned.posts ≡ self.old.agent.pending }
+        ensures given { result ≡ turned }
+        ensures same { self.new ≡ self.old }
+    {
+        let head = match head_among(turned.posts.as_slice()) {
+            Some(post) => {
+                self.head.learn(alloc, post.bytes.as_slice());
+                self.head.copy(alloc)
+            }
+            None => KnownName::none(),
+        };
+        turned.posts.know(head);
+        turned
     }
 
     /// Takes what the refresh brought, where the turn isn't refused, and answers. After an error nothing has changed but the
@@ -448,4 +468,9 @@ impl<K: Keeper, S: Signs + Drop> Agent<K, S> {
         self.has_failed = done.has_failed;
         Ok(done.turned)
     }
+}
+
+/// One of the posts that is a head, where there is one.
+fn head_among(posts: &[Post]) -> Option<&Post> {
+    posts.iter().find(|post| post.kind == PostKind::Head)
 }

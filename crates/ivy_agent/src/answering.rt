@@ -8,7 +8,7 @@ use crate::saving::Kept;
 use dht_ids::Posts;
 use hss_keys::Signs;
 use ivy_base::Memory;
-use log_fetch::Turned;
+use log_fetch::{NamedPosts, Turned};
 use nfs_model::Reply;
 use nfs3_replies::write_reply;
 use std::alloc::Global;
@@ -30,7 +30,7 @@ pub fn give(
 {
     Ok(Turned {
         reply: write_reply(alloc, reply)?,
-        posts: posts.copy(alloc)?,
+        posts: NamedPosts::of(posts.copy(alloc)?),
         front: front.copy(alloc)?,
         applied,
     })

@@ -98,7 +98,10 @@
 //! - A standing copies the view, the vectors and the pending posts, and looks at the owners of the newest held
 //!   records. It hashes nothing: the view has its members' head keys.
 //! - A snapshot copies all that is held once, and compares each of its blocks with each pending one.
-//! - Settling hashes a post only where an acknowledgement has its key, and takes no memory.
+//! - A turn hands out its posts as posts that have their names, so no record's block is hashed again for them. Of
+//!   heads it hashes one that is pending, unless it was the one hashed last.
+//! - Settling hashes a head only where an acknowledgement has its key, and not the one hashed last. It takes no
+//!   memory.
 //! - A call is answered, or planned, once; the tree isn't copied. Each record is written and hashed once: its
 //!   name goes into the next record and its post, and its block into the post.
 #![tactic(auto)]

@@ -73,7 +73,8 @@
 //! - A message is read once, and only the arguments and the reply take memory. A room is two allocations, and
 //!   the result is copied into it once.
 //! - The posts are copied once, since the agent keeps its own until they are settled. A put takes over its
-//!   post's block and hashes it once for the acknowledgement.
+//!   post's block. The acknowledgement has the name that the agent's turn told: its block isn't hashed here. Where
+//!   posts are published alone nothing is told of their names. They are copied once more, and hashed once each.
 //! - An ask owns its bytes. So for each ask of an owner the block is copied once to be kept until it is
 //!   heard, and once each time that it is wanted.
 //! - A put that begins takes the next post in constant time; one of a record that fails passes over those
@@ -85,6 +86,7 @@ mod asking;
 mod hand;
 mod heads;
 mod missing;
+mod named;
 mod order;
 mod publishing;
 mod put;

@@ -6,11 +6,13 @@ ghost use Rattle.session_model.specs.Sessions.{acknowledged};
 ghost use Rattle.ivy_session.specs.Publishing.{publishing_begun, publishing_awaited, puts_left, next_post, held_behind, left_behind, concluded, PublishingIsWanted, PublishingHasHeard, PutGoesOn, HasBegun};
 
 use crate::asking::Asking;
+use crate::named::NamedPost;
 use crate::order::in_order;
 use crate::put::Put;
 use dhash_client::Miss;
-use dht_ids::{Ack, Acks, Answer, Peers, Post, PostKind, Posts, Want};
+use dht_ids::{Ack, Acks, Answer, Peers, PostKind, Want};
 use ivy_base::Memory;
+use log_fetch::NamedPosts;
 use std::alloc::Global;
 use std::collections::VecDeque;
 use std::marker::Model;
@@ -23,7 +25,7 @@ pub struct Publishing {
     replicas: u32,
     entries: Peers,
     put: Option<Asking>,
-    left: VecDeque<Post>,
+    left: VecDeque<NamedPost>,
     acks: Vec<Ack>,
 }
 
@@ -56,7 +58,7 @@ impl Publishing {
         alloc: Global,
         replicas: u32,
         entries: Peers,
-        posts: &Posts,
+        posts: &NamedPosts,
     ) -> Result<Publishing, Memory>
         ensures { IfOk result (λ publishing. publishing ≡ publishing_begun replicas entries posts.now) }
     {
@@ -65,7 +67,7 @@ impl Publishing {
             replicas,
             entries,
             put: None,
-            left: in_order(alloc, posts.as_slice())?,
+            left: in_order(alloc, posts.as_slice(), posts)?,
             acks: Vec::new(alloc),
         })
     }
@@ -118,7 +120,7 @@ impl Publishing {
     }
 
     /// Takes the first post that is left, where no put is on its way.
-    fn next_post(&mut self) -> Option<Post>
+    fn next_post(&mut self) -> Option<NamedPost>
         ensures post { result ≡ next_post self.old.put self.old.left }
         ensures left { self.new ≡ record self.old { left = left_behind self.old.put self.old.left } }
     {
@@ -176,7 +178,7 @@ fn is_acknowledged(came: &Result<bool, Miss>) -> bool
 }
 
 /// Drops the heads of the posts that are left after a put of such a post that wasn't acknowledged, where it was a record.
-fn hold_back(kind: PostKind, left: &mut VecDeque<Post>)
+fn hold_back(kind: PostKind, left: &mut VecDeque<NamedPost>)
     ensures { left.new.items ≡ held_behind kind left.old.items }
 {
     if kind == PostKind::Log {
@@ -185,8 +187,8 @@ fn hold_back(kind: PostKind, left: &mut VecDeque<Post>)
 }
 
 /// Whether the post is a head.
-fn is_head(post: &Post) -> bool
+fn is_head(post: &NamedPost) -> bool
     ensures { result ≡ is_head post.now.kind }
 {
-    post.kind == PostKind::Head
+    post.kind() == PostKind::Head
 }

@@ -3,12 +3,12 @@
 ghost use Rattle.std.specs.Prelude.{◌≡◌, ◌≢◌, ◌<◌, ◌≤◌, None, IfOk};
 ghost use Rattle.dhash_client.specs.Execution.{asks_left};
 ghost use Rattle.dhash_client.specs.Puts.{put_awaited};
-ghost use Rattle.session_model.specs.Sessions.{ack_of};
 ghost use Rattle.ivy_session.specs.Putting.{putting, PuttingIsWanted, PuttingHasHeard};
 
+use crate::named::NamedPost;
 use dhash_client::{Miss, PutPost};
-use dht_ids::{Ack, Answer, Peers, Post, PostKind, Want};
-use ivy_base::{Memory, name_of};
+use dht_ids::{Ack, Answer, Peers, PostKind, Want};
+use ivy_base::Memory;
 use std::alloc::Global;
 use std::marker::Model;
 
@@ -28,31 +28,21 @@ impl Model for Put {
     ghost view = { λ p. record { kind = p.kind; ack = p.ack; put = p.machine } };
 }
 
-/// The acknowledgement of the post.
-fn ack_of(post: &Post) -> Ack
-    ensures { result ≡ ack_of post.now }
-{
-    Ack {
-        key: post.key,
-        name: name_of(post.bytes.as_slice()),
-    }
-}
-
 impl Put {
     /// A put of the post that begins its look-up at these nodes and is content with that many answers. The error is: out
     /// of memory.
     pub(crate) fn start(
         alloc: Global,
-        post: Post,
+        post: NamedPost,
         replicas: u32,
         entries: &Peers,
     ) -> Result<Put, Memory>
         ensures { IfOk result (λ put. put ≡ putting post replicas entries.now) }
     {
         Ok(Put {
-            kind: post.kind,
-            ack: ack_of(&post),
-            machine: PutPost::start(alloc, post, replicas, entries)?,
+            kind: post.kind(),
+            ack: post.ack(),
+            machine: PutPost::start(alloc, post.into_post(), replicas, entries)?,
         })
     }
 

@@ -25,7 +25,7 @@ use block_cache::BlockCache;
 use dhash_client::Miss;
 use dht_ids::{Acks, Answer, Ask, Judge, Peer, Peers, Post, Posts, Want};
 use ivy_base::Memory;
-use log_fetch::{Asked, Notes, Refresh, Standing, TurnFault, Turned};
+use log_fetch::{Asked, NamedPosts, Notes, Refresh, Standing, TurnFault, Turned};
 use std::alloc::Global;
 use std::marker::Model;
 use std::mem;
@@ -133,7 +133,8 @@ impl<J: Judge> Session<J> {
         })
     }
 
-    /// A session that publishes these posts alone, likewise. The error is: out of memory.
+    /// A session that publishes these posts alone, likewise. Their names aren't known, so each is hashed. The error is: out of
+    /// memory.
     pub fn publish(
         alloc: Global,
         judge: J,
@@ -147,7 +148,8 @@ impl<J: Judge> Session<J> {
         ensures turning { IfOk result (λ st. is_turning st.stage ≡ false) }
         ensures whole { IfOk result (λ st. st.is_cut ≡ false) }
     {
-        let publishing = publishing_of(alloc, replicas, &entries, pending)?;
+        let posts = NamedPosts::of(pending.copy(alloc)?);
+        let publishing = publishing_of(alloc, replicas, &entries, &posts)?;
         Ok(Session {
             alloc,
             judge,
@@ -440,7 +442,7 @@ fn publishing_of(
     alloc: Global,
     replicas: u32,
     entries: &Peers,
-    posts: &Posts,
+    posts: &NamedPosts,
 ) -> Result<Publishing, Memory>
     ensures begun { IfOk result (λ publishing. publishing ≡ publishing_begun replicas entries.now posts.now) }
     ensures left { IfOk result (λ publishing. puts_left publishing ≤ most_puts) }

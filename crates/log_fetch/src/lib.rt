@@ -7,8 +7,11 @@
 //!
 //! For the layers above: a [`Standing`], a [`Refresh`] and an [`Asked`] are those of `agent_model` and
 //! `turn_model`. [`Notes`] are what `session_model` notes, and why a refresh failed (`specs/Standings.antt`).
-//! [`Turned`] and [`TurnFault`] are what an agent's turn hands to its session. [`Edges`] always ascend by
-//! log, and none of them knows anything of its own log, so a chain can be tested over each ([`Edges::at`]).
+//! [`Turned`] and [`TurnFault`] are what an agent's turn hands to its session. Its posts are [`NamedPosts`]: where
+//! it is known that they have their names, that is a post's key, and only heads are hashed, and of these none
+//! that is known ([`KnownName`]). [`NamedPosts::name_of`] is exactly a block's name, whatever is known.
+//! [`Edges`] always ascend by log, and none of them knows anything of its own log, so a chain can be tested over
+//! each ([`Edges::at`]).
 //!
 //! A [`Fetch`] is driven.
 //! - [`Fetch::next`] says which node is to be asked, and [`Fetch::heard`] takes its answer. The last answer
@@ -72,6 +75,7 @@ pub mod fetch;
 mod gather;
 pub mod get;
 pub mod log;
+pub mod names;
 pub mod note;
 mod order;
 mod reading;
@@ -85,6 +89,7 @@ pub use asked::Asked;
 pub use edges::{Edge, Edges};
 pub use fetch::{Fetch, Fetched, gets_are_few};
 pub use get::{Came, Get, Progress, Waiting};
+pub use names::{KnownName, NamedPosts};
 pub use note::{Note, Notes};
 pub use order::heads_to_try;
 pub use refresh::Refresh;

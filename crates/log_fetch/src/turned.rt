@@ -1,7 +1,7 @@
 //! What comes of an agent's turn.
 
+use crate::names::NamedPosts;
 use crate::standing::Standing;
-use dht_ids::Posts;
 use ivy_base::Bytes;
 use std::fmt;
 use thiserror::Error;
@@ -12,7 +12,7 @@ pub struct Turned {
     /// The result's bytes, from its status on.
     pub reply: Bytes,
     /// The blocks that are still to be published.
-    pub posts: Posts,
+    pub posts: NamedPosts,
     /// The front of all that is held.
     pub front: Vector,
     /// How many records were applied.

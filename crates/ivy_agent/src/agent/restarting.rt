@@ -19,6 +19,7 @@ use agent_saves::Saved;
 use hss_keys::Signs;
 use ivy_base::{Memory, head_key};
 use ivy_io::{KeepFault, Keeper, MemKeeper};
+use log_fetch::KnownName;
 use replay_engine::Engine;
 use std::alloc::Global;
 use version_vectors::Vector;
@@ -78,6 +79,7 @@ impl<K: Keeper, S: Signs + Drop> Agent<K, S> {
             front: Vector::empty(alloc),
             to_load,
             has_failed: false,
+            head: KnownName::none(),
         }
     }
 
